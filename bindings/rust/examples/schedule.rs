@@ -5,8 +5,8 @@
 //! The tests are those that the profile's default filter matches and that the list does not say to be ignored.
 //! A test starts as soon as its threads are free and its group has room, those of a higher priority first. The
 //! clock is simulated: each test takes one tick. The plan begins with what the profile says for the whole run
-//! and its setup scripts. A line of a test has the tick, the test, its threads and its group; then the variables
-//! that its wrapper sets, and the command that runs it. No other file is opened.
+//! and the setup scripts that the configuration defines. A line of a test has the tick, the test, its threads and
+//! its group; then the variables that its wrapper sets, and the command that runs it. No other file is opened.
 
 use rinqebo::{Command, Config, Error, GroupThreads, Platform, Profile, RunSettings, Schedule, SetupScript, Sources};
 use rinqebo::{MaxFail, Test, Threads, WrapperScript};

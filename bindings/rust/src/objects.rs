@@ -214,10 +214,21 @@ pub struct Warning {
 }
 
 impl Warning {
+    /// The name that nextest-runner has for it.
+    fn upstream(&self) -> Option<&'static str> {
+        match self.code.as_str() {
+            "unknown-key" => Some("UnknownConfigKeys"),
+            "reserved-profile" => Some("UnknownReservedProfiles"),
+            "old-script-table" => Some("DeprecatedScriptConfig"),
+            "empty-script-rule" => Some("EmptyScriptSections"),
+            _ => None,
+        }
+    }
+
     fn finding(&self, path: Option<String>, message: String) -> Finding {
         Finding {
             code: self.code.clone(),
-            upstream: None,
+            upstream: self.upstream().map(str::to_owned),
             level: Level::Warning,
             message,
             path,
@@ -234,7 +245,8 @@ impl Warning {
         }
     }
 
-    /// The findings that a whole run reports for it, without places in the file: one for each of its names.
+    /// The findings that a whole run reports for it, one for each of its names, without places in the file, help
+    /// and notes. The message of an unknown key says only that the key has no effect.
     pub fn findings(&self) -> Vec<Finding> {
         let of_names = |words: fn(&str) -> (String, String)| {
             let findings = self.names.iter().map(|name| words(name));

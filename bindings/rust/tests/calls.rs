@@ -706,7 +706,7 @@ fn a_session_tells_its_warnings() {
     let request = RunRequest { sources: &sources, profile: "ci", mode: Mode::Test, list: &list };
     let document = resolve(&request).unwrap();
     let words = |findings: &[Finding]| -> Vec<_> {
-        findings.iter().map(|found| (found.code.clone(), found.path.clone(), found.level)).collect()
+        findings.iter().map(|found| (found.code.clone(), found.upstream.clone(), found.path.clone(), found.level)).collect()
     };
     assert_eq!(words(&findings), words(&document.findings));
     assert!(self::config().findings().unwrap().is_empty());
