@@ -1,7 +1,7 @@
 //! Which parts of tests the filters of a profile ask for.
 ghost use Rattle.std.specs.List.{list_any};
 ghost use Rattle.std.specs.Option.{option_map_or};
-ghost use Rattle.std.specs.Prelude.{◌≡◌, ◌||◌, false, map, option_map};
+ghost use Rattle.std.specs.Prelude.{◌≡◌, ◌||◌, false, option_map};
 ghost use Rattle.nextest_settings.specs.View.{evaluated_override_view, evaluated_script_rule_view};
 ghost use Rattle.rinqebo_session.specs.Needs.{asked_on, filter_asks, is_missing, lacks, rule_asks, AreNeeds};
 
@@ -61,14 +61,13 @@ fn script_rule_asks(
 }
 
 /// Whether some override asks for a field, for binaries of a platform.
-#[tactic(auto, using(filter_language::proofs::FieldsAsked::any_of_views))]
 fn overrides_ask(
     rules: &[EvaluatedOverride<'_, NextestFilters, TargetSpecs>],
     platform: BuildPlatform,
     field: Field,
 ) -> bool
-    ensures { result
-        ≡ list_any (rule_asks platform field) (map evaluated_override_view rules.now) }
+    ensures { result ≡ list_any
+        (λ rule. rule_asks platform field (evaluated_override_view rule)) rules.now }
 {
     rules
         .iter()
@@ -76,14 +75,13 @@ fn overrides_ask(
 }
 
 /// Whether some script rule asks for a field, for binaries of a platform.
-#[tactic(auto, using(filter_language::proofs::FieldsAsked::any_of_views))]
 fn script_rules_ask(
     rules: &[EvaluatedScriptRule<'_, NextestFilters, TargetSpecs>],
     platform: BuildPlatform,
     field: Field,
 ) -> bool
-    ensures { result
-        ≡ list_any (rule_asks platform field) (map evaluated_script_rule_view rules.now) }
+    ensures { result ≡ list_any
+        (λ rule. rule_asks platform field (evaluated_script_rule_view rule)) rules.now }
 {
     rules
         .iter()
@@ -96,10 +94,10 @@ fn rules_ask(
     platform: BuildPlatform,
     field: Field,
 ) -> bool
-    ensures { result ≡ (list_any (rule_asks platform field)
-        (map evaluated_override_view rules.now.overrides.items)
-        || list_any (rule_asks platform field)
-        (map evaluated_script_rule_view rules.now.script_rules.items)) }
+    ensures { result ≡ (list_any (λ rule. rule_asks platform field (evaluated_override_view rule))
+        rules.now.overrides.items
+        || list_any (λ rule. rule_asks platform field (evaluated_script_rule_view rule))
+        rules.now.script_rules.items) }
 {
     overrides_ask(&rules.overrides, platform, field)
         || script_rules_ask(&rules.script_rules, platform, field)

@@ -20,7 +20,7 @@ returns c =
       sized = λ is. asked.ensures.answers;
       bad_size = (
         λ is. absurd (answer_of_no_size c.args.self.now.outcome c.args.test.now asked.new.settings asked.result
-        asked.ensures.answers is),
+            asked.ensures.answers is),
         λ other. absurd (other (c.are_sized.ensures.0 c.if-are_sized.true)),
       );
       kept = asked.ensures.kept;
