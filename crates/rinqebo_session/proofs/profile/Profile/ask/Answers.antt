@@ -6,7 +6,7 @@ use Rattle.rinqebo_session.proofs.profile.Profile.ask.Goals as goal
 pub returns-then-not-are_sized : goal.returns-then-not-are_sized
 returns-then-not-are_sized c =
     let other : ¬ AreSized c.args.test.now c.args.settings.now =
-    λ is. true≢false (sym (c.are_sized.ensures.1 is) ∙ c.if-are_sized.false) in
+    λ is. true≢false (sym (c.are_sized.ensures.1 is) ∙ c.if-not-are_sized.true) in
     record {
       sized = λ is. absurd (other is);
       bad_size = (λ is. other, λ is. refl);
@@ -21,7 +21,7 @@ returns c =
       bad_size = (
         λ is. absurd (answer_of_no_size c.args.self.now.outcome c.args.test.now asked.new.settings asked.result
             asked.ensures.answers is),
-        λ other. absurd (other (c.are_sized.ensures.0 c.if-are_sized.true)),
+        λ other. absurd (other (c.are_sized.ensures.0 c.if-not-are_sized.false)),
       );
       kept = asked.ensures.kept;
     }
