@@ -7,7 +7,9 @@ ghost use Rattle.rinqebo_report.specs.Documents.{count_data, list_data};
 
 use nextest_elements::{GlobalTimeout, JunitConfig, LeakTimeout, MaxFail, TestThreads};
 use nextest_scripts::SetupScriptSlowTimeout;
-use rinqebo_report::{Scalar, Value as ReportedValue, optional_value_json, texts_json};
+use rinqebo_report::{
+    ReportedDuration, Scalar, Value as ReportedValue, optional_value_json, texts_json,
+};
 use serde_json::{Value, json};
 use std::alloc::{AllocError, Global};
 
@@ -15,8 +17,12 @@ use std::alloc::{AllocError, Global};
 pub(crate) fn duration_json(alloc: Global, nanoseconds: u128) -> Result<Value, AllocError>
     ensures { IfOk result (λ value. view value ≡ duration_data nanoseconds) }
 {
-    let duration = Some(ReportedValue::Scalar(Scalar::Duration(nanoseconds)));
-    optional_value_json(alloc, &duration)
+    let duration = ReportedDuration {
+        nanoseconds,
+        written: None,
+    };
+    let value = Some(ReportedValue::Scalar(Scalar::Duration(duration)));
+    optional_value_json(alloc, &value)
 }
 
 /// How many tests run at a time.
