@@ -248,7 +248,6 @@ impl Opened<'_> {
     }
 
     /// The test, where it is understood and gives each part that a filter asks for.
-    #[tactic(auto, using(crate::proofs::Faults::fault_in))]
     fn known<'t>(&self, test: &RequestedTest<'t>) -> Result<Asked<'t>, TestFault>
         ensures ok { IfOk result (λ asked.
             IsKnownTest self.now test.now (test_view asked.query) asked.mode) }

@@ -1,7 +1,17 @@
 use Rattle.std.proofs.Common.{◌≡◌, ◌∙◌, true, false, subst, sym}
+use Rattle.std.proofs.lemmas.Result.{err_from_is_err_and}
 use Rattle.nextest_engines.specs.Engines.{test_view}
+use Rattle.rinqebo_session.specs.Asking.{IsFaultIn}
 use Rattle.rinqebo_session.specs.Needs.{lacks}
+use Rattle.rinqebo_session.proofs.Faults.{fault_in}
 use Rattle.rinqebo_session.proofs.profile.Opened.known.Goals as goal
+
+pub returns-in_err-asked-clause-err : goal.returns-in_err-asked-clause-err
+returns-in_err-asked-clause-err c =
+    let p = err_from_is_err_and c.from_residual.result c.from_residual.ensures.1 in
+    rw p.1
+    (subst (IsFaultIn c.args.self.now c.args.test.now) (sym p.2)
+    (fault_in c.args.self.now c.args.test.now c.in_err-asked.field-0.0 c.in_err-asked.ensures.err))
 
 pub returns-then-are_missing-clause-err : goal.returns-then-are_missing-clause-err
 returns-then-are_missing-clause-err c =
