@@ -1,5 +1,5 @@
 -- No failure has the number of an answer, or that of a wrong size.
-use Rattle.std.proofs.Common.{◌≡◌, ◌≢◌, ◌∙◌, ℕ, Result, Ok, Err, arith, sym}
+use Rattle.std.proofs.Common.{◌≢◌, ◌∙◌, ℕ, Result, Ok, Err, arith, sym}
 use Rattle.rinqebo_session.specs.Answering.{AnswersBy}
 use Rattle.rinqebo_session.specs.Asking.{fault_status}
 use Rattle.rinqebo_session.specs.Statuses.{open_status}

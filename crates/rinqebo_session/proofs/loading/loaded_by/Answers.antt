@@ -1,5 +1,4 @@
 use Rattle.nextest_rules.specs.KnownView.{features_view}
-use Rattle.nextest_sources.specs.WarningsView.{warnings_view}
 use Rattle.rinqebo_session.proofs.loading.loaded_by.Goals as goal
 
 pub returns-in-Ok-clause-ok : goal.returns-in-Ok-clause-ok
@@ -14,15 +13,3 @@ returns-in-Ok-clause-ok c = record {
   platforms = c.in_ok-platforms.ensures.ok;
   target_directory = c.in_ok-target_directory.ensures;
 }
-
-pub returns-in-Err-clause-err : goal.returns-in-Err-clause-err
-returns-in-Err-clause-err c = (
-  warnings_view c.config_of.new.warnings,
-  record {
-    filters = c.in_ok-filters.filters;
-    are_filters = c.in_ok-filters.ensures.ok;
-    features = features_view c.in_ok-features.features;
-    are_features = c.in_ok-features.ensures;
-    loads = c.in-Err.ensures c.new-warnings.ensures;
-  },
-)

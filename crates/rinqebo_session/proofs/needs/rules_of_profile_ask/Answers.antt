@@ -1,4 +1,4 @@
-use Rattle.std.proofs.Common.{◌≡◌, ◌∙◌, ◌||◌, Bool, ap, map, sym}
+use Rattle.std.proofs.Common.{◌∙◌, ◌||◌, Bool, ap, map, sym}
 use Rattle.std.specs.List.{list_any}
 use Rattle.filter_language.proofs.FieldsAsked.{any_of_views}
 use Rattle.nextest_settings.specs.View.{evaluated_override_view, evaluated_script_rule_view}

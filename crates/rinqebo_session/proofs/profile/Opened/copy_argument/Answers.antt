@@ -8,4 +8,4 @@ returns-in-Ok c =
 pub returns-in-Err : goal.returns-in-Err
 returns-in-Err c =
     let copied = c.copy_nothing.ensures in
-    inr (c.in-Err.fault, c.in-Err.ensures.err, copied.status ∙ c.status.ensures, copied.needed, refl)
+    inr (c.in-Err.fault, c.in-Err.ensures.err, (copied.status ∙ c.status.ensures, copied.needed, refl))
