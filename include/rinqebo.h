@@ -34,7 +34,8 @@ enum rinqebo_status {
     RINQEBO_NO_PROFILE = 7,     // there is no such profile
     RINQEBO_NOT_LOADED = 8,     // the session holds no configuration
     RINQEBO_UNKNOWN_NUMBER = 9, // a number is out of range: a platform, a mode, a kind of text, an index
-    RINQEBO_BAD_SIZE = 10       // the size in a struct is not that of the library's version
+    RINQEBO_BAD_SIZE = 10,      // the size in a struct is not that of the library's version
+    RINQEBO_NOT_KNOWN = 11      // a filter of the profile asks for a part of the test that is empty
 };
 
 // ---- the version
@@ -100,13 +101,16 @@ size_t rinqebo_session_size(void);
 //   {"root": TEXT, "file": FILE, "config-file": FILE or null, "organisation-config-file": FILE or null,
 //    "tools": [FILE with "tool": TEXT, ..],
 //    "features": {"setup-scripts": BOOL, "wrapper-scripts": BOOL}, "metadata": TEXT or null,
-//    "host": {"triple": TEXT, "cfg": TEXT or null}, "target": the same or null}
+//    "host": {"triple": TEXT, "cfg": TEXT or null}, "target": the same or null,
+//    "target-directory": TEXT or null}
 // where a FILE is {"path": TEXT, "outcome": WORD, "text": TEXT or null}: the outcome of reading it, and its text
 //   "text"                           its text
 //   "not-found", "not-a-directory"   null: there is none, or a part of its path is no directory
 //   "failed"                         a message: anything else, as bytes that are not valid UTF-8
 // The repository's file is "config-file", which a user named, and else "file", which alone may be missing. The file
-// of an organisation, "organisation-config-file", lies between those of tools and the repository's.
+// of an organisation, "organisation-config-file", lies between those of tools and the repository's. The features are
+// those of the request and those that the repository's file enables. "target-directory" may be left out: it is the
+// directory to which programs of scripts may be relative.
 // Its status is DONE, REFUSED, NOT_TEXT, MEMORY, NOT_UNDERSTOOD or NO_ENGINES.
 void rinqebo_session_load(const uint8_t *request, size_t request_len, struct rinqebo_session *room);
 void rinqebo_session_free(struct rinqebo_session *session);
@@ -132,10 +136,15 @@ uint32_t rinqebo_profile_status(const struct rinqebo_profile *profile);
 enum rinqebo_text {
     RINQEBO_REASON = 0, // why the profile is not open; of any index
     RINQEBO_GROUP = 1,  // the name of the test group of an index
-    RINQEBO_WRAPPER = 2 // the id of the wrapper script of an index
+    RINQEBO_WRAPPER = 2, // the id of the wrapper script of an index
+    RINQEBO_OBJECTS = 3  // what a runner needs beside the settings of tests, in JSON; of any index
 };
 
 // Writes a text. DONE, SMALL, or UNKNOWN_NUMBER where there is none of that kind and index.
+// RINQEBO_OBJECTS is an object with the members "run", "groups", "setup-scripts", "wrappers" and "findings": what the
+// profile says for a whole run, the test groups in the order of RINQEBO_GROUP, the setup scripts in the order in which
+// they run, the wrapper scripts in the order of RINQEBO_WRAPPER, and the warnings of the load. docs/LIBRARY.md lists
+// their members.
 uint32_t rinqebo_profile_text(const struct rinqebo_profile *profile, uint32_t kind, size_t index, uint8_t *out,
                               size_t out_len, size_t *needed);
 
@@ -146,7 +155,9 @@ struct rinqebo_bytes {
     size_t length;
 };
 
-// A test, and what is known of its binary, each as nextest lists it. What no filter tests may be empty.
+// A test, and what is known of its binary, each as nextest lists it. A part that is empty is not given: where a filter
+// of the profile asks for it, a query returns NOT_KNOWN. The filters are those of the rules whose platforms hold for the
+// test's platform, and the default filter.
 struct rinqebo_test {
     size_t size;                  // sizeof(struct rinqebo_test)
     struct rinqebo_bytes package; // the id of the binary's package
@@ -217,10 +228,15 @@ struct rinqebo_settings {
 };
 
 // Writes the settings that a profile gives to a test. It takes no memory. BAD_SIZE where the size in one of the two
-// structs is not that of the library's version; else DONE, NOT_TEXT, UNKNOWN_NUMBER, or the status of a profile that
-// is not open. But for DONE the settings stay as they were.
+// structs is not that of the library's version; else DONE, NOT_TEXT, UNKNOWN_NUMBER, NOT_KNOWN, or the status of a
+// profile that is not open. But for DONE the settings stay as they were.
 uint32_t rinqebo_profile_ask(const struct rinqebo_profile *profile, const struct rinqebo_test *test,
                              struct rinqebo_settings *settings);
+
+// Writes the argument of an index that a profile gives to a test, of which settings.run_extra_args is the number. It
+// takes no memory. DONE, SMALL, UNKNOWN_NUMBER where there is none of that index, or a status of rinqebo_profile_ask.
+uint32_t rinqebo_profile_argument(const struct rinqebo_profile *profile, const struct rinqebo_test *test, size_t index,
+                                  uint8_t *out, size_t out_len, size_t *needed);
 
 #ifdef __cplusplus
 }

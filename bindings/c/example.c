@@ -1,7 +1,7 @@
-// Answers the request of a file, asks for the settings of some tests, or checks the calls by themselves.
+// Runs the request of a file, prints the settings of some tests, or checks the calls by themselves.
 //
 //   example                          checks each call, and exits with the number of the first that fails
-//   example REQUEST                  prints what a whole run tells, and exits with its status
+//   example REQUEST                  prints the output of a whole run, and exits with its status
 //   example REQUEST PROFILE BINARY TEST..   prints the settings of tests of a binary
 #include "rinqebo.h"
 #include <inttypes.h>
@@ -67,7 +67,8 @@ static int has_text(const struct rinqebo_profile *profile, uint32_t kind, size_t
 static const char *REQUEST =
     "{\"root\": \"/w\", \"file\": {\"path\": \"/w/.config/nextest.toml\", \"outcome\": \"text\", \"text\":"
     " \"[profile.ci]\\nretries = 1\\n[test-groups.db]\\nmax-threads = 2\\n[[profile.ci.overrides]]\\n"
-    "filter = 'test(/^db::/)'\\ntest-group = 'db'\\nthreads-required = 4\\nslow-timeout = '20s'\\npriority = 50\\n\"},"
+    "filter = 'test(/^db::/)'\\ntest-group = 'db'\\nthreads-required = 4\\nslow-timeout = '20s'\\npriority = 50\\n"
+    "run-extra-args = ['-q', '']\\n\"},"
     " \"config-file\": null, \"organisation-config-file\": null, \"tools\": [],"
     " \"features\": {\"setup-scripts\": false, \"wrapper-scripts\": false}, \"metadata\": null,"
     " \"host\": {\"triple\": \"x86_64-unknown-linux-gnu\", \"cfg\": null}, \"target\": null}";
@@ -80,7 +81,7 @@ static int check_settings(const struct rinqebo_profile *profile) {
     if (settings.retries.backoff != 0 || settings.retries.count != 1) return 12;
     if (settings.slow_timeout.period.low != UINT64_C(20000000000) || settings.slow_timeout.period.high != 0) return 13;
     if (settings.test_group != 0 || settings.group_threads.kind != 0 || settings.group_threads.count != 2) return 14;
-    if (settings.run_wrapper != RINQEBO_NO_NAME || settings.run_extra_args != 0) return 15;
+    if (settings.run_wrapper != RINQEBO_NO_NAME || settings.run_extra_args != 2) return 15;
     if (settings.in_default_filter != 1) return 16;
     if (!has_text(profile, RINQEBO_GROUP, settings.test_group, "db")) return 17;
     if (!has_text(profile, RINQEBO_REASON, 0, "")) return 18;
@@ -88,7 +89,7 @@ static int check_settings(const struct rinqebo_profile *profile) {
     if (settings.test_group != RINQEBO_NO_NAME || settings.group_threads.kind != 2 || settings.priority != 0) return 19;
     if (ask(profile, test_of("api", "\xff"), &settings) != RINQEBO_NOT_TEXT) return 20;
     struct rinqebo_test test = test_of("", "");
-    if (ask(profile, test, &settings) != RINQEBO_DONE) return 21;
+    if (ask(profile, test, &settings) != RINQEBO_NOT_KNOWN) return 21;
     test.mode = 2;
     if (ask(profile, test, &settings) != RINQEBO_UNKNOWN_NUMBER) return 22;
     return 0;
@@ -131,11 +132,38 @@ static int check_buffer(const struct rinqebo_profile *profile) {
     if (rinqebo_profile_text(profile, RINQEBO_GROUP, 0, out, 0, &needed) != RINQEBO_SMALL || needed != 2) return 32;
     if (rinqebo_profile_text(profile, RINQEBO_GROUP, 0, out, needed, &needed) != RINQEBO_DONE || out[0] != 'd') return 33;
     if (rinqebo_profile_text(profile, RINQEBO_GROUP, 1, out, 2, &needed) != RINQEBO_UNKNOWN_NUMBER) return 34;
-    if (rinqebo_profile_text(profile, 3, 0, out, 2, &needed) != RINQEBO_UNKNOWN_NUMBER || needed != 0) return 35;
+    if (rinqebo_profile_text(profile, 4, 0, out, 2, &needed) != RINQEBO_UNKNOWN_NUMBER || needed != 0) return 35;
     return 0;
 }
 
-// A request that is refused, and what may still be asked. 0, or the number of the check that fails.
+// Whether an argument of a test ends so, with this text.
+static int argument_is(const struct rinqebo_profile *profile, struct rinqebo_test test, size_t index, uint32_t wanted,
+                       const char *text) {
+    uint8_t out[8];
+    size_t needed = 7;
+    uint32_t status = rinqebo_profile_argument(profile, &test, index, out, sizeof out, &needed);
+    return status == wanted && needed == strlen(text) && memcmp(out, text, needed) == 0;
+}
+
+// The arguments of tests, and the objects of the profile. 0, or the number of the first check that fails.
+static int check_objects(const struct rinqebo_profile *profile) {
+    struct rinqebo_test test = test_of("api", "db::reads"), quick = test_of("api", "quick");
+    if (!argument_is(profile, test, 0, RINQEBO_DONE, "-q") || !argument_is(profile, test, 1, RINQEBO_DONE, "")) return 36;
+    if (!argument_is(profile, test, 2, RINQEBO_UNKNOWN_NUMBER, "")) return 37;
+    if (!argument_is(profile, quick, 0, RINQEBO_UNKNOWN_NUMBER, "")) return 37;
+    if (!argument_is(profile, test_of("", ""), 0, RINQEBO_NOT_KNOWN, "")) return 38;
+    test.size -= 1;
+    if (!argument_is(profile, test, 0, RINQEBO_BAD_SIZE, "")) return 38;
+    static const char *groups = "\"groups\":[{\"max-threads\":2,\"name\":\"db\"}],\"run\":{";
+    uint8_t out[4096];
+    size_t needed = 0, length = strlen(groups);
+    if (rinqebo_profile_text(profile, RINQEBO_OBJECTS, 0, out, sizeof out, &needed) != RINQEBO_DONE) return 39;
+    static const char *findings = "{\"findings\":[],";
+    if (needed <= strlen(findings) + length || memcmp(out, findings, strlen(findings)) != 0) return 39;
+    return memcmp(out + strlen(findings), groups, length) == 0 && out[needed - 1] == '}' ? 0 : 39;
+}
+
+// A request that is refused, and the calls that may still follow. 0, or the number of the check that fails.
 static int check_refused(const char *request, uint32_t status) {
     struct rinqebo_session *session = load(request);
     if (session == NULL) return 40;
@@ -154,7 +182,7 @@ static int check_refused(const char *request, uint32_t status) {
     return 0;
 }
 
-// What is told of a run, in a buffer that is made as large as it has to be; NULL where there is no memory for it.
+// The output of a run, in a buffer that is made as large as it has to be; NULL where there is no memory for it.
 static uint8_t *run(const char *request, size_t length, uint32_t *status, size_t *needed) {
     size_t room = length + 1;
     uint8_t *answer = malloc(room);
@@ -171,7 +199,7 @@ static uint8_t *run(const char *request, size_t length, uint32_t *status, size_t
 // What came of reading a file: OUTCOME, with TEXT, which is JSON.
 #define READ(PATH, OUTCOME, TEXT) "{\"path\": \"" PATH "\", \"outcome\": \"" OUTCOME "\", \"text\": " TEXT "}"
 
-// A request for a run over files, each as READ has it, where PROFILE is asked of the tests of LIST.
+// A request for a run over files, each as READ has it, for PROFILE and the tests of LIST.
 #define RUN_OVER(FILE, CONFIG_FILE, PROFILE, LIST) \
     "{\"root\": \"/w\", \"file\": " FILE ", \"config-file\": " CONFIG_FILE "," \
     " \"organisation-config-file\": null, \"tools\": []," \
@@ -210,7 +238,7 @@ static int is_in_pieces(const char *request, size_t size, uint32_t status, const
     return is;
 }
 
-// Whether a run ends with a status, and tells this text among others; and by pieces it tells the same.
+// Whether a run ends with a status, and its output has this text; and by pieces the output is the same.
 static int ends_with(const char *request, uint32_t wanted, const char *text) {
     size_t needed = 0, length = strlen(text);
     uint32_t status = 0;
@@ -272,6 +300,7 @@ static int check(void) {
     failed = check_settings(profile);
     if (failed == 0) failed = check_sizes(profile, RINQEBO_DONE);
     if (failed == 0) failed = check_buffer(profile);
+    if (failed == 0) failed = check_objects(profile);
     end_profile(profile);
     if (failed != 0) return failed;
     profile = open_profile(session, "cj");
@@ -315,7 +344,7 @@ static void print_settings(const struct rinqebo_profile *profile, const char *bi
            settings.retries.count, (int)length, (const char *)group);
 }
 
-// Prints what is told of a run, and answers its status, or 99 where there is no memory for it.
+// Prints the output of a run, and returns its status, or 99 where there is no memory for it.
 static int print_run(const char *request) {
     size_t needed = 0;
     uint32_t status = 0;

@@ -315,6 +315,7 @@ static void check_text(const struct rinqebo_profile *profile, uint32_t kind, siz
     out[needed] = 'x';
     CHECK(rinqebo_profile_text(profile, kind, index, out, needed, &again) == RINQEBO_DONE);
     CHECK(again == needed && out[needed] == 'x');
+    if (kind == RINQEBO_OBJECTS) CHECK(needed > 2 && out[0] == '{' && out[needed - 1] == '}');
     free(out);
 }
 
@@ -324,7 +325,7 @@ static struct rinqebo_bytes part(void) {
     return made;
 }
 
-// The settings of a test.
+// The settings of a test, and its arguments: as many as the settings say.
 static void check_test(const struct rinqebo_profile *profile, uint32_t opened) {
     struct rinqebo_test test = {.size = sizeof test};
     test.package = part();
@@ -348,11 +349,22 @@ static void check_test(const struct rinqebo_profile *profile, uint32_t opened) {
     if (status != RINQEBO_DONE) {
         CHECK(memcmp(&before, &settings, sizeof before) == 0);
         CHECK(status == RINQEBO_BAD_SIZE || status == RINQEBO_NOT_TEXT || status == RINQEBO_UNKNOWN_NUMBER ||
-              status == opened);
+              status == RINQEBO_NOT_KNOWN || status == opened);
     } else {
         CHECK(opened == RINQEBO_DONE && settings.size == sizeof settings && settings.in_default_filter <= 1);
         if (settings.test_group != RINQEBO_NO_NAME) check_text(profile, RINQEBO_GROUP, settings.test_group);
         if (settings.run_wrapper != RINQEBO_NO_NAME) check_text(profile, RINQEBO_WRAPPER, settings.run_wrapper);
+    }
+    for (size_t index = 0; index < 4; index++) {
+        uint8_t out[64] = {'x'};
+        size_t needed = 7;
+        uint32_t got = rinqebo_profile_argument(profile, &test, index, out, sizeof out, &needed);
+        if (status == RINQEBO_DONE) {
+            CHECK(got == (index < settings.run_extra_args ? RINQEBO_DONE : RINQEBO_UNKNOWN_NUMBER));
+        } else if (test.size == sizeof test && status != RINQEBO_BAD_SIZE) {
+            CHECK(got == status);
+        }
+        if (got != RINQEBO_DONE && got != RINQEBO_SMALL) CHECK(needed == 0 && out[0] == 'x');
     }
 }
 

@@ -1,5 +1,5 @@
 // Threads, each with sessions of its own: loads a request again and again, asks for the settings of a test and reads the
-// name of a group, and compares them with those of the first load.
+// objects of a profile, and compares them with those of the first load.
 //
 //   threads THREADS LOADS REQUEST      exits with 0 if each load gives the same
 #include "rinqebo.h"
@@ -10,7 +10,7 @@
 
 #define ROOM (1 << 16)
 
-// What a load gives: the settings of a test, and the name of a group.
+// What a load gives: the settings of a test, its arguments and the objects of the profile.
 struct given {
     struct rinqebo_settings settings;
     size_t length;
@@ -30,7 +30,15 @@ static int ask(const struct rinqebo_profile *profile, struct given *given) {
                                 bytes_of("db::reads"), 1, 0};
     given->settings.size = sizeof given->settings;
     if (rinqebo_profile_ask(profile, &test, &given->settings) != RINQEBO_DONE) return 0;
-    return rinqebo_profile_text(profile, RINQEBO_GROUP, 0, given->text, ROOM, &given->length) == RINQEBO_DONE;
+    size_t needed = 0;
+    if (rinqebo_profile_text(profile, RINQEBO_OBJECTS, 0, given->text, ROOM, &needed) != RINQEBO_DONE) return 0;
+    given->length = needed;
+    for (size_t index = 0; index < given->settings.run_extra_args; index++) {
+        uint8_t *out = given->text + given->length;
+        if (rinqebo_profile_argument(profile, &test, index, out, ROOM - given->length, &needed) != RINQEBO_DONE) return 0;
+        given->length += needed;
+    }
+    return 1;
 }
 
 // One load. 0 where a call fails.

@@ -4,7 +4,7 @@ use crate::{Error, Mode, Platform};
 use serde::{Deserialize, Serialize};
 use std::collections::BTreeMap;
 
-/// What a run is answered: all settings of each test, and the scripts of the list.
+/// What a run returns: all settings of each test, and the scripts of the list.
 #[derive(Clone, Debug, PartialEq, Serialize, Deserialize)]
 #[serde(rename_all = "kebab-case")]
 #[non_exhaustive]
@@ -77,8 +77,22 @@ pub struct TestRow {
     pub name: String,
     /// For which machine its binary is built.
     pub platform: Platform,
+    /// Whether it runs.
+    pub runs: Runs,
     /// Its settings, by their keys in files.
     pub settings: BTreeMap<String, Setting>,
+}
+
+/// Whether a test runs: whether the default filter that counts matches it, and no list says that it is ignored.
+#[derive(Clone, Debug, PartialEq, Eq, Serialize, Deserialize)]
+#[non_exhaustive]
+pub struct Runs {
+    pub value: bool,
+    /// Whether the list says that the test is ignored.
+    #[serde(default, skip_serializing_if = "std::ops::Not::not")]
+    pub ignored: bool,
+    /// Where the default filter is written.
+    pub origins: Vec<Origin>,
 }
 
 /// A setting of a test.
@@ -104,7 +118,12 @@ pub struct Origin {
     pub source: Option<usize>,
     /// The first and the last line.
     pub lines: Option<(usize, usize)>,
+    /// The lines and columns at which it starts and ends.
+    pub range: Option<Range>,
 }
+
+/// The line and the column, both from 1, at which something starts, and those behind its end.
+pub type Range = ((usize, usize), (usize, usize));
 
 /// A kind of origin.
 #[derive(Clone, Copy, Debug, PartialEq, Eq, Serialize, Deserialize)]
@@ -122,15 +141,23 @@ pub enum OriginKind {
 #[derive(Clone, Debug, PartialEq, Eq, Serialize, Deserialize)]
 #[non_exhaustive]
 pub struct Finding {
+    /// Its code, as `unknown-key`.
     pub code: String,
+    /// The name that nextest-runner has for it.
+    pub upstream: Option<String>,
     pub level: Level,
     pub message: String,
     /// The keys that lead to it, with dots between them.
     pub path: Option<String>,
+    /// The path of the file, in a finding of a configuration that is loaded.
+    #[serde(default, skip_serializing_if = "Option::is_none")]
+    pub file: Option<String>,
     /// The place of the source among those of the document, from 0.
     pub source: Option<usize>,
     /// The first and the last line.
     pub lines: Option<(usize, usize)>,
+    /// The lines and columns at which it starts and ends.
+    pub range: Option<Range>,
     pub column: Option<usize>,
     /// The filter or the platform that it is about, and the bytes of it that it marks.
     pub expression: Option<String>,
@@ -139,6 +166,8 @@ pub struct Finding {
     pub expected: Option<String>,
     /// What to do.
     pub help: Option<String>,
+    /// What else helps to see what is wrong.
+    pub notes: Vec<String>,
 }
 
 /// How bad a finding is.
@@ -149,23 +178,23 @@ pub enum Level {
     Warning,
 }
 
-/// Why there is no answer.
+/// Why a call returns nothing.
 #[derive(Clone, Debug, PartialEq, Eq, Serialize)]
 #[non_exhaustive]
 pub struct Refusal {
-    /// The words of it.
+    /// Why, in words.
     pub reason: String,
-    /// What is wrong with the files, one by one. A configuration that is loaded tells its words alone.
+    /// What is wrong with the files, one by one. A configuration that is loaded has the words alone.
     pub findings: Vec<Finding>,
 }
 
 impl Refusal {
-    /// A refusal that is told in words.
+    /// A refusal in words.
     pub(crate) fn of(reason: String) -> Refusal {
         Refusal { reason, findings: Vec::new() }
     }
 
-    /// The refusal that a document tells.
+    /// The refusal that a document has.
     pub(crate) fn read(document: &[u8]) -> Result<Refusal, Error> {
         #[derive(Deserialize)]
         struct Findings {

@@ -19,6 +19,8 @@ pub enum Error {
     Memory,
     /// The request is not valid UTF-8.
     NotText,
+    /// A filter of the profile asks for a part of the test that is empty.
+    NotKnown,
     /// The library that is linked is of this version, and not of [`crate::VERSION`].
     Version(String),
     /// What the library returned is not understood.
@@ -42,6 +44,7 @@ impl Error {
             5 => Error::NotUnderstood(reason),
             6 => Error::NoEngines(reason),
             7 => Error::NoProfile(Refusal::of(reason)),
+            11 => Error::NotKnown,
             other => Error::Unknown(other),
         }
     }
@@ -56,6 +59,7 @@ impl fmt::Display for Error {
             Error::NoProfile(refusal) => f.write_str(&refusal.reason),
             Error::NotText => f.write_str("the request is not valid UTF-8"),
             Error::Memory => f.write_str("out of memory"),
+            Error::NotKnown => f.write_str("a filter of the profile asks for a part of the test that is empty"),
             Error::Version(version) => {
                 write!(f, "the library is of version {version}, and not of {}", crate::VERSION)
             }

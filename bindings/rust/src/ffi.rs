@@ -117,5 +117,13 @@ extern "C" {
         needed: *mut usize,
     ) -> u32;
     pub fn rinqebo_profile_ask(profile: *const u8, test: *const Test, settings: *mut Settings) -> u32;
+    pub fn rinqebo_profile_argument(
+        profile: *const u8,
+        test: *const Test,
+        index: usize,
+        out: *mut u8,
+        out_len: usize,
+        needed: *mut usize,
+    ) -> u32;
     pub fn rinqebo_profile_free(profile: *mut u8);
 }

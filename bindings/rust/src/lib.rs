@@ -1,5 +1,5 @@
 //! Safe types over Rinqebo's proved library: one call for a whole run, and nextest configurations that
-//! are loaded once and asked often.
+//! are loaded once and queried often.
 //!
 //! ```no_run
 //! # fn main() -> Result<(), rinqebo::Error> {
@@ -23,16 +23,23 @@
 mod document;
 mod error;
 mod ffi;
+mod objects;
 mod room;
 mod run;
 mod settings;
 mod sources;
+mod spelled;
 mod version;
 
 pub use document::{
-    Document, Finding, Level, ListWrapper, Origin, OriginKind, Refusal, Setting, Source, SourceKind, TestRow,
+    Document, Finding, Level, ListWrapper, Origin, OriginKind, Range, Refusal, Runs, Setting, Source, SourceKind,
+    TestRow,
 };
 pub use error::Error;
+pub use objects::{
+    Command, FinalStatusLevel, GlobalTimeout, JunitFile, MaxFail, Objects, RelativeTo, RunSettings, ScriptReport,
+    ScriptTimeout, SetupScript, StatusLevel, TargetRunner, TestThreads, Warning, WrapperScript,
+};
 use room::Room;
 pub use run::{resolve, resolve_json, RunRequest};
 use serde::{Deserialize, Serialize};
@@ -40,7 +47,6 @@ pub use settings::{
     Backoff, Display, Group, GroupThreads, LeakTimeout, Outcome, Report, Retries, SlowTimeout, TestSettings, Threads,
 };
 pub use sources::{Features, File, Machine, ReadOutcome, Sources, ToolFile};
-use std::marker::PhantomData;
 use std::mem::size_of;
 use version::check_version;
 pub use version::{version, version_number, VERSION, VERSION_NUMBER};
@@ -50,6 +56,9 @@ const SMALL: u32 = 2;
 const REASON: u32 = 0;
 const GROUP: u32 = 1;
 const WRAPPER: u32 = 2;
+const OBJECTS: u32 = 3;
+const UNKNOWN_NUMBER: u32 = 9;
+const DEFAULT: &str = "default";
 const NO_NAME: usize = usize::MAX;
 
 /// For which machine a binary is built.
@@ -70,7 +79,7 @@ pub enum Mode {
 
 /// A test, and what is known of its binary, each as nextest lists it.
 ///
-/// Filters may ask for each part, so that each is asked for:
+/// Filters may ask for each part, so that each has to be given:
 ///
 /// ```
 /// let test = rinqebo::Test::named("db::reads").in_binary("api").of_target("lib", "api").of_package("api 0.1.0");
@@ -86,14 +95,14 @@ pub struct Test<'a> {
     mode: Mode,
 }
 
-/// The name of a test, whose binary is still asked for.
+/// The name of a test, whose binary is still to be given.
 #[derive(Clone, Copy, Debug)]
 #[must_use]
 pub struct NamedTest<'a> {
     name: &'a str,
 }
 
-/// A test of a binary, whose target is still asked for.
+/// A test of a binary, whose target is still to be given.
 #[derive(Clone, Copy, Debug)]
 #[must_use]
 pub struct BinaryTest<'a> {
@@ -101,7 +110,7 @@ pub struct BinaryTest<'a> {
     binary: &'a str,
 }
 
-/// A test of a binary's target, whose package is still asked for.
+/// A test of a binary's target, whose package is still to be given.
 #[derive(Clone, Copy, Debug)]
 #[must_use]
 pub struct TargetTest<'a> {
@@ -252,13 +261,33 @@ impl Config {
         unsafe { ffi::rinqebo_profile_open(self.room.as_ptr(), name.as_ptr(), name.len(), room.as_ptr()) };
         let profile = Profile {
             room,
-            config: PhantomData,
+            config: self,
         };
         // SAFETY: the room holds a profile, here and until `drop`.
         match unsafe { ffi::rinqebo_profile_status(profile.room.as_ptr()) } {
             DONE => Ok(profile),
             status => Err(Error::of(status, profile.text(REASON, 0).unwrap_or_default())),
         }
+    }
+
+    /// The objects of the profile that every configuration has.
+    fn objects(&self) -> Result<Objects, Error> {
+        self.profile("default")?.objects()
+    }
+
+    /// The names of its profiles.
+    pub fn profiles(&self) -> Result<Vec<String>, Error> {
+        Ok(self.objects()?.run.profiles)
+    }
+
+    /// The groups that it defines, by name.
+    pub fn groups(&self) -> Result<Vec<Group>, Error> {
+        Ok(self.objects()?.groups)
+    }
+
+    /// The warnings of its load, in their order. They have no places in the files.
+    pub fn findings(&self) -> Result<Vec<Finding>, Error> {
+        Ok(self.objects()?.warnings.iter().flat_map(Warning::findings).collect())
     }
 }
 
@@ -272,7 +301,7 @@ impl Drop for Config {
 /// A profile of a configuration.
 pub struct Profile<'c> {
     room: Room,
-    config: PhantomData<&'c Config>,
+    config: &'c Config,
 }
 
 impl Profile<'_> {
@@ -289,6 +318,55 @@ impl Profile<'_> {
             return None;
         }
         self.text(kind, index)
+    }
+
+    /// What a runner needs of it beside the settings of tests.
+    pub fn objects(&self) -> Result<Objects, Error> {
+        let text = self.text(OBJECTS, 0).ok_or(Error::Unknown(UNKNOWN_NUMBER))?;
+        serde_json::from_str(&text).map_err(Error::unreadable)
+    }
+
+    /// What it says for a whole run.
+    pub fn run(&self) -> Result<RunSettings, Error> {
+        Ok(self.objects()?.run)
+    }
+
+    /// The setup scripts that its configuration defines, in the order in which they run.
+    pub fn setup_scripts(&self) -> Result<Vec<SetupScript>, Error> {
+        Ok(self.objects()?.setup_scripts)
+    }
+
+    /// The wrapper scripts that its configuration defines.
+    pub fn wrappers(&self) -> Result<Vec<WrapperScript>, Error> {
+        Ok(self.objects()?.wrappers)
+    }
+
+    /// The profiles that count, the nearest first: itself, those that it inherits from, and `default`.
+    pub fn chain(&self) -> Result<Vec<String>, Error> {
+        let mut run = self.run()?;
+        let mut chain = Vec::new();
+        while run.profile != DEFAULT {
+            let parent = run.inherits.unwrap_or_else(|| DEFAULT.to_owned());
+            chain.push(run.profile);
+            run = self.config.profile(&parent)?.run()?;
+        }
+        chain.push(run.profile);
+        Ok(chain)
+    }
+
+    /// The arguments that a test is given: so many.
+    fn arguments(&self, test: &Test<'_>, count: usize) -> Result<Vec<String>, Error> {
+        let test = test.numbers();
+        let argument = |index| {
+            // SAFETY: the room holds a profile, whose session is borrowed; the test, its texts, the buffer and the
+            // number are borrowed for the call.
+            copied(|out, needed| unsafe {
+                let room = self.room.as_ptr();
+                ffi::rinqebo_profile_argument(room, &test, index, out.as_mut_ptr(), out.len(), needed)
+            })
+            .map_err(|status| Error::of(status, String::new()))
+        };
+        (0..count).map(argument).collect()
     }
 
     fn numbers(&self, test: &Test<'_>) -> Result<ffi::Settings, Error> {
@@ -310,6 +388,7 @@ impl Profile<'_> {
         let numbers = self.numbers(test)?;
         Ok(Schedule {
             priority: numbers.priority,
+            in_default_filter: numbers.in_default_filter == 1,
             threads_required: settings::threads(numbers.threads_required),
             group: (numbers.test_group != NO_NAME)
                 .then(|| (numbers.test_group, settings::group_threads(numbers.group_threads))),
@@ -332,7 +411,7 @@ impl Profile<'_> {
             priority: numbers.priority,
             threads_required: settings::threads(numbers.threads_required),
             run_wrapper: self.name(WRAPPER, numbers.run_wrapper),
-            run_extra_args: numbers.run_extra_args,
+            run_extra_args: self.arguments(test, numbers.run_extra_args)?,
             retries: settings::retries(numbers.retries),
             flaky_result: if numbers.flaky_result == 0 { Outcome::Pass } else { Outcome::Fail },
             slow_timeout: settings::slow_timeout(numbers.slow_timeout),
@@ -365,6 +444,8 @@ impl Drop for Profile<'_> {
 pub struct Schedule {
     /// A higher one runs earlier.
     pub priority: i32,
+    /// Whether the profile's default filter matches the test.
+    pub in_default_filter: bool,
     pub threads_required: Threads,
     /// The index of the group and how many of its tests run at a time, unless it is the global one.
     pub group: Option<(usize, GroupThreads)>,

@@ -6,7 +6,7 @@ use crate::version::check_version;
 use crate::{ffi, json_of, Error, Mode, Sources, DONE};
 use serde::Serialize;
 
-/// What a run is asked: all settings that a profile gives to each test of a list.
+/// The request of a run: all settings that a profile gives to each test of a list.
 #[derive(Clone, Copy, Debug, Serialize)]
 pub struct RunRequest<'a> {
     #[serde(flatten)]
@@ -18,12 +18,12 @@ pub struct RunRequest<'a> {
     pub list: &'a str,
 }
 
-/// Answers a request.
+/// Resolves a request.
 pub fn resolve(request: &RunRequest<'_>) -> Result<Document, Error> {
     resolve_json(&json_of(request)?)
 }
 
-/// Answers a request in JSON.
+/// Resolves a request in JSON.
 pub fn resolve_json(request: &[u8]) -> Result<Document, Error> {
     check_version()?;
     let run = Run::new(request)?;
@@ -35,7 +35,7 @@ pub fn resolve_json(request: &[u8]) -> Result<Document, Error> {
     }
 }
 
-/// A run of the library, which keeps what it tells.
+/// A run of the library, which keeps its output.
 struct Run {
     room: Room,
 }
@@ -55,7 +55,7 @@ impl Run {
         unsafe { ffi::rinqebo_run_status(self.room.as_ptr()) }
     }
 
-    /// What the run tells, read piece after piece.
+    /// The output of the run, read piece after piece.
     fn text(&self) -> Vec<u8> {
         // SAFETY: the room holds a run.
         let mut text = vec![0; unsafe { ffi::rinqebo_run_length(self.room.as_ptr()) }];

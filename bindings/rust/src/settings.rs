@@ -1,7 +1,7 @@
 //! The settings of a test.
 
-use crate::ffi;
-use serde::Serialize;
+use crate::{ffi, spelled};
+use serde::{Deserialize, Serialize};
 use std::time::Duration;
 
 /// How long delays between tries are.
@@ -11,7 +11,11 @@ pub enum Backoff {
     /// Every delay is the same.
     Fixed,
     /// Each is longer than the one before, up to a longest one, if it is given.
-    Exponential { max_delay: Option<Duration> },
+    #[serde(rename_all = "kebab-case")]
+    Exponential {
+        #[serde(serialize_with = "spelled::optional_duration::serialize")]
+        max_delay: Option<Duration>,
+    },
 }
 
 /// How often a test is tried again.
@@ -20,6 +24,7 @@ pub enum Backoff {
 #[non_exhaustive]
 pub struct Retries {
     pub count: u32,
+    #[serde(with = "spelled::duration")]
     pub delay: Duration,
     pub jitter: bool,
     pub backoff: Backoff,
@@ -35,7 +40,7 @@ pub enum Threads {
 }
 
 /// What comes of a test.
-#[derive(Clone, Copy, Debug, PartialEq, Eq, Serialize)]
+#[derive(Clone, Copy, Debug, PartialEq, Eq, Serialize, Deserialize)]
 #[serde(rename_all = "kebab-case")]
 pub enum Outcome {
     Pass,
@@ -43,31 +48,34 @@ pub enum Outcome {
 }
 
 /// When a test counts as slow, and when it is ended.
-#[derive(Clone, Copy, Debug, PartialEq, Eq, Serialize)]
+#[derive(Clone, Copy, Debug, PartialEq, Eq, Serialize, Deserialize)]
 #[serde(rename_all = "kebab-case")]
 #[non_exhaustive]
 pub struct SlowTimeout {
+    #[serde(with = "spelled::duration")]
     pub period: Duration,
     /// After how many periods it is ended.
     pub terminate_after: Option<u64>,
+    #[serde(with = "spelled::duration")]
     pub grace_period: Duration,
     /// What comes of a test that is ended.
     pub on_timeout: Outcome,
 }
 
 /// How long what a test started may outlive it.
-#[derive(Clone, Copy, Debug, PartialEq, Eq, Serialize)]
+#[derive(Clone, Copy, Debug, PartialEq, Eq, Serialize, Deserialize)]
 #[serde(rename_all = "kebab-case")]
 #[non_exhaustive]
 pub struct LeakTimeout {
+    #[serde(with = "spelled::duration")]
     pub period: Duration,
     /// What comes of a test that leaks.
     pub result: Outcome,
 }
 
 /// How many tests of a group run at a time.
-#[derive(Clone, Copy, Debug, PartialEq, Eq, Serialize)]
-#[serde(rename_all = "kebab-case")]
+#[derive(Clone, Copy, Debug, PartialEq, Eq, Serialize, Deserialize)]
+#[serde(from = "spelled::ThreadsOr", into = "spelled::ThreadsOr")]
 pub enum GroupThreads {
     /// This many, or for a negative number so many fewer than there are processors.
     Count(i64),
@@ -75,7 +83,7 @@ pub enum GroupThreads {
 }
 
 /// A group that is not the global one.
-#[derive(Clone, Debug, PartialEq, Eq, Serialize)]
+#[derive(Clone, Debug, PartialEq, Eq, Serialize, Deserialize)]
 #[serde(rename_all = "kebab-case")]
 #[non_exhaustive]
 pub struct Group {
@@ -116,8 +124,8 @@ pub struct TestSettings {
     pub threads_required: Threads,
     /// The id of the script that wraps the run.
     pub run_wrapper: Option<String>,
-    /// How many arguments the test is given.
-    pub run_extra_args: usize,
+    /// The arguments that the test is given.
+    pub run_extra_args: Vec<String>,
     pub retries: Retries,
     /// What comes of the test where it passes at a later try.
     pub flaky_result: Outcome,

@@ -26,6 +26,8 @@ pub struct Sources {
     pub host: Machine,
     /// The machine that is built for, where it is another one.
     pub target: Option<Machine>,
+    /// The target directory, to which programs of scripts may be relative.
+    pub target_directory: Option<String>,
 }
 
 /// A file: its path, and what came of reading it.
@@ -45,7 +47,7 @@ pub enum ReadOutcome {
     NotFound,
     /// A part of its path that should be a directory is none.
     NotADirectory,
-    /// Anything else, as bytes that are not valid UTF-8: a message, which a refusal tells.
+    /// Anything else, as bytes that are not valid UTF-8: a message, which a refusal includes.
     Failed(String),
 }
 
@@ -90,7 +92,7 @@ impl Serialize for ReadOutcome {
     }
 }
 
-/// What `fs::read_to_string` answers.
+/// What `fs::read_to_string` returns.
 impl From<io::Result<String>> for ReadOutcome {
     fn from(read: io::Result<String>) -> ReadOutcome {
         match read {
@@ -138,6 +140,7 @@ impl Sources {
                 cfg: None,
             },
             target: None,
+            target_directory: None,
         }
     }
 }

@@ -4,6 +4,7 @@ use rinqebo::{Backoff, Config, Display, Error, Group, GroupThreads, Machine, Mod
 use rinqebo::{resolve, resolve_json, Document, Level, OriginKind, RunRequest, SourceKind};
 use rinqebo::{version, version_number, VERSION, VERSION_NUMBER};
 use rinqebo::{File, ReadOutcome, Refusal, ToolFile};
+use rinqebo::{FinalStatusLevel, Finding, MaxFail, Objects, RelativeTo, StatusLevel, TargetRunner};
 use serde_json::json;
 use std::sync::{Arc, Mutex};
 use std::time::Duration;
@@ -63,7 +64,6 @@ const ROOT: &str = concat!(env!("CARGO_MANIFEST_DIR"), "/../../examples/real");
 fn real() -> Sources {
     let mut sources = Sources::of_file(ROOT, &example(".config/nextest.toml"), TRIPLE);
     sources.metadata = Some(example("metadata.json"));
-    sources.features.setup_scripts = true;
     sources
 }
 
@@ -75,7 +75,7 @@ fn settings_are_those_of_the_first_rules() {
     assert_eq!(settings.priority, -5);
     assert_eq!(settings.threads_required, Threads::NumTestThreads);
     assert_eq!(settings.test_group.as_ref().map(group_of), Some(("db", GroupThreads::Count(2))));
-    assert_eq!(settings.run_extra_args, 2);
+    assert_eq!(settings.run_extra_args, ["--nocapture", "-q"]);
     assert_eq!(settings.run_wrapper, None);
     assert_eq!(settings.retries.count, 4);
     assert_eq!(settings.retries.delay, Duration::from_secs(2));
@@ -318,7 +318,9 @@ fn a_file_that_could_not_be_read_is_refused_with_its_message() {
     let (reason, refusal) = refusal_of(&sources);
     assert!(reason.contains("ReadError") && reason.contains(message), "{reason}");
     assert_eq!(refusal.findings.len(), 1);
-    assert_eq!((refusal.findings[0].code.as_str(), refusal.findings[0].message.as_str()), ("ReadError", message));
+    let finding = &refusal.findings[0];
+    assert_eq!((finding.code.as_str(), finding.upstream.as_deref()), ("unreadable-file", Some("ReadError")));
+    assert_eq!(finding.message, message);
 }
 
 #[test]
@@ -429,6 +431,9 @@ fn a_run_tells_all_settings_of_each_test() {
     assert_eq!(priority.origins[0].kind, OriginKind::Override);
     assert_eq!(priority.origins[0].lines, Some((50, 50)));
     assert_eq!(test.settings["test-group"].origins[0].kind, OriginKind::BuiltIn);
+    assert!(test.runs.value && !test.runs.ignored);
+    let arguments = &test.settings["run-extra-args"].value;
+    assert!(arguments.as_array().is_some_and(|texts| texts.iter().all(|text| text.is_string())), "{arguments}");
     let benchmarks = answer("ci", Mode::Benchmark).unwrap();
     assert!(benchmarks.tests.iter().all(|test| test.settings.contains_key("bench.slow-timeout")));
 }
@@ -544,10 +549,177 @@ fn results_are_written_as_json() {
     let config = config();
     let settings = config.profile("ci").unwrap().settings(&test_of("api", "db::reads")).unwrap();
     let written = serde_json::to_value(&settings).unwrap();
-    assert_eq!(written["test-group"], json!({"name": "db", "max-threads": {"count": 2}}));
+    assert_eq!(written["test-group"], json!({"name": "db", "max-threads": 2}));
     assert_eq!(written["threads-required"], json!("num-test-threads"));
     assert_eq!(written["failure-output"], json!("immediate-final"));
     assert_eq!(written["slow-timeout"]["on-timeout"], json!("pass"));
+}
+
+#[test]
+fn a_session_has_the_features_of_its_file() {
+    let script = "[scripts.setup.db]\ncommand = 'true'\n";
+    let load = |text: &str| Config::load(&Sources::of_file("/w", text, TRIPLE)).is_ok();
+    assert!(!load(script));
+    assert!(load(&format!("experimental = ['setup-scripts']\n{script}")));
+    assert!(load(&format!("experimental = {{ setup-scripts = true }}\n{script}")));
+    assert!(!load(&format!("experimental = ['wrapper-scripts']\n{script}")));
+    let mut sources = Sources::of_file("/w", script, TRIPLE);
+    sources.features.setup_scripts = true;
+    assert!(Config::load(&sources).is_ok());
+    // The file that a user named counts in place of the own one.
+    let mut sources = Sources::of_file("/w", "experimental = ['setup-scripts']\n", TRIPLE);
+    sources.config_file = Some(File::of("/c.toml", script));
+    assert!(Config::load(&sources).is_err());
+}
+
+#[test]
+fn what_a_filter_asks_for_has_to_be_given() {
+    let file = "[[profile.ci.overrides]]\nfilter = 'kind(bench)'\nretries = 1\n\
+                [[profile.ci.overrides]]\nfilter = 'not package(a)'\nplatform = 'cfg(windows)'\nretries = 2\n\
+                [profile.named]\ndefault-filter = 'binary(x)'\n\
+                [profile.close]\n[[profile.close.overrides]]\nfilter = 'binary_id(x)'\nretries = 1\n";
+    let config = Config::load(&Sources::of_file("/w", file, TRIPLE)).unwrap();
+    let asked = |profile: &str, test: &Test<'_>| config.profile(profile).unwrap().settings(test).err();
+    let full = Test::named("t").in_binary("b").of_target("lib", "b").of_package("");
+    assert_eq!(asked("ci", &full), None);
+    let without_kind = Test::named("t").in_binary("b").of_target("", "b").of_package("p");
+    assert_eq!(asked("ci", &without_kind), Some(Error::NotKnown));
+    // The platforms of the rule that asks for the package do not hold.
+    assert_eq!(asked("ci", &Test::named("").in_binary("").of_target("lib", "").of_package("")), None);
+    assert_eq!(asked("default", &Test::named("").in_binary("").of_target("", "").of_package("")), None);
+    assert_eq!(asked("named", &Test::named("t").in_binary("b").of_target("lib", "").of_package("p")), Some(Error::NotKnown));
+    assert_eq!(asked("named", &full), None);
+    assert_eq!(asked("close", &Test::named("t").in_binary("").of_target("lib", "b").of_package("p")), Some(Error::NotKnown));
+    assert_eq!(asked("close", &full), None);
+}
+
+const RUNNER: &str = r#"
+experimental = ["setup-scripts", "wrapper-scripts"]
+unknown = 1
+[profile.default]
+test-threads = -2
+status-level = "retry"
+global-timeout = "1h"
+[profile.ci]
+inherits = "quick"
+max-fail = 3
+run-extra-args = ["--show-output"]
+[profile.ci.junit]
+path = "junit.xml"
+report-name = "all"
+[profile.quick]
+final-status-level = "slow"
+[profile.default-x]
+[test-groups.db]
+max-threads = 2
+[test-groups.net]
+max-threads = "num-cpus"
+[scripts.setup.seed]
+command = { command-line = "bin/seed --fast 'two words'", env = { B = "2", A = "1" }, relative-to = "workspace-root" }
+slow-timeout = { period = "90s", terminate-after = 2 }
+leak-timeout = "100ms"
+capture-stdout = true
+junit = { store-success-output = false }
+[scripts.setup.plain]
+command = "plain"
+[scripts.wrapper.box]
+command = { command-line = ["debug/box", "-v"], relative-to = "target" }
+target-runner = "within-wrapper"
+[[profile.ci.scripts]]
+filter = "test(/^boxed::/)"
+run-wrapper = "box"
+"#;
+
+/// The objects of a profile of these lines.
+fn runner(target: Option<&str>) -> Config {
+    let mut sources = Sources::of_file("/w", RUNNER, TRIPLE);
+    sources.target_directory = target.map(str::to_owned);
+    Config::load(&sources).expect("the file is accepted")
+}
+
+#[test]
+fn a_profile_says_what_a_run_needs() {
+    let config = runner(None);
+    let run = config.profile("ci").unwrap().run().unwrap();
+    assert_eq!((run.profile.as_str(), run.inherits.as_deref()), ("ci", Some("quick")));
+    assert_eq!((run.test_threads, run.max_fail), (GroupThreads::Count(-2), MaxFail::Count(3)));
+    assert_eq!(run.global_timeout.test, Duration::from_secs(3600));
+    assert_eq!((run.status_level, run.final_status_level), (StatusLevel::Retry, FinalStatusLevel::Slow));
+    let junit = run.junit.as_ref().unwrap();
+    assert_eq!((junit.path.as_str(), junit.report_name.as_str()), ("/w/target/nextest/ci/junit.xml", "all"));
+    assert_eq!(run.store_dir, "/w/target/nextest/ci");
+    assert_eq!(run.run_extra_args, ["--show-output"]);
+    assert_eq!(run.profiles, ["ci", "default", "default-miri", "default-x", "quick"]);
+    assert_eq!(config.profiles().unwrap(), run.profiles);
+    let run = config.profile("default").unwrap().run().unwrap();
+    assert_eq!((run.inherits, run.max_fail, run.junit), (None, MaxFail::Count(1), None));
+    assert_eq!(run.final_status_level, FinalStatusLevel::Fail);
+    assert_eq!(config.profile("ci").unwrap().chain().unwrap(), ["ci", "quick", "default"]);
+    assert_eq!(config.profile("default").unwrap().chain().unwrap(), ["default"]);
+    let groups = config.groups().unwrap();
+    let groups: Vec<_> = groups.iter().map(group_of).collect();
+    assert_eq!(groups, [("db", GroupThreads::Count(2)), ("net", GroupThreads::NumCpus)]);
+}
+
+#[test]
+fn a_profile_has_the_commands_of_its_scripts() {
+    let config = runner(None);
+    let profile = config.profile("ci").unwrap();
+    let setup = profile.setup_scripts().unwrap();
+    assert_eq!(setup.iter().map(|script| script.id.as_str()).collect::<Vec<_>>(), ["seed", "plain"]);
+    let seed = &setup[0];
+    assert_eq!((seed.command.program.as_str(), seed.command.relative_to), ("bin/seed", RelativeTo::WorkspaceRoot));
+    assert_eq!(seed.command.args, ["--fast", "two words"]);
+    let env: Vec<_> = seed.command.env.iter().map(|(key, text)| (key.as_str(), text.as_str())).collect();
+    assert_eq!(env, [("A", "1"), ("B", "2")]);
+    let slow = seed.slow_timeout.unwrap();
+    assert_eq!((slow.period, slow.terminate_after), (Duration::from_secs(90), Some(2)));
+    assert_eq!(seed.leak_timeout.unwrap().period, Duration::from_millis(100));
+    assert_eq!((seed.capture_stdout, seed.capture_stderr), (true, false));
+    assert!(!seed.junit.store_success_output && seed.junit.store_failure_output);
+    assert_eq!((setup[1].slow_timeout, setup[1].leak_timeout), (None, None));
+    let wrappers = profile.wrappers().unwrap();
+    assert_eq!((wrappers[0].id.as_str(), wrappers[0].target_runner), ("box", TargetRunner::WithinWrapper));
+    assert_eq!((wrappers[0].command.program.as_str(), wrappers[0].command.args.len()), ("debug/box", 1));
+    let settings = profile.settings(&test_of("api", "boxed::t")).unwrap();
+    assert_eq!(settings.run_wrapper.as_deref(), Some("box"));
+    assert_eq!(settings.run_extra_args, ["--show-output"]);
+    // With the target directory programs are joined.
+    let config = runner(Some("/t"));
+    let objects = config.profile("default").unwrap().objects().unwrap();
+    assert_eq!(objects.setup_scripts[0].command.program, "/w/bin/seed");
+    assert_eq!(objects.setup_scripts[1].command.program, "plain");
+    assert_eq!(objects.wrappers[0].command.program, "/t/debug/box");
+}
+
+#[test]
+fn a_session_tells_its_warnings() {
+    let config = runner(None);
+    let findings = config.findings().unwrap();
+    let told: Vec<_> = findings.iter().map(|found| (found.code.as_str(), found.path.as_deref().unwrap())).collect();
+    assert_eq!(told, [("unknown-key", "unknown"), ("reserved-profile", "profile.default-x")]);
+    assert!(findings.iter().all(|found| found.level == Level::Warning));
+    assert_eq!(findings[0].file.as_deref(), Some("/w/.config/nextest.toml"));
+    // A whole run reports the same, with places.
+    let list = example("list.json");
+    let sources = Sources::of_file("/w", RUNNER, TRIPLE);
+    let request = RunRequest { sources: &sources, profile: "ci", mode: Mode::Test, list: &list };
+    let document = resolve(&request).unwrap();
+    let words = |findings: &[Finding]| -> Vec<_> {
+        findings.iter().map(|found| (found.code.clone(), found.upstream.clone(), found.path.clone(), found.level)).collect()
+    };
+    assert_eq!(words(&findings), words(&document.findings));
+    assert!(self::config().findings().unwrap().is_empty());
+}
+
+#[test]
+fn objects_are_written_as_they_are_read() {
+    let objects = runner(Some("/t")).profile("ci").unwrap().objects().unwrap();
+    let written = serde_json::to_value(&objects).unwrap();
+    assert_eq!(serde_json::from_value::<Objects>(written.clone()).unwrap(), objects);
+    assert_eq!(written["run"]["test-threads"], json!(-2));
+    assert_eq!(written["groups"][1], json!({"name": "net", "max-threads": "num-cpus"}));
+    assert_eq!(written["setup-scripts"][0]["slow-timeout"]["period"], json!("90s"));
 }
 
 #[test]

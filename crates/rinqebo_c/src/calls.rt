@@ -12,6 +12,7 @@ ghost use Rattle.rinqebo_resolve.specs.Pieces.{IsPieceOf};
 ghost use Rattle.rinqebo_resolve.specs.contracts.run.Run.{the_row as run_row};
 ghost use Rattle.rinqebo_resolve.specs.declared.run.Run.{Run};
 ghost use Rattle.rinqebo_session.specs.Answering.{Answers};
+ghost use Rattle.rinqebo_session.specs.Arguments.{IsArgumentCopied};
 ghost use Rattle.rinqebo_session.specs.Copies.{IsCopiedOut};
 ghost use Rattle.rinqebo_session.specs.Sessions.{session_status};
 ghost use Rattle.rinqebo_session.specs.declared.status.TheConstants.{DONE};
@@ -241,8 +242,27 @@ pub unsafe extern "C" fn rinqebo_profile_ask(
     Profile::ask(&*(profile as *const Profile<'_>), test, settings)
 }
 
+/// Copies out the argument of an index that a profile gives to a test. It takes no memory.
+#[unsafe(no_mangle)]
+pub unsafe extern "C" fn rinqebo_profile_argument(
+    profile: *const u8,
+    test: &RequestedTest<'_>,
+    index: usize,
+    out: &mut [u8],
+    needed: &mut usize,
+) -> u32
+    ghost g: { List ℕ × List ℕ × Share × Share × Profile }
+    // A profile lies there, its session is still loaded, and nothing writes either during the call.
+    requires* loan { sem 𝓛 (lent_profile g.0 g.1 g.2 g.3 profile g.4) }
+    requires within { g.0 ⊑ g.1 }
+    ensures* { sem 𝓛 (lent_profile g.0 g.1 g.2 g.3 profile g.4)
+        ∗ ⌜ IsArgumentCopied g.4 test.now index out.old out.new needed.new result ⌝ }
+{
+    Profile::copy_argument(&*(profile as *const Profile<'_>), test, index, out, needed)
+}
+
 /// Copies out a text of a profile: of kind 0 why it is not open, of kind 1 the name of the group of
-/// an index, of kind 2 the id of the wrapper of an index.
+/// an index, of kind 2 the id of the wrapper of an index, of kind 3 its objects in JSON.
 #[unsafe(no_mangle)]
 pub unsafe extern "C" fn rinqebo_profile_text(
     profile: *const u8,

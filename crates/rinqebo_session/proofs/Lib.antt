@@ -1,2 +1,4 @@
 pub mod Loads
 pub mod Numbering
+pub mod Faults
+pub mod Statuses

@@ -15,7 +15,7 @@ use Rattle.nextest_settings.specs.Settings.{ValueOf}
 use Rattle.nextest_settings.specs.declared.setting.Setting.{Setting}
 use Rattle.nextest_settings.specs.declared.setting.Setting.TheVariants as at
 use Rattle.rinqebo_forms.specs.Numbers.{flag_number, retry_numbers, thread_numbers, slow_numbers, leak_numbers, output_number, flaky_number, report_number, status_number, group_numbers}
-use Rattle.rinqebo_session.specs.Asking.{IsTestOf, IsTestFault, fault_status}
+use Rattle.rinqebo_session.specs.Asking.{IsFaultIn, IsKnownTest, fault_status}
 use Rattle.rinqebo_session.specs.Readings.{filter_meaning}
 use Rattle.rinqebo_session.specs.Sizes.{settings_size, test_size}
 use Rattle.rinqebo_session.specs.Statuses.{open_status}
@@ -76,19 +76,20 @@ pub record IsAnswerOf (opened : Opened) (asked : RequestedTest) (n : SettingNumb
   pub size : n.size ≡ settings_size
   pub test : Test
   pub mode : NextestRunMode
-  pub is_test : IsTestOf asked test mode
+  pub is_known : IsKnownTest opened asked test mode
   pub numbers : let profile = profile_meaning filter_meaning opened.profile in
       AreNumbersOf opened.groups.items opened.wrappers.items
       (setting_value (query_in filter_holds profile test) mode profile) n
   pub in_default_filter : let filter = filter_meaning opened.profile.default_filter.filter in
       n.in_default_filter ≡ flag_number (filter_holds filter test filter)
 
--- A test is answered in an open profile; or it is not understood, and the status says so.
+-- A test is answered in an open profile; or it is not understood or lacks a part that a filter asks
+-- for, and the status says so.
 pub record AnswersTest (opened : Opened) (asked : RequestedTest) (n : SettingNumbers) (status : ℕ)
     : Type 0 where
   pub answered : status ≡ DONE → IsAnswerOf opened asked n
   pub refused : status ≢ DONE
-      → (fault : TestFault) × IsTestFault asked fault × (status ≡ fault_status fault)
+      → (fault : TestFault) × IsFaultIn opened asked fault × (status ≡ fault_status fault)
 
 -- what a profile answers; where it is not open, the status says why
 abbrev pub AnswersBy : Result Opened OpenFailure → RequestedTest → SettingNumbers → ℕ → Type 0

@@ -1,5 +1,5 @@
 -- What is asked of a profile, and what it answers.
-use Rattle.std.specs.Prelude.{◌≡◌, ◌≢◌, ◌⊎◌, ℕ, List, Option, None, Some, ◌==◌, if◌then◌else◌}
+use Rattle.std.specs.Prelude.{◌≡◌, ◌≢◌, ◌⊎◌, ℕ, List, Option, None, Some, false, true, ◌==◌, if◌then◌else◌}
 use Rattle.std.specs.Str.{IsUtf8}
 use Rattle.nextest_elements.specs.declared.run_mode.NextestRunMode.{NextestRunMode}
 use Rattle.nextest_elements.specs.declared.run_mode.NextestRunMode.TheVariants.{Test as in_test, Benchmark as in_benchmark}
@@ -8,15 +8,19 @@ use Rattle.nextest_elements.specs.declared.test_group.TestGroup.TheVariants as g
 use Rattle.nextest_engines.specs.Engines.{Binary, Test}
 use Rattle.nextest_engines.specs.declared.queries.BuildPlatform.{BuildPlatform}
 use Rattle.nextest_engines.specs.declared.queries.BuildPlatform.TheVariants.{Host, Target}
-use Rattle.rinqebo_session.specs.declared.status.TheConstants.{NOT_TEXT, UNKNOWN_NUMBER}
+use Rattle.rinqebo_session.specs.Needs.{lacks}
+use Rattle.rinqebo_session.specs.declared.needs.Needs.{Needs}
+use Rattle.rinqebo_session.specs.declared.profile.Opened.{Opened}
+use Rattle.rinqebo_session.specs.declared.status.TheConstants.{NOT_KNOWN, NOT_TEXT, UNKNOWN_NUMBER}
 use Rattle.rinqebo_session.specs.declared.test.RequestedTest.{RequestedTest}
 use Rattle.rinqebo_session.specs.declared.test.TestFault.{TestFault}
-use Rattle.rinqebo_session.specs.declared.test.TestFault.TheVariants.{NotText, UnknownNumber}
+use Rattle.rinqebo_session.specs.declared.test.TestFault.TheVariants.{NotKnown, NotText, UnknownNumber}
 
--- the number of what is not understood of a test
+-- the number of why there are no settings of a test
 abbrev pub fault_status : TestFault → ℕ
 fault_status NotText = NOT_TEXT
 fault_status UnknownNumber = UNKNOWN_NUMBER
+fault_status NotKnown = NOT_KNOWN
 
 -- the platform of a number
 abbrev pub platform_numbered : ℕ → Option BuildPlatform
@@ -25,6 +29,11 @@ platform_numbered n = if n == 0 then Some Host else (if n == 1 then Some Target 
 -- the mode of a number
 abbrev pub mode_numbered : ℕ → Option NextestRunMode
 mode_numbered n = if n == 0 then Some in_test else (if n == 1 then Some in_benchmark else None)
+
+-- what is asked for, for binaries of a platform
+abbrev pub needs_on : Opened → BuildPlatform → Needs
+needs_on opened Host = opened.for_host
+needs_on opened Target = opened.for_target
 
 -- the binary of a test, on a platform
 abbrev pub binary_of : RequestedTest → BuildPlatform → Binary
@@ -60,3 +69,25 @@ IsTestFault asked UnknownNumber =
     (platform_numbered asked.platform ≡ None) ⊎ (mode_numbered asked.mode ≡ None)
 IsTestFault asked NotText =
     IsBytesFault asked NotText ⊎ IsNoText asked.name.now NotText
+IsTestFault asked NotKnown = ⊥
+
+-- A test is one that an open profile knows enough of: it is the one that is asked of, and gives each
+-- part that a filter asks for.
+pub record IsKnownTest (opened : Opened) (asked : RequestedTest) (test : Test)
+    (mode : NextestRunMode) : Type 0 where
+  pub is_test : IsTestOf asked test mode
+  pub known : lacks (needs_on opened test.binary.platform) asked ≡ false
+
+-- A test is not known: it is understood, and lacks a part that a filter asks for.
+pub record IsUnknownTest (opened : Opened) (asked : RequestedTest) : Type 0 where
+  pub test : Test
+  pub mode : NextestRunMode
+  pub is_test : IsTestOf asked test mode
+  pub unknown : lacks (needs_on opened test.binary.platform) asked ≡ true
+
+-- why an open profile has no settings of a test: the test is not understood, or it lacks a part that
+-- a filter asks for
+abbrev pub IsFaultIn : Opened → RequestedTest → TestFault → Type 0
+IsFaultIn opened asked NotKnown = IsUnknownTest opened asked
+IsFaultIn opened asked NotText = IsTestFault asked NotText
+IsFaultIn opened asked UnknownNumber = IsTestFault asked UnknownNumber

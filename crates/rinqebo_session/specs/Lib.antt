@@ -9,3 +9,5 @@ pub mod Answering
 pub mod Texts
 pub mod Sizes
 pub mod Versions
+pub mod Needs
+pub mod Arguments

@@ -1,5 +1,5 @@
 -- What a request's files denote.
-use Rattle.std.specs.Prelude.{◌≡◌, ◌≢◌, ◌⊎◌, ℕ, List, [], Bool, None, Some, Result, Ok, Err}
+use Rattle.std.specs.Prelude.{◌≡◌, ◌≢◌, ◌⊎◌, ℕ, List, [], Bool, None, Some, Result, Ok, Err, option_map, string_bytes, unwrap_or}
 use Rattle.std.specs.Str.{IsUtf8}
 use Rattle.filter_language.specs.declared.filterset.Filterset.{Filterset}
 use Rattle.nextest_config.specs.ConfigView.{KeptConfig, loaded_by}
@@ -12,11 +12,14 @@ use Rattle.filter_engine.specs.declared.engine.NextestFilters.{NextestFilters}
 use Rattle.nextest_load.specs.Load.{IsLoad}
 use Rattle.nextest_rules.specs.Definitions.{Features}
 use Rattle.nextest_sources.specs.Inputs.{LoadInputs}
+use Rattle.nextest_sources.specs.Sources.{InputFile}
 use Rattle.nextest_sources.specs.Warnings.{Warning}
+use Rattle.nextest_sources.specs.WarningsView.{warnings_view}
 use Rattle.nextest_sources.specs.declared.error.ConfigParseError.{ConfigParseError}
 use Rattle.platform_language.specs.Expressions.{Spec, spec_view}
 use Rattle.platform_language.specs.declared.expression.TargetSpec.{TargetSpec}
 use Rattle.platform_table.specs.declared.Platform.{Platform}
+use Rattle.rinqebo_features.specs.Features.{AreFeaturesBy, tree_read}
 use Rattle.rinqebo_forms.specs.Machines.{AreFiltersFor, IsMetadataFault, ArePlatformsFor, IsBuildRefused}
 use Rattle.rinqebo_forms.specs.Requests.{RequestText, request_of}
 use Rattle.rinqebo_forms.specs.declared.fault.RequestFault.TheVariants.{Memory as request_memory}
@@ -41,35 +44,45 @@ files_of asked = record {
   tools = asked.tools;
 }
 
--- What a load answers for a request, by engines and features: all that a load promises, over the
--- request's files; and a configuration has the request's root.
+-- the repository's file: the one that a user named, or else its own
+abbrev pub repository_file : RequestText → InputFile
+repository_file asked = unwrap_or asked.config_file asked.shared
+
+-- The features of a load: those that the request switches on, and those that the repository's file
+-- enables, as in a whole run.
+abbrev pub AreFeaturesFor : RequestText → Features → Type 0
+AreFeaturesFor asked features =
+    AreFeaturesBy (is_on asked.features) (tree_read (repository_file asked).outcome) features
+
+-- What a load answers for a request, by engines and features, with warnings: all that a load
+-- promises, over the request's files; and a configuration has the request's root.
 pub record LoadsBy (engines : Readings Filter Spec Platform) (features : Features)
-    (asked : RequestText)
+    (asked : RequestText) (warnings : List Warning)
     (answer : Result (KeptConfig (Filterset FieldMatcher) TargetSpec) ConfigParseError) : Type 0
   where
-    pub warnings : List Warning
     pub loads : IsLoad (loaded_by filter_meaning spec_view) engines features (files_of asked) []
         warnings answer
     pub root : (config : KeptConfig (Filterset FieldMatcher) TargetSpec) → answer ≡ Ok config
         → config.root ≡ asked.root
 
 -- The engines and the features with which a request is loaded: the filters of its metadata, and the
--- features that it switches on.
-pub record LoadsWith (asked : RequestText)
+-- features that it and the repository's file switch on.
+pub record LoadsWith (asked : RequestText) (warnings : List Warning)
     (answer : Result (KeptConfig (Filterset FieldMatcher) TargetSpec) ConfigParseError) : Type 0
   where
     pub filters : NextestFilters
     pub are_filters : AreFiltersFor asked.metadata filters
     pub features : Features
-    pub are_features : (feature : ConfigExperimental)
-        → features feature ≡ is_on asked.features feature
-    pub loads : LoadsBy (readings filters) features asked answer
+    pub are_features : AreFeaturesFor asked features
+    pub loads : LoadsBy (readings filters) features asked warnings answer
 
--- What was loaded is what a request asks for: the load of its files answers the configuration, and
--- the platforms are those of its machines.
+-- What was loaded is what a request asks for: the load of its files answers the configuration with
+-- the warnings, the platforms are those of its machines, and the target directory is its own.
 pub record IsLoadedBy (asked : RequestText) (loaded : Loaded) : Type 0 where
-  pub loads : LoadsWith asked (Ok loaded.config)
+  pub loads : LoadsWith asked (warnings_view loaded.warnings) (Ok loaded.config)
   pub platforms : ArePlatformsFor asked.host asked.target loaded.platforms
+  pub target_directory :
+      option_map string_bytes loaded.target_directory ≡ asked.target_directory
 
 -- a request has no engines for this fault: of its metadata, of its host or of its target
 abbrev pub IsEngineFault : RequestText → EngineFault → Type 0
@@ -81,7 +94,8 @@ abbrev pub IsFailureBy : RequestText → Failure → Type 0
 IsFailureBy asked failures.NotText = ⊥
 IsFailureBy asked (failures.Request fault) = ⊥
 IsFailureBy asked (failures.Engines fault) = IsEngineFault asked fault
-IsFailureBy asked (failures.Refused error) = LoadsWith asked (Err error)
+IsFailureBy asked (failures.Refused error) =
+    (warnings : List Warning) × LoadsWith asked warnings (Err error)
 IsFailureBy asked failures.Memory = Unit {0}
 
 -- What was loaded is what the bytes of a request ask for.

@@ -1,18 +1,23 @@
 -- Profiles of a session.
-use Rattle.std.specs.Prelude.{◌≡◌, List, Option, Some, map, Result, Ok, Err, MatchResult}
+use Rattle.std.specs.Prelude.{◌≡◌, ℕ, List, Option, Some, map, option_map, string_bytes, Result, Ok, Err, MatchResult}
 use Rattle.std.specs.Str.{IsUtf8}
 use Rattle.nextest_config.specs.ConfigView.{configured_in}
 use Rattle.nextest_config.specs.ProfileError.{TellsMissing}
 use Rattle.nextest_config.specs.declared.profile_error.ProfileError.{ProfileError}
 use Rattle.nextest_config.specs.declared.profile_error.ProfileError.TheVariants as errors
 use Rattle.nextest_elements.specs.declared.test_group.TestGroupConfig.{TestGroupConfig}
+use Rattle.nextest_engines.specs.declared.queries.BuildPlatform.TheVariants.{Host, Target}
 use Rattle.nextest_inheritance.specs.Parents.{parents_in, IsChain}
 use Rattle.nextest_load.specs.Config.{config_parents}
 use Rattle.nextest_profiles.specs.Meaning.{configured_meaning, profile_meaning}
-use Rattle.nextest_settings.specs.Profile.{profile_of, profile_on}
+use Rattle.nextest_settings.specs.Profile.{ProfileFacts, profile_of, profile_on}
+use Rattle.nextest_sources.specs.WarningsView.{warnings_view}
 use Rattle.nextest_tables.specs.FileTexts.{names_in, IsIn}
 use Rattle.nextest_tables.specs.Written.{Name}
 use Rattle.platform_language.specs.Expressions.{spec_view}
+use Rattle.rinqebo_objects.specs.Objects.{AreObjectsOf}
+use Rattle.rinqebo_objects.specs.Scripts.{Directories}
+use Rattle.rinqebo_session.specs.Needs.{AreNeeds}
 use Rattle.rinqebo_session.specs.Readings.{filter_meaning, holds_on}
 use Rattle.rinqebo_session.specs.declared.failure.Failure.{Failure}
 use Rattle.rinqebo_session.specs.declared.failure.OpenFailure.{OpenFailure}
@@ -22,6 +27,8 @@ use Rattle.rinqebo_session.specs.declared.profile.Group.{Group}
 use Rattle.rinqebo_session.specs.declared.profile.Opened.{Opened}
 use Rattle.rinqebo_session.specs.declared.profile.Profile.{Profile}
 use Rattle.rinqebo_session.specs.declared.session.Session.{Session}
+use Rattle.serde_json.specs.Data.{Data}
+use Rattle.serde_json.specs.Written.{compact_text}
 
 -- why a profile of a configuration is not given
 abbrev pub open_failure : ProfileError → OpenFailure
@@ -32,8 +39,23 @@ open_failure errors.Memory = opens.Memory
 abbrev pub group_entry : Group → Name × Option TestGroupConfig
 group_entry group = (group.name.now, Some (record { max_threads = group.threads }))
 
+-- the directories that programs are relative to, where the target directory is given
+abbrev pub directories_in : Loaded → Option Directories
+directories_in loaded = option_map (λ target. record {
+  root = loaded.config.root;
+  target = string_bytes target;
+}) loaded.target_directory
+
+-- A text is that of the objects of a profile, among the profiles of its configuration.
+pub record IsObjectsText (loaded : Loaded) (facts : ProfileFacts) (text : List ℕ) : Type 0 where
+  pub value : Data
+  pub are : AreObjectsOf facts (names_in loaded.config.config.profiles)
+      (warnings_view loaded.warnings) (directories_in loaded) value
+  pub written : text ≡ compact_text value
+
 -- A profile of a configuration is open: it is the one of the name, by its chain, on the platforms
--- of the build, by what its rules mean; and its groups and wrappers are those that are defined.
+-- of the build, by what its rules mean; its groups and wrappers are those that are defined; what its
+-- filters ask for is known, for binaries of each platform; and its objects are kept as a text.
 pub record IsOpened (loaded : Loaded) (name : Name) (opened : Opened) : Type 0 where
   pub known : IsIn (names_in loaded.config.config.profiles) name
   pub chain : List Name
@@ -44,6 +66,9 @@ pub record IsOpened (loaded : Loaded) (name : Name) (opened : Opened) : Type 0 w
   pub groups : map group_entry opened.groups.items ≡ opened.profile.facts.groups
   pub wrappers : map (λ id. id.now) opened.wrappers.items
       ≡ names_in opened.profile.facts.scripts.wrapper
+  pub for_host : AreNeeds opened.profile Host opened.for_host
+  pub for_target : AreNeeds opened.profile Target opened.for_target
+  pub objects : IsObjectsText loaded opened.profile.facts (string_bytes opened.objects)
 
 -- why a configuration has no profile of a name: it is none of its profiles; want of memory aside
 abbrev pub IsNotOpened : Loaded → Name → OpenFailure → Type 0

@@ -21,19 +21,20 @@ opening_status (Err failure) = open_status failure
 abbrev pub profile_status : Profile → ℕ
 profile_status profile = opening_status profile.outcome
 
--- the name of an index: of kind 1 that of a group, of kind 2 that of a wrapper
+-- the name of an index: of kind 1 that of a group, of kind 2 that of a wrapper; of kind 3 the objects
+-- of the profile, whatever the index
 abbrev pub name_at : Opened → ℕ → ℕ → Option (List ℕ)
 name_at opened kind index =
     if kind == 1 then option_map (λ group. group.name.now) (slice_get opened.groups.items index)
     else (if kind == 2 then option_map (λ id. id.now) (slice_get opened.wrappers.items index)
-    else None)
+    else (if kind == 3 then Some (string_bytes opened.objects) else None))
 
 -- the name of an index in what was opened
 abbrev pub opened_name_at : Result Opened OpenFailure → ℕ → ℕ → Option (List ℕ)
 opened_name_at (Ok opened) kind index = name_at opened kind index
 opened_name_at (Err failure) kind index = None
 
--- the text of a kind and an index: of kind 0 why a profile is not open, else a name
+-- the text of a kind and an index: of kind 0 why a profile is not open, else a name or the objects
 abbrev pub text_at : Profile → ℕ → ℕ → Option (List ℕ)
 text_at profile kind index =
     if kind == 0 then Some (string_bytes profile.reason)

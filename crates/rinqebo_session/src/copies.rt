@@ -1,4 +1,5 @@
 //! Texts that are copied into a caller's buffer.
+ghost use Rattle.std.specs.Prelude.{◌≡◌};
 ghost use Rattle.rinqebo_session.specs.Copies.{IsCopiedOut};
 
 use crate::status::{DONE, SMALL};
@@ -14,4 +15,13 @@ pub fn copy_out(text: &[u8], out: &mut [u8], needed: &mut usize) -> u32
     }
     out[..length].copy_from_slice(text);
     DONE
+}
+
+/// Says why nothing is written.
+pub fn copy_nothing(why: u32, needed: &mut usize) -> u32
+    ensures status { result ≡ why }
+    ensures needed { needed.new ≡ 0 }
+{
+    *needed = 0;
+    why
 }

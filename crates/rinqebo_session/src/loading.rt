@@ -1,9 +1,12 @@
 //! What a request's files denote.
-ghost use Rattle.std.specs.Prelude.{◌≡◌, IfErr, IfOk, option_map};
+ghost use Rattle.std.specs.Prelude.{◌≡◌, [], IfErr, IfOk, option_map, string_bytes};
 ghost use Rattle.nextest_sources.specs.Sources.{file_view};
+ghost use Rattle.nextest_sources.specs.WarningsView.{warnings_view};
 ghost use Rattle.nextest_rules.specs.KnownView.{features_view};
+ghost use Rattle.nextest_tree.specs.View.{tree_view};
+ghost use Rattle.rinqebo_features.specs.Features.{AreFeaturesBy};
 ghost use Rattle.rinqebo_forms.specs.Requests.{request_view};
-ghost use Rattle.rinqebo_session.specs.Loading.{LoadsBy, IsLoadedBy, IsFailureBy, IsLoadedFrom, IsFailureOf};
+ghost use Rattle.rinqebo_session.specs.Loading.{repository_file, AreFeaturesFor, LoadsBy, IsLoadedBy, IsFailureBy, IsLoadedFrom, IsFailureOf};
 ghost use Rattle.rinqebo_session.specs.Readings.{readings};
 
 use crate::failure::Failure;
@@ -11,22 +14,29 @@ use crate::features::features_of;
 use filter_engine::NextestFilters;
 use nextest_config::{
     BuildPlatforms, ConfigExperimental, ConfigFileSelection, ConfigParseError,
-    DefaultConfigWarnings, NextestConfig, ParseContext,
+    DefaultConfigWarnings, FileInput, NextestConfig, ParseContext, Tree,
 };
 use platform_language::TargetSpecs;
 use platform_table::Platform;
+use rinqebo_features::{features_by, tree_of};
 use rinqebo_forms::{LoadRequest, filters_of, platforms_of};
-use std::alloc::Global;
+use std::alloc::{AllocError, Global};
 use std::collections::BTreeSet;
 
 /// A configuration whose filters and platforms are written in nextest's languages.
 pub type Config = NextestConfig<NextestFilters, TargetSpecs>;
 
-/// A configuration, and the machines of a build.
+/// A configuration, the machines of a build, and the warnings of the load.
 #[derive(Drop)]
 pub struct Loaded {
+    /// The configuration.
     pub config: Config,
+    /// The machines.
     pub platforms: BuildPlatforms<Platform>,
+    /// The warnings, in their order.
+    pub warnings: DefaultConfigWarnings,
+    /// The target directory, if the request gives it.
+    pub target_directory: Option<String>,
 }
 
 /// The files that a request names beside those of tools.
@@ -43,21 +53,57 @@ fn selection_of(asked: &LoadRequest) -> ConfigFileSelection<'_>
     }
 }
 
-/// The configuration of a request's files.
+/// The repository's file: the one that a user named, or else its own.
+fn repository_file(asked: &LoadRequest) -> &FileInput
+    ensures { file_view result.now ≡ repository_file (request_view asked.now) }
+{
+    match &asked.config_file {
+        Some(file) => file,
+        None => &asked.paths.shared,
+    }
+}
+
+/// Features, with those that a document switches on, if there is one.
+fn features_with(
+    named: &BTreeSet<ConfigExperimental>,
+    document: &Option<Tree>,
+) -> Result<BTreeSet<ConfigExperimental>, AllocError>
+    ensures { IfOk result (λ features. AreFeaturesBy (features_view named.now)
+        (option_map tree_view document.now) (features_view features)) }
+{
+    features_by(named, document.as_ref())
+}
+
+/// The features of a load: those that the request switches on, and those that the repository's file
+/// enables.
+fn features_for(
+    alloc: Global,
+    asked: &LoadRequest,
+) -> Result<BTreeSet<ConfigExperimental>, AllocError>
+    ensures { IfOk result (λ features.
+        AreFeaturesFor (request_view asked.now) (features_view features)) }
+{
+    let named = features_of(alloc, asked.features)?;
+    let document = tree_of(alloc, &repository_file(asked).outcome)?;
+    let features = features_with(&named, &document)?;
+    Ok(features)
+}
+
+/// The configuration of a request's files, with its warnings behind those from before.
 fn config_of(
     alloc: Global,
     filters: &NextestFilters,
     features: &BTreeSet<ConfigExperimental>,
     asked: &LoadRequest,
+    warnings: &mut DefaultConfigWarnings,
 ) -> Result<Config, ConfigParseError>
-    ensures { LoadsBy (readings filters.now) (features_view features.now)
-        (request_view asked.now) result }
+    ensures { warnings_view warnings.old ≡ [] → LoadsBy (readings filters.now)
+        (features_view features.now) (request_view asked.now) (warnings_view warnings.new) result }
 {
     let engines = ParseContext {
         filters,
         specs: &TargetSpecs,
     };
-    let mut warnings = DefaultConfigWarnings::new(alloc);
     NextestConfig::from_sources_with_paths(
         alloc,
         &asked.paths,
@@ -65,8 +111,19 @@ fn config_of(
         selection_of(asked),
         &asked.tools,
         features,
-        &mut warnings,
+        warnings,
     )
+}
+
+/// A copy of the target directory, if the request gives it.
+fn target_directory_of(asked: &LoadRequest) -> Result<Option<String>, AllocError>
+    ensures { IfOk result (λ directory.
+        option_map string_bytes directory ≡ (request_view asked.now).target_directory) }
+{
+    match &asked.target_directory {
+        Some(directory) => Ok(Some(directory.clone()?)),
+        None => Ok(None),
+    }
 }
 
 /// What the files of a request denote, with its engines.
@@ -76,9 +133,16 @@ fn loaded_by(alloc: Global, asked: &LoadRequest) -> Result<Loaded, Failure>
 {
     let filters = filters_of(alloc, &asked.metadata)?;
     let platforms = platforms_of(alloc, asked)?;
-    let features = features_of(alloc, asked.features)?;
-    match config_of(alloc, &filters, &features, asked) {
-        Ok(config) => Ok(Loaded { config, platforms }),
+    let features = features_for(alloc, asked)?;
+    let target_directory = target_directory_of(asked)?;
+    let mut warnings = DefaultConfigWarnings::new(alloc);
+    match config_of(alloc, &filters, &features, asked, &mut warnings) {
+        Ok(config) => Ok(Loaded {
+            config,
+            platforms,
+            warnings,
+            target_directory,
+        }),
         Err(error) => Err(Failure::Refused(error)),
     }
 }

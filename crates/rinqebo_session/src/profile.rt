@@ -1,18 +1,22 @@
 //! Profiles of a session, and what they answer.
-ghost use Rattle.std.specs.Prelude.{◌≡◌, ◌↔◌, IfOk, IfErr, IsTrue, map, option_map};
+ghost use Rattle.std.specs.Prelude.{◌≡◌, ◌≢◌, ◌↔◌, IfOk, IfErr, IsTrue, map, option_map, slice_get, string_bytes};
 ghost use Rattle.nextest_load.specs.ConfigView.{groups_view};
 ghost use Rattle.nextest_scripts.specs.ScriptId.{script_text};
-ghost use Rattle.rinqebo_session.specs.Answering.{Answers, AreSized, IsAnswerOf};
-ghost use Rattle.rinqebo_session.specs.Asking.{IsTestFault};
-ghost use Rattle.rinqebo_session.specs.Opening.{group_entry, IsOpened, IsNotOpened, IsProfileIn, IsOpenedIn};
+ghost use Rattle.rinqebo_session.specs.Answering.{Answers, AnswersBy, AnswersTest, AreSized, IsAnswerOf};
+ghost use Rattle.rinqebo_objects.specs.Scripts.{directories_view};
+ghost use Rattle.rinqebo_session.specs.Arguments.{AnswersArgument, AnswersArgumentBy, IsArgumentCopied, IsArgumentOf, IsCopiedOrNone};
+ghost use Rattle.rinqebo_session.specs.Asking.{needs_on, IsFaultIn, IsKnownTest};
+ghost use Rattle.rinqebo_session.specs.Opening.{directories_in, group_entry, IsObjectsText, IsOpened, IsNotOpened, IsProfileIn, IsOpenedIn};
 ghost use Rattle.nextest_engines.specs.Engines.{test_view};
 ghost use Rattle.filter_engine.specs.Engine.{filter_holds};
 ghost use Rattle.rinqebo_session.specs.Readings.{filter_meaning};
+ghost use Rattle.rinqebo_session.specs.Sizes.{test_size};
 ghost use Rattle.rinqebo_session.specs.Texts.{MayNotOpenFor, profile_status, name_at, text_at, IsTextCopied};
 
-use crate::copies::copy_out;
+use crate::copies::{copy_nothing, copy_out};
 use crate::failure::OpenFailure;
 use crate::loading::Loaded;
+use crate::needs::Needs;
 use crate::session::Session;
 use crate::settings::{SettingNumbers, numbers_of};
 use crate::status::{BAD_SIZE, DONE, UNKNOWN_NUMBER};
@@ -20,10 +24,11 @@ use crate::test::{Asked, RequestedTest, TestFault};
 use filter_engine::{NextestFilters, NextestTally};
 use indexmap::IndexMap;
 use nextest_config::{
-    CustomTestGroup, EvaluatableProfile, Filters, ScriptId, TestGroupConfig, TestThreads,
-    WrapperScriptConfig,
+    BuildPlatform, CustomTestGroup, EvaluatableProfile, Filters, ScriptId, TestGroupConfig,
+    TestThreads, WrapperScriptConfig,
 };
 use platform_language::TargetSpecs;
+use rinqebo_objects::{Directories, Surroundings, objects_text};
 use std::alloc::{AllocError, Global};
 use std::collections::BTreeMap;
 use std::mem::size_of;
@@ -46,6 +51,12 @@ pub struct Opened<'a> {
     pub groups: Vec<Group<'a>>,
     /// The ids of the wrapper scripts that it defines.
     pub wrappers: Vec<&'a str>,
+    /// What its filters ask for, for binaries of the host.
+    pub for_host: Needs,
+    /// What its filters ask for, for binaries of the target.
+    pub for_target: Needs,
+    /// Its objects, as a text in JSON.
+    pub objects: String,
 }
 
 /// A profile that was opened, or why it is not open.
@@ -90,6 +101,38 @@ fn ids_of<'a>(
     Ok(ids)
 }
 
+/// The directories that programs are relative to, where the target directory is given.
+fn directories_of(loaded: &Loaded) -> Option<Directories<'_>>
+    ensures { directories_view result ≡ directories_in loaded.now }
+{
+    match &loaded.target_directory {
+        Some(target) => Some(Directories {
+            root: loaded.config.workspace_root(),
+            target: target.as_str(),
+        }),
+        None => None,
+    }
+}
+
+/// The objects of a profile of a configuration, as a text.
+fn objects_of(
+    alloc: Global,
+    loaded: &Loaded,
+    profile: &EvaluatableProfile<'_, NextestFilters, TargetSpecs>,
+) -> Result<String, AllocError>
+    ensures { IfOk result (λ text.
+        IsObjectsText loaded.now profile.now.facts (string_bytes text)) }
+{
+    let profiles = loaded.config.profile_names(alloc)?;
+    let around = Surroundings {
+        profiles: &profiles,
+        warnings: &loaded.warnings,
+        directories: directories_of(loaded),
+    };
+    let text = objects_text(alloc, profile, around)?;
+    Ok(text)
+}
+
 /// The profile of a name in a configuration.
 fn opened_of<'a>(alloc: Global, loaded: &'a Loaded, name: &str) -> Result<Opened<'a>, OpenFailure>
     ensures ok { IfOk result (IsOpened loaded.now name.now) }
@@ -101,10 +144,16 @@ fn opened_of<'a>(alloc: Global, loaded: &'a Loaded, name: &str) -> Result<Opened
     };
     let groups = groups_of(alloc, profile.test_group_config())?;
     let wrappers = ids_of(alloc, &profile.script_config().wrapper)?;
+    let for_host = Needs::of(&profile, BuildPlatform::Host);
+    let for_target = Needs::of(&profile, BuildPlatform::Target);
+    let objects = objects_of(alloc, loaded, &profile)?;
     Ok(Opened {
         profile,
         groups,
         wrappers,
+        for_host,
+        for_target,
+        objects,
     })
 }
 
@@ -141,11 +190,40 @@ fn not_opened<'a>(alloc: Global, failure: OpenFailure) -> Profile<'a>
     }
 }
 
+/// Whether the size in a test is that of this version.
+fn is_sized(test: &RequestedTest<'_>) -> bool
+    ensures { IsTrue result ↔ (test.now.size ≡ test_size) }
+{
+    test.size == size_of::<RequestedTest<'static>>()
+}
+
 /// Whether the sizes in a test and in settings are those of this version.
 fn are_sized(test: &RequestedTest<'_>, settings: &SettingNumbers) -> bool
     ensures { IsTrue result ↔ AreSized test.now settings.now }
 {
     test.size == size_of::<RequestedTest<'static>>() && settings.size == size_of::<SettingNumbers>()
+}
+
+/// The argument of an index, if there is one.
+fn argument_at(arguments: &[String], index: usize) -> Option<&str>
+    ensures { option_map (λ text. text.now) result
+        ≡ slice_get (map string_bytes arguments.now) index }
+{
+    match arguments.get(index) {
+        Some(text) => Some(text.as_str()),
+        None => None,
+    }
+}
+
+/// Copies out a text, if there is one.
+fn copy_text_or_none(text: Option<&str>, out: &mut [u8], needed: &mut usize) -> u32
+    ensures { IsCopiedOrNone (option_map (λ text. text.now) text.entry) out.old out.new needed.new
+        result }
+{
+    match text {
+        Some(text) => copy_out(text.as_bytes(), out, needed),
+        None => copy_nothing(UNKNOWN_NUMBER, needed),
+    }
 }
 
 impl Opened<'_> {
@@ -159,12 +237,36 @@ impl Opened<'_> {
         NextestFilters::matches_test(cx.default_filter, 0, &asked.query, &cx, &mut tally)
     }
 
+    /// What its filters ask for, for binaries of a platform.
+    fn needs_on(&self, platform: BuildPlatform) -> Needs
+        ensures { result ≡ needs_on self.now platform }
+    {
+        match platform {
+            BuildPlatform::Host => self.for_host,
+            BuildPlatform::Target => self.for_target,
+        }
+    }
+
+    /// The test, where it is understood and gives each part that a filter asks for.
+    fn known<'t>(&self, test: &RequestedTest<'t>) -> Result<Asked<'t>, TestFault>
+        ensures ok { IfOk result (λ asked.
+            IsKnownTest self.now test.now (test_view asked.query) asked.mode) }
+        ensures err { IfErr result (IsFaultIn self.now test.now) }
+    {
+        let asked = test.read()?;
+        let needs = self.needs_on(asked.query.binary_query.platform);
+        if needs.are_missing(test) {
+            return Err(TestFault::NotKnown);
+        }
+        Ok(asked)
+    }
+
     /// The settings of a test, as numbers.
     fn answer(&self, test: &RequestedTest<'_>) -> Result<SettingNumbers, TestFault>
         ensures ok { IfOk result (IsAnswerOf self.now test.now) }
-        ensures err { IfErr result (IsTestFault test.now) }
+        ensures err { IfErr result (IsFaultIn self.now test.now) }
     {
-        let asked = test.read()?;
+        let asked = self.known(test)?;
         let mut tally = NextestTally::new();
         let settings = self
             .profile
@@ -173,13 +275,60 @@ impl Opened<'_> {
         Ok(numbers_of(&self.groups, &self.wrappers, &settings, in_default_filter))
     }
 
-    /// The name of a group or of a wrapper: of kind 1 those of groups, of kind 2 those of wrappers.
+    /// Writes the settings of a test, as numbers, or returns why there are none.
+    fn write_answer(&self, test: &RequestedTest<'_>, settings: &mut SettingNumbers) -> u32
+        ensures answers { AnswersTest self.now test.now settings.new result }
+        ensures kept { result ≢ DONE → settings.new ≡ settings.old }
+    {
+        match self.answer(test) {
+            Ok(numbers) => {
+                *settings = numbers;
+                DONE
+            }
+            Err(fault) => fault.status(),
+        }
+    }
+
+    /// The argument of an index that a test is given, if it is given so many.
+    fn argument(&self, test: &RequestedTest<'_>, index: usize) -> Result<Option<&str>, TestFault>
+        ensures ok { IfOk result (λ text.
+            IsArgumentOf self.now test.now index (option_map (λ text. text.now) text)) }
+        ensures err { IfErr result (IsFaultIn self.now test.now) }
+    {
+        let asked = self.known(test)?;
+        let mut tally = NextestTally::new();
+        let settings = self
+            .profile
+            .settings_for(asked.mode, &asked.query, &mut tally);
+        let arguments = settings.run_extra_args();
+        Ok(argument_at(arguments, index))
+    }
+
+    /// Copies out the argument of an index that a test is given, or returns why there is none.
+    fn copy_argument(
+        &self,
+        test: &RequestedTest<'_>,
+        index: usize,
+        out: &mut [u8],
+        needed: &mut usize,
+    ) -> u32
+        ensures { AnswersArgument self.now test.now index out.old out.new needed.new result }
+    {
+        match self.argument(test, index) {
+            Ok(text) => copy_text_or_none(text, out, needed),
+            Err(fault) => copy_nothing(fault.status(), needed),
+        }
+    }
+
+    /// The name of a group or of a wrapper: of kind 1 those of groups, of kind 2 those of wrappers. Of
+    /// kind 3 the objects, whatever the index.
     fn name(&self, kind: u32, index: usize) -> Option<&str>
         ensures { option_map (λ name. name.now) result ≡ name_at self.now kind index }
     {
         match kind {
             1 => self.groups.get(index).map(|group| group.name),
             2 => self.wrappers.get(index).copied(),
+            3 => Some(self.objects.as_str()),
             _ => None,
         }
     }
@@ -210,6 +359,17 @@ impl<'a> Profile<'a> {
         }
     }
 
+    /// Writes the settings of a test, as numbers, where the profile is open.
+    fn ask_if_open(&self, test: &RequestedTest<'_>, settings: &mut SettingNumbers) -> u32
+        ensures answers { AnswersBy self.now.outcome test.now settings.new result }
+        ensures kept { result ≢ DONE → settings.new ≡ settings.old }
+    {
+        match &self.outcome {
+            Ok(opened) => opened.write_answer(test, settings),
+            Err(failure) => failure.status(),
+        }
+    }
+
     /// Writes the settings of a test, as numbers, and returns how it went. Where the size in one of
     /// the two is not this version's, or there are no settings, nothing is written. It takes no
     /// memory.
@@ -219,21 +379,44 @@ impl<'a> Profile<'a> {
         if !are_sized(test, settings) {
             return BAD_SIZE;
         }
-        let opened = match &self.outcome {
-            Ok(opened) => opened,
-            Err(failure) => return failure.status(),
-        };
-        match opened.answer(test) {
-            Ok(numbers) => {
-                *settings = numbers;
-                DONE
-            }
-            Err(fault) => fault.status(),
+        self.ask_if_open(test, settings)
+    }
+
+    /// Copies out the argument of an index that a test is given, where the profile is open.
+    fn copy_argument_if_open(
+        &self,
+        test: &RequestedTest<'_>,
+        index: usize,
+        out: &mut [u8],
+        needed: &mut usize,
+    ) -> u32
+        ensures { AnswersArgumentBy self.now.outcome test.now index out.old out.new needed.new
+            result }
+    {
+        match &self.outcome {
+            Ok(opened) => opened.copy_argument(test, index, out, needed),
+            Err(failure) => copy_nothing(failure.status(), needed),
         }
     }
 
+    /// Copies out the argument of an index that a test is given. It takes no memory.
+    pub fn copy_argument(
+        &self,
+        test: &RequestedTest<'_>,
+        index: usize,
+        out: &mut [u8],
+        needed: &mut usize,
+    ) -> u32
+        ensures { IsArgumentCopied self.now test.now index out.old out.new needed.new result }
+    {
+        if !is_sized(test) {
+            return copy_nothing(BAD_SIZE, needed);
+        }
+        self.copy_argument_if_open(test, index, out, needed)
+    }
+
     /// The text of a kind and an index: of kind 0 why the profile is not open, of kind 1 the name of
-    /// a group, of kind 2 the id of a wrapper.
+    /// a group, of kind 2 the id of a wrapper, of kind 3 the objects.
     fn text(&self, kind: u32, index: usize) -> Option<&str>
         ensures { option_map (λ text. text.now) result ≡ text_at self.now kind index }
     {
@@ -247,7 +430,8 @@ impl<'a> Profile<'a> {
     }
 
     /// Copies out the text of a kind and an index: why the profile is not open, the name of a group,
-    /// or the id of a wrapper.
+    /// the id of a wrapper, or the objects in JSON: what the profile says for a whole run, the groups,
+    /// the scripts, and the warnings of the load.
     pub fn copy_text(&self, kind: u32, index: usize, out: &mut [u8], needed: &mut usize) -> u32
         ensures { IsTextCopied self.now kind index out.old out.new needed.new result }
     {

@@ -22,3 +22,5 @@ pub const NOT_LOADED: u32 = 8;
 pub const UNKNOWN_NUMBER: u32 = 9;
 /// The size in a struct is not that of this version's.
 pub const BAD_SIZE: u32 = 10;
+/// A filter asks for a part of a test that is not given.
+pub const NOT_KNOWN: u32 = 11;

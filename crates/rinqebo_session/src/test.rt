@@ -3,7 +3,7 @@ ghost use Rattle.std.specs.Prelude.{◌≡◌, IfOk, IfErr, MatchOption};
 ghost use Rattle.nextest_engines.specs.Engines.{binary_view, test_view};
 ghost use Rattle.rinqebo_session.specs.Asking.{IsTestOf, IsTestFault, IsBytesFault, IsNoText, platform_numbered, mode_numbered, fault_status, binary_of};
 
-use crate::status::{NOT_TEXT, UNKNOWN_NUMBER};
+use crate::status::{NOT_KNOWN, NOT_TEXT, UNKNOWN_NUMBER};
 use nextest_config::{BinaryQuery, BuildPlatform, NextestRunMode, TestQuery};
 
 /// A test, and what is known of its binary. Its texts are UTF-8.
@@ -28,13 +28,15 @@ pub struct RequestedTest<'a> {
     pub mode: u32,
 }
 
-/// Why a test is not understood.
+/// Why there are no settings of a test.
 #[derive(Clone, Copy, Debug, PartialEq, Eq, Drop)]
 pub enum TestFault {
     /// A text of it is not valid UTF-8.
     NotText,
     /// The number of its platform or its mode stands for nothing.
     UnknownNumber,
+    /// A filter of the profile asks for a part of it that is not given.
+    NotKnown,
 }
 
 impl TestFault {
@@ -45,6 +47,7 @@ impl TestFault {
         match self {
             TestFault::NotText => NOT_TEXT,
             TestFault::UnknownNumber => UNKNOWN_NUMBER,
+            TestFault::NotKnown => NOT_KNOWN,
         }
     }
 }

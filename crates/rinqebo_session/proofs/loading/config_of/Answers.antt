@@ -11,7 +11,7 @@ use Rattle.rinqebo_session.specs.Readings.{filter_meaning, readings}
 use Rattle.rinqebo_session.proofs.loading.config_of.Goals as goal
 
 pub returns : goal.returns
-returns c =
+returns c = λ empty.
     let call = c.from_sources_with_paths in
     let asked = c.args.asked.now in
     let selected = c.selection_of in
@@ -29,10 +29,9 @@ returns c =
     }) before told call.result in
     let own = option_map file_view asked.organisation_file in
     record {
-      warnings = told;
       loads = subst (λ explicit. Loads explicit own asked.tools.items []) selected.ensures.config_file
           (subst (λ org. Loads named org asked.tools.items []) selected.ensures.organisation
           (subst (λ tools. Loads named organisation tools []) c.deref.ensures.value
-          (subst (Loads named organisation c.deref.result.now) c.new-warnings.ensures call.ensures.loads)));
+          (subst (Loads named organisation c.deref.result.now) empty call.ensures.loads)));
       root = λ config is. subst (λ r. IfOk r (λ made. made.root ≡ string_bytes asked.paths.workspace_root)) is call.ensures.root;
     }

@@ -33,4 +33,7 @@ returns-clause-ok c =
           ∙ sym (fused (λ e. e.0) (λ e. (script_text e.0, wrapper_script_view e.1))
           c.script_config.result.now.wrapper.entries)
           ∙ ap (λ scripts. names_in scripts.wrapper) c.script_config.ensures;
+      for_host = c.of-for_host.ensures;
+      for_target = c.of-for_target.ensures;
+      objects = c.in_ok-objects.ensures;
     }

@@ -22,7 +22,7 @@ returns-clause-ok c =
       size = c.numbers_of.ensures.size;
       test = test_view asked.query;
       mode = asked.mode;
-      is_test = c.in_ok-asked.ensures.ok;
+      is_known = c.in_ok-asked.ensures.ok;
       numbers = numbers_by opened.groups.items opened.wrappers.items value
           (setting_value (query_in filter_holds profile (test_view asked.query)) asked.mode profile) n
           settings.ensures.settings.values

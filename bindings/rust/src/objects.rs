@@ -1,0 +1,284 @@
+//! What a runner needs of a profile beside the settings of tests.
+
+use crate::document::{Finding, Level};
+use crate::settings::{Group, GroupThreads, LeakTimeout};
+use crate::spelled;
+use serde::{Deserialize, Serialize};
+use std::collections::BTreeMap;
+use std::path::{Path, PathBuf};
+use std::time::Duration;
+
+/// How many tests of a run run at a time.
+pub type TestThreads = GroupThreads;
+
+/// After how many failures a run ends.
+#[derive(Clone, Copy, Debug, PartialEq, Eq, Serialize, Deserialize)]
+#[serde(from = "spelled::CountOr", into = "spelled::CountOr")]
+pub enum MaxFail {
+    Count(u64),
+    /// It runs all tests.
+    All,
+}
+
+/// How long a whole run may take.
+#[derive(Clone, Copy, Debug, PartialEq, Eq, Serialize, Deserialize)]
+#[serde(rename_all = "kebab-case")]
+#[non_exhaustive]
+pub struct GlobalTimeout {
+    #[serde(with = "spelled::duration")]
+    pub test: Duration,
+    #[serde(with = "spelled::duration")]
+    pub benchmark: Duration,
+}
+
+/// Which tests are shown as they end.
+#[derive(Clone, Copy, Debug, PartialEq, Eq, Serialize, Deserialize)]
+#[serde(rename_all = "kebab-case")]
+pub enum StatusLevel {
+    None,
+    Fail,
+    Retry,
+    Slow,
+    Leak,
+    Pass,
+    Skip,
+    All,
+}
+
+/// Which tests are shown at the end of a run.
+#[derive(Clone, Copy, Debug, PartialEq, Eq, Serialize, Deserialize)]
+#[serde(rename_all = "kebab-case")]
+pub enum FinalStatusLevel {
+    None,
+    Fail,
+    Flaky,
+    Slow,
+    Skip,
+    Leak,
+    Pass,
+    All,
+}
+
+/// The report of a run.
+#[derive(Clone, Debug, PartialEq, Eq, Serialize, Deserialize)]
+#[serde(rename_all = "kebab-case")]
+#[non_exhaustive]
+pub struct JunitFile {
+    /// Where it is written.
+    pub path: String,
+    /// The name that it gives itself.
+    pub report_name: String,
+}
+
+/// What a profile says for a whole run.
+#[derive(Clone, Debug, PartialEq, Eq, Serialize, Deserialize)]
+#[serde(rename_all = "kebab-case")]
+#[non_exhaustive]
+pub struct RunSettings {
+    /// The name of the profile.
+    pub profile: String,
+    /// The profile that it inherits from, as it writes it.
+    pub inherits: Option<String>,
+    /// The names of all profiles.
+    pub profiles: Vec<String>,
+    pub test_threads: TestThreads,
+    pub max_fail: MaxFail,
+    pub global_timeout: GlobalTimeout,
+    pub status_level: StatusLevel,
+    pub final_status_level: FinalStatusLevel,
+    /// The report of the run, if one is written.
+    pub junit: Option<JunitFile>,
+    /// The directory in which the profile stores what it writes.
+    pub store_dir: String,
+    /// The arguments that a test is given where no rule says so.
+    pub run_extra_args: Vec<String>,
+}
+
+/// What a program is relative to.
+#[derive(Clone, Copy, Debug, PartialEq, Eq, Serialize, Deserialize)]
+#[serde(rename_all = "kebab-case")]
+pub enum RelativeTo {
+    None,
+    WorkspaceRoot,
+    Target,
+}
+
+/// The command of a script.
+#[derive(Clone, Debug, PartialEq, Eq, Serialize, Deserialize)]
+#[serde(rename_all = "kebab-case")]
+#[non_exhaustive]
+pub struct Command {
+    /// The program: joined to the directory that it is relative to, where the target directory was given.
+    pub program: String,
+    pub args: Vec<String>,
+    /// The environment variables that it sets.
+    pub env: BTreeMap<String, String>,
+    pub relative_to: RelativeTo,
+}
+
+impl Command {
+    /// The command as the standard library runs it.
+    pub fn to_std(&self) -> std::process::Command {
+        let mut command = std::process::Command::new(&self.program);
+        command.args(&self.args).envs(&self.env);
+        command
+    }
+}
+
+/// When a setup script counts as slow, and when it is ended.
+#[derive(Clone, Copy, Debug, PartialEq, Eq, Serialize, Deserialize)]
+#[serde(rename_all = "kebab-case")]
+#[non_exhaustive]
+pub struct ScriptTimeout {
+    #[serde(with = "spelled::duration")]
+    pub period: Duration,
+    /// After how many periods it is ended.
+    pub terminate_after: Option<u64>,
+    #[serde(with = "spelled::duration")]
+    pub grace_period: Duration,
+}
+
+/// What a report keeps of a setup script.
+#[derive(Clone, Copy, Debug, PartialEq, Eq, Serialize, Deserialize)]
+#[serde(rename_all = "kebab-case")]
+#[non_exhaustive]
+pub struct ScriptReport {
+    pub store_success_output: bool,
+    pub store_failure_output: bool,
+}
+
+/// A script that runs once, before the tests that want it.
+#[derive(Clone, Debug, PartialEq, Eq, Serialize, Deserialize)]
+#[serde(rename_all = "kebab-case")]
+#[non_exhaustive]
+pub struct SetupScript {
+    pub id: String,
+    pub command: Command,
+    pub slow_timeout: Option<ScriptTimeout>,
+    pub leak_timeout: Option<LeakTimeout>,
+    pub capture_stdout: bool,
+    pub capture_stderr: bool,
+    pub junit: ScriptReport,
+}
+
+/// What a wrapper makes of the runner of a target.
+#[derive(Clone, Copy, Debug, PartialEq, Eq, Serialize, Deserialize)]
+#[serde(rename_all = "kebab-case")]
+pub enum TargetRunner {
+    Ignore,
+    OverridesWrapper,
+    WithinWrapper,
+    AroundWrapper,
+}
+
+/// A script that runs round tests, or round binaries that list their tests.
+#[derive(Clone, Debug, PartialEq, Eq, Serialize, Deserialize)]
+#[serde(rename_all = "kebab-case")]
+#[non_exhaustive]
+pub struct WrapperScript {
+    pub id: String,
+    pub command: Command,
+    pub target_runner: TargetRunner,
+}
+
+/// The objects of a profile, as the library writes them in JSON.
+#[derive(Clone, Debug, PartialEq, Eq, Serialize, Deserialize)]
+#[serde(rename_all = "kebab-case")]
+#[non_exhaustive]
+pub struct Objects {
+    pub run: RunSettings,
+    /// The groups that the configuration defines, by name.
+    pub groups: Vec<Group>,
+    /// The setup scripts that it defines, in the order in which they run.
+    pub setup_scripts: Vec<SetupScript>,
+    /// The wrapper scripts that it defines.
+    pub wrappers: Vec<WrapperScript>,
+    /// The warnings of the load.
+    #[serde(rename = "findings")]
+    pub warnings: Vec<Warning>,
+}
+
+/// A warning of a load, as the library writes it in JSON.
+#[derive(Clone, Debug, PartialEq, Eq, Serialize, Deserialize)]
+#[non_exhaustive]
+pub struct Warning {
+    /// Its code, as `unknown-key`.
+    pub code: String,
+    /// The path of the file.
+    pub file: String,
+    /// The paths of keys, or the names of profiles.
+    pub names: Vec<String>,
+    pub profile: Option<String>,
+    /// How many rules it is about.
+    pub count: Option<u64>,
+}
+
+impl Warning {
+    /// The name that nextest-runner has for it.
+    fn upstream(&self) -> Option<&'static str> {
+        match self.code.as_str() {
+            "unknown-key" => Some("UnknownConfigKeys"),
+            "reserved-profile" => Some("UnknownReservedProfiles"),
+            "old-script-table" => Some("DeprecatedScriptConfig"),
+            "empty-script-rule" => Some("EmptyScriptSections"),
+            _ => None,
+        }
+    }
+
+    fn finding(&self, path: Option<String>, message: String) -> Finding {
+        Finding {
+            code: self.code.clone(),
+            upstream: self.upstream().map(str::to_owned),
+            level: Level::Warning,
+            message,
+            path,
+            file: Some(self.file.clone()),
+            source: None,
+            lines: None,
+            range: None,
+            column: None,
+            expression: None,
+            span: None,
+            expected: None,
+            help: None,
+            notes: Vec::new(),
+        }
+    }
+
+    /// The findings that a whole run reports for it, one for each of its names, without places in the file, help
+    /// and notes. The message of an unknown key says only that the key has no effect.
+    pub fn findings(&self) -> Vec<Finding> {
+        let of_names = |words: fn(&str) -> (String, String)| {
+            let findings = self.names.iter().map(|name| words(name));
+            findings.map(|(path, message)| self.finding(Some(path), message)).collect()
+        };
+        match (self.code.as_str(), &self.profile, self.count) {
+            ("unknown-key", _, _) => of_names(|path| (path.to_owned(), format!("`{path}` has no effect"))),
+            ("reserved-profile", _, _) => of_names(|name| {
+                let message = format!("`{name}`: names of profiles that begin with `default-` are nextest's own");
+                (format!("profile.{name}"), message)
+            }),
+            ("old-script-table", _, _) => {
+                let message = "the table `script` is the old place of setup scripts".to_owned();
+                vec![self.finding(Some("script".to_owned()), message)]
+            }
+            ("empty-script-rule", Some(profile), Some(count)) => {
+                let path = format!("profile.{profile}.scripts");
+                vec![self.finding(Some(path), format!("rules that name no script: {count}"))]
+            }
+            (code, _, _) => vec![self.finding(None, code.to_owned())],
+        }
+    }
+}
+
+impl RunSettings {
+    /// The directory in which the profile stores what it writes, as a path.
+    pub fn store(&self) -> &Path {
+        Path::new(&self.store_dir)
+    }
+
+    /// Where the report of the run is written, if one is.
+    pub fn junit_path(&self) -> Option<PathBuf> {
+        self.junit.as_ref().map(|junit| PathBuf::from(&junit.path))
+    }
+}

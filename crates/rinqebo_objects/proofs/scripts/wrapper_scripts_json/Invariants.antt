@@ -1,0 +1,13 @@
+use Rattle.std.proofs.Common.{◌≡◌, ◌++◌, map}
+use Rattle.nextest_scripts.specs.ScriptId.{script_text}
+use Rattle.nextest_scripts.specs.ScriptTexts.{wrapper_script_view}
+use Rattle.serde_json.specs.View.{view}
+use Rattle.rinqebo_objects.specs.Scripts.{directories_view, wrapper_script_data}
+use Rattle.rinqebo_objects.proofs.scripts.wrapper_scripts_json.Given as goal
+
+-- the scripts so far, with those that are left
+abbrev pub invariant-loop-id : goal.invariant-loop-id
+invariant-loop-id l =
+    map view l.list.items
+    ++ map (wrapper_script_data (directories_view l.directories)) (map (λ e. (script_text e.0, wrapper_script_view e.1)) l.id-iterator)
+    ≡ map (wrapper_script_data (directories_view l.directories)) (map (λ e. (script_text e.0, wrapper_script_view e.1)) l.scripts.entries)

@@ -1,0 +1,4 @@
+pub mod Values
+pub mod Scripts
+pub mod Objects
+pub mod WarningObjects

@@ -1,0 +1,14 @@
+//! What a runner needs of a profile beside the settings of tests, as JSON: the values of a whole run,
+//! the test groups, and the scripts with their commands.
+#![tactic(auto)]
+
+mod groups;
+mod objects;
+mod run;
+mod scripts;
+mod values;
+mod warnings;
+
+pub use objects::{Surroundings, objects_text};
+pub use run::RunValues;
+pub use scripts::Directories;
