@@ -602,7 +602,7 @@ status-level = "retry"
 global-timeout = "1h"
 [profile.ci]
 inherits = "quick"
-max-fail = 3
+fail-fast = { max-fail = 3 }
 run-extra-args = ["--show-output"]
 [profile.ci.junit]
 path = "junit.xml"
