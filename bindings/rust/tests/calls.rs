@@ -602,7 +602,7 @@ status-level = "retry"
 global-timeout = "1h"
 [profile.ci]
 inherits = "quick"
-max-fail = 3
+fail-fast = { max-fail = 3 }
 run-extra-args = ["--show-output"]
 [profile.ci.junit]
 path = "junit.xml"
@@ -653,7 +653,7 @@ fn a_profile_says_what_a_run_needs() {
     assert_eq!(config.profiles().unwrap(), run.profiles);
     let run = config.profile("default").unwrap().run().unwrap();
     assert_eq!((run.inherits, run.max_fail, run.junit), (None, MaxFail::Count(1), None));
-    assert_eq!(run.final_status_level, FinalStatusLevel::Fail);
+    assert_eq!(run.final_status_level, FinalStatusLevel::Flaky);
     assert_eq!(config.profile("ci").unwrap().chain().unwrap(), ["ci", "quick", "default"]);
     assert_eq!(config.profile("default").unwrap().chain().unwrap(), ["default"]);
     let groups = config.groups().unwrap();
