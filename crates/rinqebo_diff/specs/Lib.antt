@@ -1,0 +1,11 @@
+pub mod Matched
+pub mod Compared
+pub mod Loaded
+pub mod Sides
+pub mod RunRows
+pub mod RunChanges
+pub mod Failing
+pub mod Statuses
+pub mod Written
+pub mod Differences
+pub mod Evaluated

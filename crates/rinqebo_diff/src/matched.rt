@@ -1,0 +1,115 @@
+//! The tests that two lists have in common, and those that one has alone.
+ghost use Rattle.std.specs.Prelude.{◌≡◌, false, IfOk, MatchOption, filter, map, not};
+ghost use Rattle.nextest_lists.specs.ListView.{list_test_view};
+ghost use Rattle.rinqebo_diff.specs.Matched.{same_test, is_in, pair_view, IsPlaceOf, ArePairs, AreMatched};
+
+use nextest_lists::ListedTest;
+use std::alloc::{AllocError, Global};
+
+/// A test that both lists have.
+#[derive(Clone, Copy)]
+pub struct Pair<'q> {
+    /// The test of the left list.
+    pub from: ListedTest<'q>,
+    /// The test of the right list.
+    pub to: ListedTest<'q>,
+}
+
+/// The tests of two lists.
+#[derive(Drop)]
+pub struct Matched<'q> {
+    /// The tests that both lists have, in the order of the right list.
+    pub pairs: Vec<Pair<'q>>,
+    /// The tests of the left list alone, in its order.
+    pub removed: Vec<ListedTest<'q>>,
+    /// The tests of the right list alone, in its order.
+    pub added: Vec<ListedTest<'q>>,
+}
+
+/// Whether two tests have the same binary and the same name.
+fn is_same_test(a: &ListedTest<'_>, b: &ListedTest<'_>) -> bool
+    ensures { result ≡ same_test (list_test_view a.now) (list_test_view b.now) }
+{
+    a.query.binary_query.binary_id == b.query.binary_query.binary_id
+        && a.query.test_name == b.query.test_name
+}
+
+/// The first place of a test among tests, if it is one of them.
+fn first_place(tests: &[ListedTest<'_>], test: &ListedTest<'_>) -> Option<usize>
+    ensures { MatchOption result
+        (is_in (map list_test_view tests.now) (list_test_view test.now) ≡ false)
+        (IsPlaceOf (map list_test_view tests.now) (list_test_view test.now)) }
+{
+    tests.iter().position(|one| is_same_test(one, test))
+}
+
+/// The place of a test among tests, if it is one of them. It is looked for at a place first.
+fn place_of(tests: &[ListedTest<'_>], test: &ListedTest<'_>, guess: usize) -> Option<usize>
+    ensures { MatchOption result
+        (is_in (map list_test_view tests.now) (list_test_view test.now) ≡ false)
+        (IsPlaceOf (map list_test_view tests.now) (list_test_view test.now)) }
+{
+    match tests.get(guess) {
+        Some(one) if is_same_test(one, test) => Some(guess),
+        _ => first_place(tests, test),
+    }
+}
+
+/// The tests of a list that another list does not have.
+fn alone<'q>(
+    alloc: Global,
+    tests: &[ListedTest<'q>],
+    others: &[ListedTest<'q>],
+) -> Result<Vec<ListedTest<'q>>, AllocError>
+    ensures { IfOk result (λ found. map list_test_view found.items
+        ≡ filter (λ t. not (is_in (map list_test_view others.now) t))
+        (map list_test_view tests.now)) }
+{
+    let mut found = Vec::new(alloc);
+    let mut guess = 0usize;
+    for test in tests {
+        match place_of(others, test, guess) {
+            Some(place) => guess = place + 1,
+            None => found.push(*test)?,
+        }
+    }
+    Ok(found)
+}
+
+/// The tests that both lists have, in the order of the right list.
+fn pairs_of<'q>(
+    alloc: Global,
+    from: &[ListedTest<'q>],
+    to: &[ListedTest<'q>],
+) -> Result<Vec<Pair<'q>>, AllocError>
+    ensures { IfOk result (λ pairs. ArePairs (map list_test_view from.now)
+        (map list_test_view to.now) (map pair_view pairs.items)) }
+{
+    let mut pairs = Vec::new(alloc);
+    let mut guess = 0usize;
+    for test in to {
+        if let Some(place) = place_of(from, test, guess) {
+            guess = place + 1;
+            pairs.push(Pair {
+                from: from[place],
+                to: *test,
+            })?;
+        }
+    }
+    Ok(pairs)
+}
+
+/// The tests of two lists: those that both have, and those that one has alone.
+pub fn match_tests<'q>(
+    alloc: Global,
+    from: &[ListedTest<'q>],
+    to: &[ListedTest<'q>],
+) -> Result<Matched<'q>, AllocError>
+    ensures { IfOk result (AreMatched (map list_test_view from.now) (map list_test_view to.now)) }
+{
+    Ok(Matched {
+        pairs: pairs_of(alloc, from, to)?,
+        removed: alone(alloc, from, to)?,
+        added: alone(alloc, to, from)?,
+    })
+}
