@@ -10,8 +10,8 @@ use Rattle.rinqebo_changes.specs.declared.change.TestChanges.{TestChanges}
 use Rattle.rinqebo_report.specs.declared.report.TestRows.{TestRows}
 use Rattle.rinqebo_rules.specs.TestOrigins.{Basis}
 use Rattle.rinqebo_diff.specs.Compared.{AreCompared, IsComparedBy}
-use Rattle.rinqebo_diff.specs.Matched.{TestPair}
-use Rattle.rinqebo_diff.proofs.Zips.{zip_push}
+use Rattle.rinqebo_sides.specs.Matched.{TestPair}
+use Rattle.rinqebo_sides.proofs.Zips.{zip_push}
 
 kept_more : {X : Type 0} (rs : List (Option X)) (r : Option X)
     → filter_map (λ q. q) (rs ++ r ∷ []) ≡ filter_map (λ q. q) rs ++ option_to_list r

@@ -24,7 +24,7 @@ use Rattle.rinqebo_changes.specs.declared.change.TestChanges.{TestChanges}
 use Rattle.rinqebo_changes.proofs.SameValues.{setting_decides}
 use Rattle.rinqebo_diff.specs.Compared.{AreCompared, IsComparedBy}
 use Rattle.rinqebo_diff.specs.Differences.{SideReports, compares_runs}
-use Rattle.rinqebo_diff.specs.Matched.{IsOneTest, TestPair}
+use Rattle.rinqebo_sides.specs.Matched.{IsOneTest, TestPair}
 use Rattle.rinqebo_diff.specs.Sides.{Evaluation}
 
 -- a reported value without how it is kept

@@ -1,8 +1,6 @@
-pub mod Matched
 pub mod Compared
 pub mod Loaded
 pub mod Sides
-pub mod RunRows
 pub mod RunChanges
 pub mod Failing
 pub mod Statuses

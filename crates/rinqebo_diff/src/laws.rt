@@ -8,7 +8,7 @@ ghost use Rattle.rinqebo_report.specs.declared.origin.Source.{Source as File};
 ghost use Rattle.rinqebo_request.specs.declared.request.RequestedSettings.{RequestedSettings as Asked};
 ghost use Rattle.rinqebo_diff.specs.Compared.{AreCompared};
 ghost use Rattle.rinqebo_diff.specs.Differences.{SideReports, compares_runs};
-ghost use Rattle.rinqebo_diff.specs.Matched.{IsOneTest, TestPair};
+ghost use Rattle.rinqebo_sides.specs.Matched.{IsOneTest, TestPair};
 ghost use Rattle.rinqebo_diff.specs.Sides.{Evaluation};
 
 /// Nothing changes between a side and itself: by the same session, profile and mode each test has

@@ -10,11 +10,9 @@ mod format;
 mod gathering;
 mod laws;
 mod loaded;
-mod matched;
 mod options;
 mod perform;
 mod request;
-mod run_rows;
 mod sides;
 mod words;
 

@@ -7,15 +7,13 @@ ghost use Rattle.rinqebo_changes.specs.Changes.{is_change};
 ghost use Rattle.rinqebo_diff.specs.Compared.{AreCompared};
 ghost use Rattle.rinqebo_diff.specs.Differences.{SideReports, compares_runs, IsCountOf, IsDiffOf, IsIdOf};
 ghost use Rattle.rinqebo_diff.specs.Evaluated.{evaluation_of, IsDiffOfLoaded};
-ghost use Rattle.rinqebo_diff.specs.Matched.{pair_view};
+ghost use Rattle.rinqebo_sides.specs.Matched.{pair_view};
 ghost use Rattle.rinqebo_diff.specs.RunChanges.{AreRunChangesIf, AreRunRowsOf};
 ghost use Rattle.rinqebo_diff.specs.Sides.{IsSideOf};
 
 use crate::compared::{TestLister, compared};
 use crate::loaded::Loaded;
-use crate::matched::{Pair, match_tests};
 use crate::request::{DiffRequest, DiffSide};
-use crate::run_rows::run_rows;
 use nextest_lists::{ListedBinary, ListedTest};
 use rinqebo_changes::{
     BinaryTests, Comparison, Diff, RowChange, Side, TestChanges, TwoSources, keyed_changes,
@@ -26,6 +24,7 @@ use rinqebo_report::{SettingRow, TestId};
 use rinqebo_request::RequestedSettings;
 use rinqebo_rules::{Origins, Progress, reported_platform};
 use rinqebo_run::{Profile, entries_in, profile_on, requested_of, scripts_of_list};
+use rinqebo_sides::{Pair, match_tests, run_rows};
 use std::alloc::{AllocError, Global};
 
 /// What a side is compared by.

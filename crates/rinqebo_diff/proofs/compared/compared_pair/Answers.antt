@@ -1,4 +1,4 @@
-use Rattle.rinqebo_diff.specs.Matched.{pair_view}
+use Rattle.rinqebo_sides.specs.Matched.{pair_view}
 use Rattle.rinqebo_diff.proofs.Comparing.{compared_by}
 use Rattle.rinqebo_diff.proofs.compared.compared_pair.Goals as goal
 

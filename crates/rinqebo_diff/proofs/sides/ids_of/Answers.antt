@@ -1,6 +1,6 @@
 use Rattle.nextest_lists.specs.ListView.{list_test_view}
 use Rattle.rinqebo_diff.specs.Differences.{IsIdOf}
-use Rattle.rinqebo_diff.proofs.Zips.{zip_more}
+use Rattle.rinqebo_sides.proofs.Zips.{zip_more}
 use Rattle.rinqebo_diff.proofs.sides.ids_of.Goals as goal
 
 pub loop-test-preserved : goal.loop-test-preserved

@@ -1,7 +1,7 @@
 //! The tests that two lists have in common, and those that one has alone.
 ghost use Rattle.std.specs.Prelude.{◌≡◌, false, IfOk, MatchOption, filter, map, not};
 ghost use Rattle.nextest_lists.specs.ListView.{list_test_view};
-ghost use Rattle.rinqebo_diff.specs.Matched.{same_test, is_in, pair_view, IsPlaceOf, ArePairs, AreMatched};
+ghost use Rattle.rinqebo_sides.specs.Matched.{same_test, is_in, pair_view, IsPlaceOf, ArePairs, AreMatched};
 
 use nextest_lists::ListedTest;
 use std::alloc::{AllocError, Global};

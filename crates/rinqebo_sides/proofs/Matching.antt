@@ -12,9 +12,9 @@ use Rattle.std.specs.Prelude.{slice_get}
 use Rattle.nextest_lists.specs.Lists.{ListTest}
 use Rattle.nextest_lists.specs.ListView.{list_test_view}
 use Rattle.nextest_lists.specs.declared.list.ListedTest.{ListedTest}
-use Rattle.rinqebo_diff.specs.Matched.{same_test, is_in, pair_view, TestPair, IsPlaceOf, IsPairOf, ArePairs}
-use Rattle.rinqebo_diff.specs.declared.matched.Pair.{Pair}
-use Rattle.rinqebo_diff.proofs.Zips.{taken_more}
+use Rattle.rinqebo_sides.specs.Matched.{same_test, is_in, pair_view, TestPair, IsPlaceOf, IsPairOf, ArePairs}
+use Rattle.rinqebo_sides.specs.declared.matched.Pair.{Pair}
+use Rattle.rinqebo_sides.proofs.Zips.{taken_more}
 
 -- whether a listed test is the same as a test
 abbrev pub is_it : ListTest → ListedTest → Bool

@@ -3,8 +3,8 @@ use Rattle.std.specs.Prelude.{◌≡◌, ℕ, ◌<◌, ◌&&◌, Bool, true, Lis
 use Rattle.std.specs.List.{All, Contains, list_any}
 use Rattle.nextest_lists.specs.Lists.{ListTest}
 use Rattle.nextest_lists.specs.ListView.{list_test_view}
-use Rattle.rinqebo_diff.specs.declared.matched.Matched.{Matched}
-use Rattle.rinqebo_diff.specs.declared.matched.Pair.{Pair}
+use Rattle.rinqebo_sides.specs.declared.matched.Matched.{Matched}
+use Rattle.rinqebo_sides.specs.declared.matched.Pair.{Pair}
 
 -- A test of the left list and one of the right list.
 pub record TestPair : Type 0 where

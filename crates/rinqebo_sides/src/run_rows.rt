@@ -2,7 +2,7 @@
 //! setting for, setup scripts, and what wraps binaries while they list their tests.
 ghost use Rattle.std.specs.Prelude.{◌≡◌, IfOk, OnOk, filter};
 ghost use Rattle.std.specs.List.{AllZip};
-ghost use Rattle.rinqebo_diff.specs.RunRows.{is_end, is_below, is_of_setting, is_of_tests, is_of_run, IsEntryRow, AddsEntry, IsSetupRow, IsWrapperRow, AreRunRows};
+ghost use Rattle.rinqebo_sides.specs.RunRows.{is_end, is_below, is_of_setting, is_of_tests, is_of_run, IsEntryRow, AddsEntry, IsSetupRow, IsWrapperRow, AreRunRows};
 
 use nextest_config::{NextestRunMode, Setting};
 use rinqebo_report::{Entry, ListScripts, ListWrapper, Scalar, SettingRow, Value};

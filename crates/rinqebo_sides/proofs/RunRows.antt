@@ -7,8 +7,8 @@ use Rattle.std.proofs.lemmas.List.Folds.{list_any-append, list_any_at}
 use Rattle.std.specs.List.{AllZip, list_any}
 use Rattle.rinqebo_report.specs.declared.report.Entry.{Entry}
 use Rattle.rinqebo_report.specs.declared.report.SettingRow.{SettingRow}
-use Rattle.rinqebo_diff.specs.RunRows.{is_of_run, IsEntryRow, AddsEntry}
-use Rattle.rinqebo_diff.proofs.Zips.{zip_behind}
+use Rattle.rinqebo_sides.specs.RunRows.{is_of_run, IsEntryRow, AddsEntry}
+use Rattle.rinqebo_sides.proofs.Zips.{zip_behind}
 
 -- one more leaf
 pub entries_more : (done : List Entry) (entry : Entry) (old new : List SettingRow)

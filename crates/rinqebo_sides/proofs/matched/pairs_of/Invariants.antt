@@ -1,7 +1,7 @@
 use Rattle.std.proofs.Common.{map, take}
 use Rattle.nextest_lists.specs.ListView.{list_test_view}
-use Rattle.rinqebo_diff.specs.Matched.{ArePairs, pair_view}
-use Rattle.rinqebo_diff.proofs.matched.pairs_of.Given as goal
+use Rattle.rinqebo_sides.specs.Matched.{ArePairs, pair_view}
+use Rattle.rinqebo_sides.proofs.matched.pairs_of.Given as goal
 
 -- the pairs of the tests so far
 abbrev pub invariant-loop-test : goal.invariant-loop-test

@@ -1,7 +1,7 @@
 use Rattle.std.proofs.Common.{◌≡◌, filter, map, not, take}
 use Rattle.nextest_lists.specs.ListView.{list_test_view}
-use Rattle.rinqebo_diff.specs.Matched.{is_in}
-use Rattle.rinqebo_diff.proofs.matched.alone.Given as goal
+use Rattle.rinqebo_sides.specs.Matched.{is_in}
+use Rattle.rinqebo_sides.proofs.matched.alone.Given as goal
 
 -- the tests so far that the others do not have
 abbrev pub invariant-loop-test : goal.invariant-loop-test

@@ -1,0 +1,9 @@
+//! What two sides of a comparison have: the tests of their lists that both have, and what each
+//! gives to the whole run.
+#![tactic(auto)]
+
+mod matched;
+mod run_rows;
+
+pub use matched::{Matched, Pair, match_tests};
+pub use run_rows::run_rows;
