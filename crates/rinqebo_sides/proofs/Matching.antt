@@ -1,8 +1,8 @@
 -- Tests of two lists that are looked for in each other.
 use Rattle.std.proofs.Common.{◌≡◌, ◌∙◌, ℕ, ◌+◌, ◌<◌, ◌≤◌, ◌||◌, Bool, true, false, cond, ltb, not, List, [], ◌∷◌, ◌++◌, Option, None, Some, MatchOption, option_map, length, map, filter, take, get_or, refl, sym, ap, subst, arith, inl, inr, zero, suc}
 use Rattle.std.proofs.lemmas.Bool.{ltb-true, ltb-false}
-use Rattle.std.proofs.lemmas.List.{append-nil, get_or-map, length-map}
-use Rattle.std.proofs.lemmas.List.Elements.{All-push, Contains-get_or, filter-append}
+use Rattle.std.proofs.lemmas.List.{append-nil, length-map}
+use Rattle.std.proofs.lemmas.List.Elements.{All-append, All-cons, All-nil, filter-append}
 use Rattle.std.proofs.lemmas.List.Folds.{list_any_none}
 use Rattle.std.proofs.lemmas.List.Sums.{fails_before_first, passes_at_first}
 use Rattle.std.proofs.lemmas.Option.{get_or_from_slice_get, slice_get_cases, slice_get-get_or}
@@ -12,7 +12,7 @@ use Rattle.std.specs.Prelude.{slice_get}
 use Rattle.nextest_lists.specs.Lists.{ListTest}
 use Rattle.nextest_lists.specs.ListView.{list_test_view}
 use Rattle.nextest_lists.specs.declared.list.ListedTest.{ListedTest}
-use Rattle.rinqebo_sides.specs.Matched.{same_test, is_in, pair_view, TestPair, IsPlaceOf, IsPairOf, ArePairs}
+use Rattle.rinqebo_sides.specs.Matched.{same_test, is_in, pair_view, TestPair, IsPlaceOf, IsPairOf, AddsPair, ArePairs}
 use Rattle.rinqebo_sides.specs.declared.matched.Pair.{Pair}
 use Rattle.rinqebo_sides.proofs.Zips.{taken_more}
 
@@ -92,75 +92,97 @@ in_at tests test i at = found tests i at.here
     behind true q h = refl
     behind false q h = h
 
--- one more test that passes a test, or does not
-pub filter_one : {X : Type 0} (p : X → Bool) (xs : List X) (x : X) (b : Bool) → p x ≡ b
-    → filter p (xs ++ x ∷ []) ≡ filter p xs ++ cond b (x ∷ []) []
-filter_one p xs x b is =
-    filter-append p xs (x ∷ []) ∙ ap (λ c. filter p xs ++ cond c (x ∷ []) []) is
+-- a test that the other list has is left out
+pub kept_out : (others : List ListTest) (test : ListTest) (xs : List ListTest) → is_in others test ≡ true
+    → xs ≡ xs ++ filter (λ t. not (is_in others t)) (test ∷ [])
+kept_out others test xs some = sym (append-nil xs) ∙ ap (λ b. xs ++ cond (not b) (test ∷ []) []) (sym some)
 
--- one more test that the other list does not have
+-- a test that it does not have is put in
+pub put_in : (others : List ListTest) (test : ListedTest) (old new : List ListedTest)
+    → is_in others (list_test_view test) ≡ false → new ≡ old ++ test ∷ []
+    → map list_test_view new
+    ≡ map list_test_view old ++ filter (λ t. not (is_in others t)) (list_test_view test ∷ [])
+put_in others test old new none then =
+    ap (map list_test_view) then ∙ map-append list_test_view old (test ∷ [])
+    ∙ ap (λ b. map list_test_view old ++ cond (not b) (list_test_view test ∷ []) []) (sym none)
+
+-- one more test is put in or left out
 pub alone_more : (others : List ListTest) (tests : List ListedTest) (i : ℕ) (test : ListedTest) → i < length tests
     → test ≡ get_or tests i test → (old new : List ListedTest)
     → map list_test_view old ≡ filter (λ t. not (is_in others t)) (map list_test_view (take i tests))
-    → is_in others (list_test_view test) ≡ false → new ≡ old ++ test ∷ []
+    → map list_test_view new
+    ≡ map list_test_view old ++ filter (λ t. not (is_in others t)) (list_test_view test ∷ [])
     → map list_test_view new ≡ filter (λ t. not (is_in others t)) (map list_test_view (take (i + 1) tests))
-alone_more others tests i test lt is old new before none then =
+alone_more others tests i test lt is old new before then =
     let p : ListTest → Bool = λ t. not (is_in others t) in
     let view = list_test_view test in
-    ap (map list_test_view) then ∙ map-append list_test_view old (test ∷ [])
-    ∙ ap (λ xs. xs ++ view ∷ []) before
-    ∙ sym (filter_one p (map list_test_view (take i tests)) view true (ap not none))
+    then ∙ ap (λ xs. xs ++ filter p (view ∷ [])) before
+    ∙ sym (filter-append p (map list_test_view (take i tests)) (view ∷ []))
     ∙ ap (filter p) (sym (taken_more list_test_view tests i test lt is))
 
--- one more test that it has
-pub alone_same : (others : List ListTest) (tests : List ListedTest) (i : ℕ) (test : ListedTest) → i < length tests
-    → test ≡ get_or tests i test → (old : List ListedTest)
-    → map list_test_view old ≡ filter (λ t. not (is_in others t)) (map list_test_view (take i tests))
-    → is_in others (list_test_view test) ≡ true
-    → map list_test_view old ≡ filter (λ t. not (is_in others t)) (map list_test_view (take (i + 1) tests))
-alone_same others tests i test lt is old before some =
-    let p : ListTest → Bool = λ t. not (is_in others t) in
-    let view = list_test_view test in
-    before ∙ sym (append-nil (filter p (map list_test_view (take i tests))))
-    ∙ sym (filter_one p (map list_test_view (take i tests)) view false (ap not some))
-    ∙ ap (filter p) (sym (taken_more list_test_view tests i test lt is))
+-- a test at a place of the left list is its test, and is the same
+pub found_there : (from : List ListedTest) (test : ListTest) (place : ℕ) (one : ListedTest)
+    → IsPlaceOf (map list_test_view from) test place → one ≡ get_or from place one
+    → Contains (map list_test_view from) (list_test_view one) × (same_test (list_test_view one) test ≡ true)
+found_there from test place one at is =
+    let below : place < length from = subst (λ n. place < n) (length-map from list_test_view) at.below in
+    let here : slice_get from place ≡ Some one = slice_get-get_or from place one below ∙ ap Some (sym is) in
+    let viewed : slice_get (map list_test_view from) place ≡ Some (list_test_view one) =
+    viewed_at list_test_view from place one here in
+    let same : at.found ≡ list_test_view one = let both : Some at.found ≡ Some (list_test_view one) = sym at.here ∙ viewed in cc in
+    ((place, at.below, get_or_from_slice_get (map list_test_view from) place (list_test_view one) (list_test_view one) viewed),
+    ap (λ t. same_test t test) (sym same) ∙ at.same)
+
+-- the pair of a test that the left list has
+pub pair_added : (from : List ListedTest) (test one : ListedTest) (place : ℕ) (old new : List Pair)
+    → IsPlaceOf (map list_test_view from) (list_test_view test) place → one ≡ get_or from place one
+    → new ≡ old ++ record { from = one; to = test } ∷ []
+    → AddsPair (map list_test_view from) (list_test_view test) (map pair_view old) (map pair_view new)
+pair_added from test one place old new at is then =
+    let pair : Pair = record { from = one; to = test } in
+    let there = found_there from (list_test_view test) place one at is in
+    let some : is_in (map list_test_view from) (list_test_view test) ≡ true =
+    in_at (map list_test_view from) (list_test_view test) place at in
+    record {
+      added = pair_view pair ∷ [];
+      are_pairs = record {
+        rights = ap (λ b. cond b (list_test_view test ∷ []) []) (sym some);
+        each = All-cons (IsPairOf (map list_test_view from)) (pair_view pair) []
+            (record { here = there.0; same = there.1 }) (All-nil (IsPairOf (map list_test_view from)));
+      };
+      appended = ap (map pair_view) then ∙ map-append pair_view old (pair ∷ []);
+    }
+
+-- a test that the left list does not have has no pair
+pub no_pair : (from : List ListTest) (test : ListTest) (old : List TestPair) → is_in from test ≡ false
+    → AddsPair from test old old
+no_pair from test old none = record {
+  added = [];
+  are_pairs = record {
+    rights = ap (λ b. cond b (test ∷ []) []) (sym none);
+    each = All-nil (IsPairOf from);
+  };
+  appended = sym (append-nil old);
+}
 
 -- no pairs
 pub pairs_none : (from : List ListTest) → ArePairs from [] []
-pairs_none from = record { rights = refl; each = λ k d lt. absurd (omega arith) }
+pairs_none from = record { rights = refl; each = All-nil (IsPairOf from) }
 
--- one more pair
+-- the pair of one more test is added
 pub pairs_more : (from : List ListTest) (tests : List ListedTest) (i : ℕ) (test : ListedTest) → i < length tests
-    → test ≡ get_or tests i test → (old new : List Pair) (one : ListedTest)
-    → ArePairs from (map list_test_view (take i tests)) (map pair_view old)
-    → Contains from (list_test_view one) → same_test (list_test_view one) (list_test_view test) ≡ true
-    → is_in from (list_test_view test) ≡ true → new ≡ old ++ record { from = one; to = test } ∷ []
-    → ArePairs from (map list_test_view (take (i + 1) tests)) (map pair_view new)
-pairs_more from tests i test lt is old new one are here same some then =
-    let pair : Pair = record { from = one; to = test } in
-    let view = list_test_view test in
-    let pairs : map pair_view new ≡ map pair_view old ++ pair_view pair ∷ [] =
-    ap (map pair_view) then ∙ map-append pair_view old (pair ∷ []) in
+    → test ≡ get_or tests i test → (old new : List TestPair)
+    → ArePairs from (map list_test_view (take i tests)) old → AddsPair from (list_test_view test) old new
+    → ArePairs from (map list_test_view (take (i + 1) tests)) new
+pairs_more from tests i test lt is old new are adds =
     let right : TestPair → ListTest = λ p. p.to in
+    let so_far = map list_test_view (take i tests) in
+    let one = list_test_view test ∷ [] in
     record {
-      rights = ap (map right) pairs ∙ map-append right (map pair_view old) (pair_view pair ∷ [])
-          ∙ ap (λ xs. xs ++ view ∷ []) are.rights
-          ∙ sym (filter_one (is_in from) (map list_test_view (take i tests)) view true some)
+      rights = ap (map right) adds.appended ∙ map-append right old adds.added
+          ∙ (λ j. are.rights j ++ adds.are_pairs.rights j)
+          ∙ sym (filter-append (is_in from) so_far one)
           ∙ ap (filter (is_in from)) (sym (taken_more list_test_view tests i test lt is));
-      each = subst (All (IsPairOf from)) (sym pairs)
-          (All-push (IsPairOf from) (map pair_view old) (pair_view pair) are.each (record { here = here; same = same }));
-    }
-
--- one more test that the left list does not have
-pub pairs_same : (from : List ListTest) (tests : List ListedTest) (i : ℕ) (test : ListedTest) → i < length tests
-    → test ≡ get_or tests i test → (old : List Pair)
-    → ArePairs from (map list_test_view (take i tests)) (map pair_view old)
-    → is_in from (list_test_view test) ≡ false
-    → ArePairs from (map list_test_view (take (i + 1) tests)) (map pair_view old)
-pairs_same from tests i test lt is old are none =
-    let view = list_test_view test in record {
-      rights = are.rights ∙ sym (append-nil (filter (is_in from) (map list_test_view (take i tests))))
-          ∙ sym (filter_one (is_in from) (map list_test_view (take i tests)) view false none)
-          ∙ ap (filter (is_in from)) (sym (taken_more list_test_view tests i test lt is));
-      each = are.each;
+      each = subst (All (IsPairOf from)) (sym adds.appended)
+          (All-append (IsPairOf from) old adds.added are.each adds.are_pairs.each);
     }

@@ -1,5 +1,5 @@
 -- The tests that two lists have in common, and those that one has alone.
-use Rattle.std.specs.Prelude.{◌≡◌, ℕ, ◌<◌, ◌&&◌, Bool, true, List, Some, length, map, filter, not, slice_get, bytes_eq}
+use Rattle.std.specs.Prelude.{◌≡◌, ℕ, ◌<◌, ◌&&◌, Bool, true, List, [], ◌∷◌, ◌++◌, Some, length, map, filter, not, slice_get, bytes_eq}
 use Rattle.std.specs.List.{All, Contains, list_any}
 use Rattle.nextest_lists.specs.Lists.{ListTest}
 use Rattle.nextest_lists.specs.ListView.{list_test_view}
@@ -44,6 +44,13 @@ pub record IsPairOf (from : List ListTest) (pair : TestPair) : Type 0 where
 pub record ArePairs (from to : List ListTest) (pairs : List TestPair) : Type 0 where
   pub rights : map (λ pair. pair.to) pairs ≡ filter (is_in from) to
   pub each : All (IsPairOf from) pairs
+
+-- The pair of a test of the right list is added to pairs, if the left list has the test.
+pub record AddsPair (from : List ListTest) (test : ListTest) (old new : List TestPair) : Type 0
+  where
+    pub added : List TestPair
+    pub are_pairs : ArePairs from (test ∷ []) added
+    pub appended : new ≡ old ++ added
 
 -- The tests of two lists: those that both have, and those that one has alone.
 pub record AreMatched (from to : List ListTest) (matched : Matched) : Type 0 where

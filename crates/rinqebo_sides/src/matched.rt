@@ -1,7 +1,7 @@
 //! The tests that two lists have in common, and those that one has alone.
-ghost use Rattle.std.specs.Prelude.{◌≡◌, false, IfOk, MatchOption, filter, map, not};
+ghost use Rattle.std.specs.Prelude.{◌≡◌, ◌∷◌, [], ◌++◌, false, IfOk, MatchOption, OnOk, filter, map, not};
 ghost use Rattle.nextest_lists.specs.ListView.{list_test_view};
-ghost use Rattle.rinqebo_sides.specs.Matched.{same_test, is_in, pair_view, IsPlaceOf, ArePairs, AreMatched};
+ghost use Rattle.rinqebo_sides.specs.Matched.{same_test, is_in, pair_view, IsPlaceOf, AddsPair, ArePairs, AreMatched};
 
 use nextest_lists::ListedTest;
 use std::alloc::{AllocError, Global};
@@ -55,6 +55,27 @@ fn place_of(tests: &[ListedTest<'_>], test: &ListedTest<'_>, guess: usize) -> Op
     }
 }
 
+/// Adds a test to others, if a list does not have it. It is looked for at a place first, and the
+/// place to begin with for the next test is returned.
+fn add_alone<'q>(
+    found: &mut Vec<ListedTest<'q>>,
+    others: &[ListedTest<'q>],
+    test: &ListedTest<'q>,
+    guess: usize,
+) -> Result<usize, AllocError>
+    ensures { OnOk result (map list_test_view found.new.items ≡ map list_test_view found.old.items
+        ++ filter (λ t. not (is_in (map list_test_view others.now) t))
+        (list_test_view test.now ∷ [])) }
+{
+    match place_of(others, test, guess) {
+        Some(place) => Ok(place.saturating_add(1)),
+        None => {
+            found.push(*test)?;
+            Ok(guess)
+        }
+    }
+}
+
 /// The tests of a list that another list does not have.
 fn alone<'q>(
     alloc: Global,
@@ -68,12 +89,32 @@ fn alone<'q>(
     let mut found = Vec::new(alloc);
     let mut guess = 0usize;
     for test in tests {
-        match place_of(others, test, guess) {
-            Some(place) => guess = place + 1,
-            None => found.push(*test)?,
-        }
+        guess = add_alone(&mut found, others, test, guess)?;
     }
     Ok(found)
+}
+
+/// Adds the pair of a test, if the left list has it. It is looked for at a place first, and the
+/// place to begin with for the next test is returned.
+fn add_pair<'q>(
+    pairs: &mut Vec<Pair<'q>>,
+    from: &[ListedTest<'q>],
+    test: &ListedTest<'q>,
+    guess: usize,
+) -> Result<usize, AllocError>
+    ensures { OnOk result (AddsPair (map list_test_view from.now) (list_test_view test.now)
+        (map pair_view pairs.old.items) (map pair_view pairs.new.items)) }
+{
+    match place_of(from, test, guess) {
+        Some(place) => {
+            pairs.push(Pair {
+                from: from[place],
+                to: *test,
+            })?;
+            Ok(place.saturating_add(1))
+        }
+        None => Ok(guess),
+    }
 }
 
 /// The tests that both lists have, in the order of the right list.
@@ -88,13 +129,7 @@ fn pairs_of<'q>(
     let mut pairs = Vec::new(alloc);
     let mut guess = 0usize;
     for test in to {
-        if let Some(place) = place_of(from, test, guess) {
-            guess = place + 1;
-            pairs.push(Pair {
-                from: from[place],
-                to: *test,
-            })?;
-        }
+        guess = add_pair(&mut pairs, from, test, guess)?;
     }
     Ok(pairs)
 }

@@ -1,7 +1,8 @@
 //! What a side gives to the whole run, in rows: leaves of the configuration that no test has a
 //! setting for, setup scripts, and what wraps binaries while they list their tests.
-ghost use Rattle.std.specs.Prelude.{◌≡◌, IfOk, OnOk, filter};
+ghost use Rattle.std.specs.Prelude.{◌≡◌, IfOk, OnOk, filter, string_bytes};
 ghost use Rattle.std.specs.List.{AllZip};
+ghost use Rattle.rinqebo_request.specs.Keys.{key_text};
 ghost use Rattle.rinqebo_sides.specs.RunRows.{is_end, is_below, is_of_setting, is_of_tests, is_of_run, IsEntryRow, AddsEntry, IsSetupRow, IsWrapperRow, AreRunRows};
 
 use nextest_config::{NextestRunMode, Setting};
@@ -32,13 +33,33 @@ fn is_below(key: &str, above: &str) -> bool
     }
 }
 
+/// The key of a setting of tests, with its table.
+fn text_of(alloc: Global, setting: Setting, mode: NextestRunMode) -> Result<String, AllocError>
+    ensures { IfOk result (λ text. string_bytes text ≡ key_text setting mode) }
+{
+    SettingKey::of(setting, mode).text(alloc)
+}
+
+/// Whether a key is that of a setting of tests for what they are run, or is in its table.
+fn is_of_mode(
+    alloc: Global,
+    key: &str,
+    setting: Setting,
+    mode: NextestRunMode,
+) -> Result<bool, AllocError>
+    ensures { IfOk result (λ is. is ≡ is_below key.now (key_text setting mode)) }
+{
+    let text = text_of(alloc, setting, mode)?;
+    Ok(is_below(key, text.as_str()))
+}
+
 /// Whether a key is that of a setting of tests, or is in its table.
 fn is_of_setting(alloc: Global, key: &str, setting: Setting) -> Result<bool, AllocError>
     ensures { IfOk result (λ is. is ≡ is_of_setting key.now setting) }
 {
-    let test = SettingKey::of(setting, NextestRunMode::Test).text(alloc)?;
-    let benchmark = SettingKey::of(setting, NextestRunMode::Benchmark).text(alloc)?;
-    Ok(is_below(key, test.as_str()) || is_below(key, benchmark.as_str()))
+    let of_test = is_of_mode(alloc, key, setting, NextestRunMode::Test)?;
+    let of_benchmark = is_of_mode(alloc, key, setting, NextestRunMode::Benchmark)?;
+    Ok(of_test || of_benchmark)
 }
 
 /// Whether a key is that of a value that tests have.
