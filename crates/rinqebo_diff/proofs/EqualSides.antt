@@ -22,8 +22,9 @@ use Rattle.rinqebo_changes.specs.declared.change.RowChange.{RowChange}
 use Rattle.rinqebo_changes.specs.declared.change.SideRow.{SideRow}
 use Rattle.rinqebo_changes.specs.declared.change.TestChanges.{TestChanges}
 use Rattle.rinqebo_changes.proofs.SameValues.{setting_decides}
+use Rattle.rinqebo_diff.specs.Asked.{compares_runs}
 use Rattle.rinqebo_diff.specs.Compared.{AreCompared, IsComparedBy}
-use Rattle.rinqebo_diff.specs.Differences.{SideReports, compares_runs}
+use Rattle.rinqebo_diff.specs.Differences.{SideReports}
 use Rattle.rinqebo_sides.specs.Matched.{IsOneTest, TestPair}
 use Rattle.rinqebo_diff.specs.Sides.{Evaluation}
 

@@ -14,8 +14,8 @@ use Rattle.rinqebo_load.specs.Sessions.{readings}
 use Rattle.rinqebo_report.specs.declared.report.TestId.{TestId}
 use Rattle.rinqebo_report.specs.declared.report.TestRows.{TestRows}
 use Rattle.rinqebo_request.specs.declared.request.RequestedSettings.{RequestedSettings}
-use Rattle.rinqebo_request.specs.declared.request.RequestedSettings.TheVariants as asks
 use Rattle.rinqebo_run.specs.ListedBy.{basis_of}
+use Rattle.rinqebo_diff.specs.Asked.{compares_runs}
 use Rattle.rinqebo_diff.specs.Compared.{AreCompared, ReportsBy}
 use Rattle.rinqebo_sides.specs.Matched.{TestPair, ArePairs, is_in}
 use Rattle.rinqebo_diff.specs.RunChanges.{AreRunChangesIf}
@@ -30,11 +30,6 @@ abbrev pub SideReports : Evaluation → NextestRunMode → RequestedSettings →
 SideReports evaluation mode asked =
     ReportsBy (readings evaluation.session.engines.filters).matches_test
     (basis_of evaluation.session evaluation.chain) evaluation.profile mode asked
-
--- whether it is compared whether tests run
-abbrev pub compares_runs : RequestedSettings → Bool
-compares_runs asks.Decided = true
-compares_runs (asks.These runs settings) = runs
 
 -- A name is that of a test.
 pub record IsIdOf (t : ListTest) (id : TestId) : Type 0 where
@@ -58,10 +53,10 @@ pub record IsDiffOf (request : DiffRequest) (left right : Evaluation) (diff : Di
   pub to : IsSideOf request.to right diff.to
   pub pairs : List TestPair
   pub are_pairs : ArePairs (tests_of left) (tests_of right) pairs
-  pub changed : AreCompared (SideReports left request.from.mode request.asked)
-      (SideReports right request.to.mode request.asked)
+  pub changed : AreCompared (SideReports left request.from.mode request.compared.asked)
+      (SideReports right request.to.mode request.compared.asked)
       (is_change diff.from.sources.items diff.to.sources.items request.with_origins)
-      (compares_runs request.asked) pairs diff.changed.items
+      (compares_runs request.compared.asked) pairs diff.changed.items
   pub compared : diff.compared ≡ length pairs
   pub binaries : AllZip IsCountOf (list_view right.session.tests).binaries diff.binaries.items
   pub removed : AllZip IsIdOf (filter (λ t. not (is_in (tests_of right) t)) (tests_of left))

@@ -1,3 +1,4 @@
+pub mod Asked
 pub mod Compared
 pub mod Loaded
 pub mod Sides

@@ -6,8 +6,9 @@ ghost use Rattle.rinqebo_changes.specs.Changes.{is_change};
 ghost use Rattle.rinqebo_changes.specs.declared.change.TestChanges.{TestChanges as Changed};
 ghost use Rattle.rinqebo_report.specs.declared.origin.Source.{Source as File};
 ghost use Rattle.rinqebo_request.specs.declared.request.RequestedSettings.{RequestedSettings as Asked};
+ghost use Rattle.rinqebo_diff.specs.Asked.{compares_runs};
 ghost use Rattle.rinqebo_diff.specs.Compared.{AreCompared};
-ghost use Rattle.rinqebo_diff.specs.Differences.{SideReports, compares_runs};
+ghost use Rattle.rinqebo_diff.specs.Differences.{SideReports};
 ghost use Rattle.rinqebo_sides.specs.Matched.{IsOneTest, TestPair};
 ghost use Rattle.rinqebo_diff.specs.Sides.{Evaluation};
 

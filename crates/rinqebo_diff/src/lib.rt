@@ -5,6 +5,7 @@
 //! name. [`diff_answer`] returns it as a value, and [`diff_page`] as a text.
 #![tactic(auto)]
 
+mod asked;
 mod compared;
 mod format;
 mod gathering;
@@ -16,6 +17,7 @@ mod request;
 mod sides;
 mod words;
 
+pub use asked::ComparedSettings;
 pub use gathering::{GatheredSides, gather_sides};
 pub use laws::law_equal_sides;
 pub use loaded::{DiffFailure, Loaded, SideName, load_side};

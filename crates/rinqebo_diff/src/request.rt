@@ -1,7 +1,8 @@
 //! Requests for what changes between two sides.
+use crate::asked::ComparedSettings;
 use nextest_config::NextestRunMode;
 use rinqebo_report::Colour;
-use rinqebo_request::{Command, Request, RequestedSettings};
+use rinqebo_request::{Command, Request};
 
 /// A side of a request.
 #[derive(Drop)]
@@ -36,7 +37,7 @@ pub struct DiffRequest<'a> {
     /// The right side, to which something changes.
     pub to: DiffSide<'a>,
     /// Which settings of tests are compared.
-    pub asked: RequestedSettings,
+    pub compared: ComparedSettings,
     /// Whether what changes for the whole run is compared too.
     pub with_run: bool,
     /// Whether other origins are a change too, where the values are the same.

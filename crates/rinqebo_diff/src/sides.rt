@@ -4,8 +4,9 @@ ghost use Rattle.std.specs.List.{AllZip};
 ghost use Rattle.nextest_lists.specs.ListView.{list_test_view, listed_view};
 ghost use Rattle.nextest_tables.specs.FileTexts.{names_in, IsIn};
 ghost use Rattle.rinqebo_changes.specs.Changes.{is_change};
+ghost use Rattle.rinqebo_diff.specs.Asked.{compares_runs};
 ghost use Rattle.rinqebo_diff.specs.Compared.{AreCompared};
-ghost use Rattle.rinqebo_diff.specs.Differences.{SideReports, compares_runs, IsCountOf, IsDiffOf, IsIdOf};
+ghost use Rattle.rinqebo_diff.specs.Differences.{SideReports, IsCountOf, IsDiffOf, IsIdOf};
 ghost use Rattle.rinqebo_diff.specs.Evaluated.{evaluation_of, IsDiffOfLoaded};
 ghost use Rattle.rinqebo_sides.specs.Matched.{pair_view};
 ghost use Rattle.rinqebo_diff.specs.RunChanges.{AreRunChangesIf, AreRunRowsOf};
@@ -21,7 +22,6 @@ use rinqebo_changes::{
 use rinqebo_files::sources_of;
 use rinqebo_load::chain_of_profile;
 use rinqebo_report::{SettingRow, TestId};
-use rinqebo_request::RequestedSettings;
 use rinqebo_rules::{Origins, Progress, reported_platform};
 use rinqebo_run::{Profile, entries_in, profile_on, requested_of, scripts_of_list};
 use rinqebo_sides::{Pair, match_tests, run_rows};
@@ -138,16 +138,6 @@ fn changed_run(
     keyed_changes(alloc, before, after)
 }
 
-/// Whether it is compared whether tests run.
-fn compares_runs(asked: &RequestedSettings) -> bool
-    ensures { result ≡ compares_runs asked.now }
-{
-    match asked {
-        RequestedSettings::Decided => true,
-        RequestedSettings::These { runs, .. } => *runs,
-    }
-}
-
 /// What changes for the tests that both sides have.
 fn changed_tests<P: Progress>(
     alloc: Global,
@@ -161,27 +151,29 @@ fn changed_tests<P: Progress>(
     progress: &mut P,
 ) -> Result<Vec<TestChanges>, AllocError>
     ensures { IfOk result (λ changed. AreCompared
-        (SideReports (evaluation_of from.now left.now) request.now.from.mode request.now.asked)
-        (SideReports (evaluation_of to.now right.now) request.now.to.mode request.now.asked)
+        (SideReports (evaluation_of from.now left.now) request.now.from.mode
+        request.now.compared.asked)
+        (SideReports (evaluation_of to.now right.now) request.now.to.mode
+        request.now.compared.asked)
         (is_change sources.entry.from.now sources.entry.to.now request.now.with_origins)
-        (compares_runs request.now.asked) (map pair_view pairs.now) changed.items) }
+        (compares_runs request.now.compared.asked) (map pair_view pairs.now) changed.items) }
 {
     let from_lister = TestLister {
         profile: &left.profile,
         mode: request.from.mode,
-        asked: &request.asked,
+        asked: request.compared.asked(),
     };
     let to_lister = TestLister {
         profile: &right.profile,
         mode: request.to.mode,
-        asked: &request.asked,
+        asked: request.compared.asked(),
     };
     let mut from_origins = Origins::new(alloc, &from.session.layers, &left.chain);
     let mut to_origins = Origins::new(alloc, &to.session.layers, &right.chain);
     let compare = Comparison {
         sources,
         with_origins: request.with_origins,
-        with_runs: compares_runs(&request.asked),
+        with_runs: request.compared.with_runs(),
     };
     compared(
         alloc,

@@ -1,4 +1,5 @@
 //! Reads the words of the command `diff`.
+use crate::asked::ComparedSettings;
 use crate::options::{TO_OPTIONS, diff_command};
 use crate::request::{AnyCommand, DiffFormat, DiffRequest, DiffSide};
 use clap::ArgMatches;
@@ -14,7 +15,7 @@ use rinqebo_request::{
     ConfigFile, EngineOptions, Environment, FileOptions, ListFile, ParseStop, ProfileSource,
     Question, Request, RequestedSettings, set,
 };
-use std::alloc::Global;
+use std::alloc::{AllocError, Global};
 
 /// Whether an option of the right side is given.
 fn has_right_side(matches: &ArgMatches<'_>) -> bool {
@@ -42,6 +43,17 @@ fn side_format<'a>(matches: &ArgMatches<'a>) -> Format<'a> {
 /// Whether what changes for the whole run is compared: it is unless settings are named.
 fn compares_run(matches: &ArgMatches<'_>) -> bool {
     matches.get_strs("KEY").unwrap_or(&[]).is_empty()
+}
+
+/// The settings that are compared: those that words name.
+fn compared_settings(
+    alloc: Global,
+    asked: RequestedSettings,
+) -> Result<ComparedSettings, AllocError> {
+    match asked {
+        RequestedSettings::These { runs, settings } => Ok(ComparedSettings::new(runs, settings)),
+        RequestedSettings::Decided => ComparedSettings::all(alloc),
+    }
 }
 
 /// The request of a side.
@@ -204,7 +216,7 @@ fn diff_request<'a>(
     Ok(DiffRequest {
         from: side_request(alloc, matches, environment, left)?,
         to: side_request(alloc, matches, environment, right)?,
-        asked: explained_rows(alloc, matches, mode)?,
+        compared: compared_settings(alloc, explained_rows(alloc, matches, mode)?)?,
         with_run: compares_run(matches),
         with_origins: matches.get_flag("origins"),
         lists_all: matches.get_flag("all"),

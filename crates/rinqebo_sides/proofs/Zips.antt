@@ -34,3 +34,9 @@ zip_more f R xs i x lt is ys y zs all r then =
     subst (λ ws. AllZip R (map f (take (i + 1) xs)) ws) (sym then)
     (subst (λ ws. AllZip R ws (ys ++ y ∷ [])) (sym (taken_more f xs i x lt is))
     (zip_push R (map f (take i xs)) ys (f x) y all r))
+
+-- one more of a list is taken
+pub taken_one : {X : Type 0} (xs : List X) (i : ℕ) (x d : X) → i < length xs → x ≡ get_or xs i d → (old new : List X)
+    → old ≡ take i xs → new ≡ old ++ x ∷ [] → new ≡ take (i + 1) xs
+taken_one xs i x d lt is old new before then =
+    then ∙ ap (λ ys. ys ++ x ∷ []) before ∙ ap (λ y. take i xs ++ y ∷ []) is ∙ sym (take_at_read xs i d lt).1
