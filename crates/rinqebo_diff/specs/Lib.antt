@@ -8,3 +8,4 @@ pub mod Statuses
 pub mod Written
 pub mod Differences
 pub mod Evaluated
+pub mod Beside

@@ -1,14 +1,16 @@
 //! What changes between two sides that are loaded.
 ghost use Rattle.std.specs.Prelude.{◌≡◌, IfOk, map};
 ghost use Rattle.std.specs.List.{AllZip};
-ghost use Rattle.nextest_lists.specs.ListView.{list_test_view, listed_view};
+ghost use Rattle.nextest_lists.specs.Lists.{list_tests};
+ghost use Rattle.nextest_lists.specs.ListView.{list_test_view, list_view, listed_view};
 ghost use Rattle.nextest_tables.specs.FileTexts.{names_in, IsIn};
 ghost use Rattle.rinqebo_changes.specs.Changes.{is_change};
 ghost use Rattle.rinqebo_diff.specs.Asked.{compares_runs};
 ghost use Rattle.rinqebo_diff.specs.Compared.{AreCompared};
 ghost use Rattle.rinqebo_diff.specs.Differences.{SideReports, IsCountOf, IsDiffOf, IsIdOf};
-ghost use Rattle.rinqebo_diff.specs.Evaluated.{evaluation_of, IsDiffOfLoaded};
-ghost use Rattle.rinqebo_sides.specs.Matched.{pair_view};
+ghost use Rattle.rinqebo_diff.specs.Beside.{IsBeside};
+ghost use Rattle.rinqebo_diff.specs.Evaluated.{evaluation_of, IsDiffOfLoaded, IsEvaluated};
+ghost use Rattle.rinqebo_sides.specs.Matched.{pair_view, AreMatched};
 ghost use Rattle.rinqebo_diff.specs.RunChanges.{AreRunChangesIf, AreRunRowsOf};
 ghost use Rattle.rinqebo_diff.specs.Sides.{IsSideOf};
 
@@ -24,7 +26,7 @@ use rinqebo_load::chain_of_profile;
 use rinqebo_report::{SettingRow, TestId};
 use rinqebo_rules::{Origins, Progress, reported_platform};
 use rinqebo_run::{Profile, entries_in, profile_on, requested_of, scripts_of_list};
-use rinqebo_sides::{Pair, match_tests, run_rows};
+use rinqebo_sides::{Matched, Pair, match_tests, run_rows};
 use std::alloc::{AllocError, Global};
 
 /// What a side is compared by.
@@ -187,6 +189,49 @@ fn changed_tests<P: Progress>(
     )
 }
 
+/// The tests of two sides: those that both have, and those that one has alone.
+fn matched_tests<'q>(
+    alloc: Global,
+    from: &'q Loaded<'_>,
+    to: &'q Loaded<'_>,
+) -> Result<Matched<'q>, AllocError>
+    ensures { IfOk result (AreMatched (list_tests (list_view from.now.session.tests))
+        (list_tests (list_view to.now.session.tests))) }
+{
+    let from_tests = from.session.tests.tests(alloc)?;
+    let to_tests = to.session.tests.tests(alloc)?;
+    match_tests(alloc, &from_tests, &to_tests)
+}
+
+/// What a diff has beside its changes.
+#[derive(Drop)]
+pub struct Beside {
+    /// The binaries of the right side, and how many tests each has.
+    pub binaries: Vec<BinaryTests>,
+    /// The names of the tests of the left side alone.
+    pub removed: Vec<TestId>,
+    /// The names of the tests of the right side alone.
+    pub added: Vec<TestId>,
+}
+
+/// What a diff has beside its changes, of matched tests and the binaries of the right side.
+fn beside_of(
+    alloc: Global,
+    matched: &Matched<'_>,
+    binaries: &[ListedBinary],
+) -> Result<Beside, AllocError>
+    ensures { IfOk result (IsBeside matched.now (map listed_view binaries.now)) }
+{
+    let binaries = counts_of(alloc, binaries)?;
+    let removed = ids_of(alloc, &matched.removed)?;
+    let added = ids_of(alloc, &matched.added)?;
+    Ok(Beside {
+        binaries,
+        removed,
+        added,
+    })
+}
+
 /// What changes from one side to another, which are loaded, by what they are compared by.
 fn diff_by<P: Progress>(
     alloc: Global,
@@ -200,30 +245,21 @@ fn diff_by<P: Progress>(
     ensures { IfOk result (IsDiffOf request.now (evaluation_of from.now left.now)
         (evaluation_of to.now right.now)) }
 {
-    let from_tests = from.session.tests.tests(alloc)?;
-    let to_tests = to.session.tests.tests(alloc)?;
-    let matched = match_tests(alloc, &from_tests, &to_tests)?;
+    let matched = matched_tests(alloc, &*from, &*to)?;
     let from_side = side_of(alloc, &request.from, from, left)?;
     let to_side = side_of(alloc, &request.to, to, right)?;
     let sources = TwoSources {
         from: &from_side.sources,
         to: &to_side.sources,
     };
-    let changed = changed_tests(
-        alloc,
-        request,
-        sources,
-        &matched.pairs,
-        from,
-        to,
-        left,
-        right,
-        progress,
-    )?;
+    let pairs = &matched.pairs;
+    let changed = changed_tests(alloc, request, sources, pairs, from, to, left, right, progress)?;
     let run = changed_run(alloc, request.with_run, from, to, left, right)?;
-    let binaries = counts_of(alloc, &to.session.tests.binaries)?;
-    let removed = ids_of(alloc, &matched.removed)?;
-    let added = ids_of(alloc, &matched.added)?;
+    let Beside {
+        binaries,
+        removed,
+        added,
+    } = beside_of(alloc, &matched, &to.session.tests.binaries)?;
     Ok(Diff {
         from: from_side,
         to: to_side,
@@ -234,6 +270,20 @@ fn diff_by<P: Progress>(
         added,
         run,
     })
+}
+
+/// What a side is compared by: a profile of its configuration.
+fn evaluated<'c>(
+    alloc: Global,
+    loaded: &'c Loaded<'_>,
+    name: &'c str,
+) -> Result<Evaluated<'c>, AllocError>
+    requires { IsIn (names_in loaded.now.config.config.profiles) name.now }
+    ensures { IfOk result (IsEvaluated loaded.now name.now) }
+{
+    let chain = chain_of_profile(alloc, &loaded.config, name)?;
+    let profile = profile_on(alloc, &loaded.session, &loaded.config, name)?;
+    Ok(Evaluated { chain, profile })
 }
 
 /// What changes from one side to another, which are loaded.
@@ -248,17 +298,7 @@ pub fn diff_of<P: Progress>(
     requires to { IsIn (names_in to.now.config.config.profiles) request.now.to.profile.now }
     ensures { IfOk result (IsDiffOfLoaded request.now from.now to.now) }
 {
-    let from_chain = chain_of_profile(alloc, &from.config, request.from.profile)?;
-    let from_profile = profile_on(alloc, &from.session, &from.config, request.from.profile)?;
-    let to_chain = chain_of_profile(alloc, &to.config, request.to.profile)?;
-    let to_profile = profile_on(alloc, &to.session, &to.config, request.to.profile)?;
-    let left = Evaluated {
-        chain: from_chain,
-        profile: from_profile,
-    };
-    let right = Evaluated {
-        chain: to_chain,
-        profile: to_profile,
-    };
+    let left = evaluated(alloc, &*from, request.from.profile)?;
+    let right = evaluated(alloc, &*to, request.to.profile)?;
     diff_by(alloc, request, from, to, &left, &right, progress)
 }
