@@ -1,5 +1,6 @@
 -- Why a diff has no result, and the exit statuses.
 use Rattle.std.proofs.Common.{◌≡◌, ◌∙◌, ◌≤◌, ◌⊎◌, inl, inr, ℕ, Bool, true, false, if◌then◌else◌, List, Option, Result, Ok, Err, IfErr, IfOk, IsErrAnd, arith, subst, sym}
+use Rattle.std.specs.Io.KnownBytes.{Appends}
 use Rattle.rinqebo_changes.specs.declared.diff.Diff.{Diff}
 use Rattle.rinqebo_files.specs.declared.files.Gathered.{Gathered}
 use Rattle.rinqebo_load.specs.Beginning.{IsBeginningFailure}
@@ -11,9 +12,9 @@ use Rattle.rinqebo_run.specs.LookedUp.{IsFailureOn}
 use Rattle.rinqebo_run.specs.Refused.{TellsFailure}
 use Rattle.rinqebo_run.specs.Statuses.{failure_status}
 use Rattle.rinqebo_diff.specs.Differences.{Differs, diff_status, is_empty, HasResult}
-use Rattle.rinqebo_diff.specs.Failing.{SideFails, DiffFails, IsRefusedSide, LacksItsProfile, HasCause}
+use Rattle.rinqebo_diff.specs.Failing.{SideFails, FailsAt, DiffFails, IsRefusedSide, LacksItsProfile, HasCause}
 use Rattle.rinqebo_diff.specs.Statuses.{diff_failure_status, HasFailureStatus, TellsDiffFailure, TellsRefusal}
-use Rattle.rinqebo_diff.specs.Written.{TellsDiff}
+use Rattle.rinqebo_diff.specs.Written.{IsRendered, TellsDiff}
 use Rattle.rinqebo_diff.specs.declared.loaded.DiffFailure.{DiffFailure}
 use Rattle.rinqebo_diff.specs.declared.loaded.DiffFailure.TheVariants as failures
 use Rattle.rinqebo_diff.specs.declared.loaded.SideName.TheVariants as names
@@ -43,6 +44,38 @@ pub session_fails : {A : Type 0} (side : DiffSide) (gathered : Gathered) (sessio
 session_fails side gathered session r failure same begun cause =
     handed_on (SideFails side gathered) r failure same
     (inr (record { session = session; begun = begun; cause = cause }))
+
+-- a failure of a side is one of the diff
+as_left : (request : DiffRequest) (from to : Gathered) (failure : DiffFailure)
+    → FailsAt names.From request.from from failure → DiffFails request from to failure
+as_left request from to (failures.Side names.From failure) fails = fails.1
+as_left request from to (failures.Side names.To failure) fails =
+    let no : names.To ≡ names.From = fails.0 in absurd (cc)
+as_left request from to failures.Memory fails = tt
+
+as_right : (request : DiffRequest) (from to : Gathered) (failure : DiffFailure)
+    → FailsAt names.To request.to to failure → DiffFails request from to failure
+as_right request from to (failures.Side names.From failure) fails =
+    let no : names.From ≡ names.To = fails.0 in absurd (cc)
+as_right request from to (failures.Side names.To failure) fails = fails.1
+as_right request from to failures.Memory fails = tt
+
+pub left_fails : {A : Type 0} (request : DiffRequest) (from to : Gathered) (r : Result A DiffFailure)
+    (failure : DiffFailure) → IsErrAnd r (λ told. told ≡ failure) → FailsAt names.From request.from from failure
+    → IfErr r (DiffFails request from to)
+left_fails request from to r failure same fails =
+    handed_on (DiffFails request from to) r failure same (as_left request from to failure fails)
+
+pub right_fails : {A : Type 0} (request : DiffRequest) (from to : Gathered) (r : Result A DiffFailure)
+    (failure : DiffFailure) → IsErrAnd r (λ told. told ≡ failure) → FailsAt names.To request.to to failure
+    → IfErr r (DiffFails request from to)
+right_fails request from to r failure same fails =
+    handed_on (DiffFails request from to) r failure same (as_right request from to failure fails)
+
+-- a diff has no result for want of memory
+pub diff_wants : {A : Type 0} (request : DiffRequest) (from to : Gathered) (r : Result A DiffFailure)
+    → IsErrAnd r (λ told. told ≡ failures.Memory) → IfErr r (DiffFails request from to)
+diff_wants request from to r same = handed_on (DiffFails request from to) r failures.Memory same tt
 
 -- a failure of status 3 is that files are refused
 refused_for : (side : DiffSide) (gathered : Gathered) (failure : Failure) → SideFails side gathered failure
@@ -193,3 +226,11 @@ failure_quiet request from to failure n old new fails (inl six) = inr (inl six)
 failure_quiet request from to failure n old new fails (inr (inl quiet)) = inr (inr (inl quiet))
 failure_quiet request from to failure n old new fails (inr (inr tells)) =
     inr (inr (inr (record { failure = failure; fails = fails; tells = tells })))
+
+-- a text of a diff is written
+pub told_page : (request : DiffRequest) (diff : Diff) (text written : List ℕ) (n : ℕ) (old new : Option (List ℕ))
+    → IsRendered request diff text → written ≡ text → (n ≡ 6) ⊎ Appends old new written
+    → (n ≡ 5) ⊎ (n ≡ 6) ⊎ TellsDiff request diff old new
+told_page request diff text written n old new is same (inl six) = inr (inl six)
+told_page request diff text written n old new is same (inr appended) =
+    inr (inr (record { text = text; is_text = is; appended = subst (Appends old new) same appended }))

@@ -10,6 +10,7 @@ use Rattle.rinqebo_load.specs.declared.session.Session.{Session}
 use Rattle.rinqebo_run.specs.LookedUp.{IsFailureOn}
 use Rattle.rinqebo_diff.specs.declared.loaded.DiffFailure.{DiffFailure}
 use Rattle.rinqebo_diff.specs.declared.loaded.DiffFailure.TheVariants as failures
+use Rattle.rinqebo_diff.specs.declared.loaded.SideName.{SideName}
 use Rattle.rinqebo_diff.specs.declared.loaded.SideName.TheVariants as names
 use Rattle.rinqebo_diff.specs.declared.request.DiffRequest.{DiffRequest}
 use Rattle.rinqebo_diff.specs.declared.request.DiffSide.{DiffSide}
@@ -23,6 +24,12 @@ pub record FailsInSession (side : DiffSide) (gathered : Gathered) (failure : Fai
 -- A side has no result: what all commands begin with fails, or its session has none.
 abbrev pub SideFails : DiffSide → Gathered → Failure → Type 0
 SideFails side gathered failure = IsBeginningFailure failure ⊎ FailsInSession side gathered failure
+
+-- a side of a name has no result, or memory ran out
+abbrev pub FailsAt : SideName → DiffSide → Gathered → DiffFailure → Type 0
+FailsAt name side gathered (failures.Side other failure) =
+    (other ≡ name) × SideFails side gathered failure
+FailsAt name side gathered failures.Memory = Unit {0}
 
 -- A diff has no result: one of its sides has none, or memory ran out.
 abbrev pub DiffFails : DiffRequest → Gathered → Gathered → DiffFailure → Type 0

@@ -1,6 +1,6 @@
 //! A side that is loaded, and why a side has no result.
 ghost use Rattle.std.specs.Prelude.{◌≡◌, IfErr, IfOk};
-ghost use Rattle.rinqebo_diff.specs.Failing.{SideFails};
+ghost use Rattle.rinqebo_diff.specs.Failing.{FailsAt, SideFails};
 ghost use Rattle.rinqebo_diff.specs.Loaded.{IsLoadedSide};
 ghost use Rattle.rinqebo_diff.specs.declared.loaded.DiffFailure.TheVariants.{Memory};
 
@@ -69,4 +69,20 @@ pub fn load_side<'g>(
         config,
         report,
     })
+}
+
+/// Loads a side of a name.
+pub fn load_named<'g>(
+    alloc: Global,
+    name: SideName,
+    side: &DiffSide<'_>,
+    gathered: &'g Gathered,
+) -> Result<Loaded<'g>, DiffFailure>
+    ensures ok { IfOk result (IsLoadedSide side.now gathered.now) }
+    ensures err { IfErr result (FailsAt name side.now gathered.now) }
+{
+    match load_side(alloc, side, gathered) {
+        Ok(loaded) => Ok(loaded),
+        Err(failure) => Err(DiffFailure::Side(name, failure)),
+    }
 }

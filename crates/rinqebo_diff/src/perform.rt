@@ -8,7 +8,7 @@ ghost use Rattle.rinqebo_run.specs.Refused.{TellsFailure};
 ghost use Rattle.rinqebo_run.specs.Statuses.{failure_status};
 
 use crate::format::render_diff;
-use crate::loaded::{DiffFailure, SideName, load_side};
+use crate::loaded::{DiffFailure, SideName, load_named};
 use crate::request::{DiffFormat, DiffRequest, DiffSide};
 use crate::sides::diff_of;
 use rinqebo_changes::Diff;
@@ -41,14 +41,8 @@ pub fn diff_answer<P: Progress>(
     ensures ok { IfOk result (λ answer. Differs request.now from.now to.now answer.diff) }
     ensures err { IfErr result (DiffFails request.now from.now to.now) }
 {
-    let left = match load_side(alloc, &request.from, from) {
-        Ok(left) => left,
-        Err(failure) => return Err(DiffFailure::Side(SideName::From, failure)),
-    };
-    let right = match load_side(alloc, &request.to, to) {
-        Ok(right) => right,
-        Err(failure) => return Err(DiffFailure::Side(SideName::To, failure)),
-    };
+    let left = load_named(alloc, SideName::From, &request.from, from)?;
+    let right = load_named(alloc, SideName::To, &request.to, to)?;
     let diff = diff_of(alloc, request, &left, &right, progress)?;
     Ok(DiffAnswer {
         diff,
