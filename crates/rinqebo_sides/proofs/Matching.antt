@@ -41,6 +41,12 @@ place_is tests test i one here is lt = record {
   same = is;
 }
 
+-- a place at which a test was guessed to be
+pub guessed : (tests : List ListedTest) (test : ListTest) (i : ℕ) (one : ListedTest) → i < length tests
+    → one ≡ get_or tests i one → is_it test one ≡ true → IsPlaceOf (map list_test_view tests) test i
+guessed tests test i one lt at is =
+    place_is tests test i one (slice_get-get_or tests i one lt ∙ ap Some (sym at)) is lt
+
 -- the first place of a test
 first_found : (tests : List ListedTest) (test : ListTest) → position_or_len (is_it test) tests < length tests
     → IsPlaceOf (map list_test_view tests) test (position_or_len (is_it test) tests)

@@ -49,10 +49,10 @@ fn place_of(tests: &[ListedTest<'_>], test: &ListedTest<'_>, guess: usize) -> Op
         (is_in (map list_test_view tests.now) (list_test_view test.now) ≡ false)
         (IsPlaceOf (map list_test_view tests.now) (list_test_view test.now)) }
 {
-    match tests.get(guess) {
-        Some(one) if is_same_test(one, test) => Some(guess),
-        _ => first_place(tests, test),
+    if guess < tests.len() && is_same_test(&tests[guess], test) {
+        return Some(guess);
     }
+    first_place(tests, test)
 }
 
 /// Adds a test to others, if a list does not have it. It is looked for at a place first, and the
