@@ -1,2 +1,3 @@
 pub mod Matched
+pub mod Own
 pub mod RunRows

@@ -2,8 +2,10 @@
 //! gives to the whole run.
 #![tactic(auto)]
 
+mod laws;
 mod matched;
 mod run_rows;
 
+pub use laws::law_own_tests;
 pub use matched::{Matched, Pair, match_tests};
 pub use run_rows::run_rows;
