@@ -1,5 +1,6 @@
 //! Writes what changes between the sides of a request.
 ghost use Rattle.std.specs.Prelude.{◌≡◌, ◌⊎◌, ◌≤◌, IfErr, IfOk, string_bytes};
+ghost use Rattle.std.specs.Io.KnownBytes.{Appends};
 ghost use Rattle.rinqebo_diff.specs.Differences.{diff_status, HasResult, Differs, IsPageOf};
 ghost use Rattle.rinqebo_diff.specs.Failing.{DiffFails, HasCause};
 ghost use Rattle.rinqebo_diff.specs.Statuses.{HasFailureStatus, TellsDiffFailure, TellsRefusal};
@@ -143,6 +144,24 @@ fn notes_of(
     }
 }
 
+/// Writes warnings, and then the page of a diff, and returns the exit status.
+fn tell_page<O: Write, E: Write>(
+    notes: &str,
+    page: &str,
+    diff: &Diff,
+    out: &mut O,
+    err: &mut E,
+) -> u8
+    ensures status { (result ≡ diff_status diff.now) ⊎ (result ≡ 6) }
+    ensures page { (result ≡ 6) ⊎ Appends (O.contents out.old) (O.contents out.new) page.now }
+{
+    let told = tell(notes, Status::Success as u8, err);
+    if told != Status::Success as u8 {
+        return told;
+    }
+    tell(page, status_of(diff), out)
+}
+
 /// Writes a result: the warnings, and then the diff.
 fn tell_answer<O: Write, E: Write>(
     alloc: Global,
@@ -160,14 +179,10 @@ fn tell_answer<O: Write, E: Write>(
     let Ok(notes) = notes_of(alloc, request, &answer.report) else {
         return refuse_for_memory(err);
     };
-    let Ok(text) = render_diff(alloc, &answer.diff, request) else {
-        return refuse_for_memory(err);
-    };
-    let told = tell(notes.as_str(), Status::Success as u8, err);
-    if told != Status::Success as u8 {
-        return told;
+    match render_diff(alloc, &answer.diff, request) {
+        Ok(page) => tell_page(notes.as_str(), page.as_str(), &answer.diff, out, err),
+        Err(_) => refuse_for_memory(err),
     }
-    tell(text.as_str(), status_of(&answer.diff), out)
 }
 
 /// Writes what changes between the sides of a request, over the files that they name, and returns
