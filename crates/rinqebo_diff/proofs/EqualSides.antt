@@ -24,8 +24,11 @@ use Rattle.rinqebo_changes.specs.declared.change.TestChanges.{TestChanges}
 use Rattle.rinqebo_changes.proofs.SameValues.{setting_decides}
 use Rattle.rinqebo_diff.specs.Asked.{compares_runs}
 use Rattle.rinqebo_diff.specs.Compared.{AreCompared, IsComparedBy}
-use Rattle.rinqebo_diff.specs.Differences.{SideReports}
-use Rattle.rinqebo_sides.specs.Matched.{IsOneTest, TestPair}
+use Rattle.rinqebo_diff.specs.Differences.{SideReports, tests_of}
+use Rattle.rinqebo_diff.specs.EqualSides.{NoTestChanges}
+use Rattle.rinqebo_sides.proofs.Own.{own_tests}
+use Rattle.rinqebo_sides.specs.Matched.{ArePairs, IsOneTest, TestPair}
+use Rattle.rinqebo_sides.specs.Own.{NamesOnce}
 use Rattle.rinqebo_diff.specs.Sides.{Evaluation}
 
 -- a reported value without how it is kept
@@ -155,9 +158,18 @@ no_results side mode asked files (p ∷ ps) (r ∷ rs) same all =
     first None none rest = rest
     first (Some x) none rest = absurd (cc)
 
-pub none_changed : (side : Evaluation) (mode : NextestRunMode) (asked : RequestedSettings) (files : List Source)
+none_changed : (side : Evaluation) (mode : NextestRunMode) (asked : RequestedSettings) (files : List Source)
     (pairs : List TestPair) (changed : List TestChanges) → AllByRecursion IsOneTest pairs
     → AreCompared (SideReports side mode asked) (SideReports side mode asked) (is_change files files false)
     (compares_runs asked) pairs changed → changed ≡ []
 none_changed side mode asked files pairs changed same are =
     are.kept ∙ no_results side mode asked files pairs are.results same are.each
+
+pub no_test_changes : (side : Evaluation) (mode : NextestRunMode) (asked : RequestedSettings) (files : List Source)
+    (pairs : List TestPair) (changed : List TestChanges) → NamesOnce (tests_of side)
+    → ArePairs (tests_of side) (tests_of side) pairs
+    → AreCompared (SideReports side mode asked) (SideReports side mode asked) (is_change files files false)
+    (compares_runs asked) pairs changed → NoTestChanges (tests_of side) changed
+no_test_changes side mode asked files pairs changed once are compared =
+    let own = own_tests (tests_of side) pairs once are in
+    record { none_changed = none_changed side mode asked files pairs changed own.each compared; none_alone = own.alone }

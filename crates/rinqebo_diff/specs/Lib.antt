@@ -9,3 +9,4 @@ pub mod Written
 pub mod Differences
 pub mod Evaluated
 pub mod Beside
+pub mod EqualSides
