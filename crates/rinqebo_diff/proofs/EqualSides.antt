@@ -4,7 +4,6 @@ use Rattle.std.specs.List.{AllByRecursion, AllZip, enumerate_from, filter_map, z
 use Rattle.std.specs.Option.{option_eq}
 use Rattle.nextest_elements.specs.declared.run_mode.NextestRunMode.{NextestRunMode}
 use Rattle.nextest_lists.specs.Lists.{ListTest}
-use Rattle.nextest_settings.specs.declared.setting.Setting.{Setting}
 use Rattle.rinqebo_report.specs.declared.origin.Source.{Source}
 use Rattle.rinqebo_report.specs.declared.report.SettingRow.{SettingRow}
 use Rattle.rinqebo_report.specs.declared.report.TestRows.{TestRows}
@@ -18,7 +17,6 @@ use Rattle.rinqebo_rules.specs.Told as told
 use Rattle.rinqebo_changes.specs.Changes.{change_of, changed_rows, is_change, rows_in, runs_in, side_row, IsChangedTest}
 use Rattle.rinqebo_changes.specs.Same.{same_value}
 use Rattle.rinqebo_changes.specs.ValueViews as plain
-use Rattle.rinqebo_changes.specs.declared.change.RowChange.{RowChange}
 use Rattle.rinqebo_changes.specs.declared.change.SideRow.{SideRow}
 use Rattle.rinqebo_changes.specs.declared.change.TestChanges.{TestChanges}
 use Rattle.rinqebo_changes.proofs.SameValues.{setting_decides}

@@ -1,5 +1,5 @@
 -- Why a diff has no result, and the exit statuses.
-use Rattle.std.proofs.Common.{◌≡◌, ◌∙◌, ◌≤◌, ◌⊎◌, inl, inr, ℕ, Bool, true, false, if◌then◌else◌, List, Option, Result, Ok, Err, IfErr, IfOk, IsErrAnd, arith, subst, sym}
+use Rattle.std.proofs.Common.{◌≡◌, ◌∙◌, ◌≤◌, ◌⊎◌, inl, inr, ℕ, Bool, true, false, if◌then◌else◌, List, Option, Result, Ok, Err, IfErr, IsErrAnd, arith, subst, sym}
 use Rattle.std.specs.Io.KnownBytes.{Appends}
 use Rattle.rinqebo_changes.specs.declared.diff.Diff.{Diff}
 use Rattle.rinqebo_files.specs.declared.files.Gathered.{Gathered}
@@ -9,7 +9,6 @@ use Rattle.rinqebo_load.specs.declared.failure.Failure.{Failure}
 use Rattle.rinqebo_load.specs.declared.failure.Failure.TheVariants as causes
 use Rattle.rinqebo_load.specs.declared.session.Session.{Session}
 use Rattle.rinqebo_run.specs.LookedUp.{IsFailureOn}
-use Rattle.rinqebo_run.specs.Refused.{TellsFailure}
 use Rattle.rinqebo_run.specs.Statuses.{failure_status}
 use Rattle.rinqebo_diff.specs.Differences.{Differs, diff_status, is_empty, HasResult}
 use Rattle.rinqebo_diff.specs.Failing.{SideFails, FailsAt, DiffFails, IsRefusedSide, LacksItsProfile, HasCause}

@@ -1,5 +1,5 @@
 -- What a side that is loaded is compared by, by what its files mean.
-use Rattle.std.proofs.Common.{◌≡◌, ℕ, Bor, List, [], false, IfOk, Result, Ok, Err, string_bytes, subst}
+use Rattle.std.proofs.Common.{◌≡◌, ℕ, Bor, List, [], false, IfOk, Result, string_bytes, subst}
 use Rattle.filter_engine.specs.Compiling.{names_of}
 use Rattle.filter_engine.specs.Engine.{Filter}
 use Rattle.filter_language.specs.Filtersets.{marks_view}

@@ -1,12 +1,10 @@
 -- What changes from one side to another.
-use Rattle.std.specs.Prelude.{◌≡◌, ℕ, ◌&&◌, ◌==◌, not, Bool, true, List, [], Option, length, filter, map, string_bytes, if◌then◌else◌}
+use Rattle.std.specs.Prelude.{◌≡◌, ℕ, ◌&&◌, ◌==◌, not, Bool, List, [], Option, length, filter, string_bytes, if◌then◌else◌}
 use Rattle.std.specs.List.{AllZip}
-use Rattle.filter_engine.specs.Engine.{Filter}
 use Rattle.nextest_elements.specs.declared.run_mode.NextestRunMode.{NextestRunMode}
 use Rattle.nextest_lists.specs.Lists.{Listed, ListTest, list_tests}
 use Rattle.nextest_lists.specs.ListView.{list_view}
 use Rattle.rinqebo_changes.specs.Changes.{is_change}
-use Rattle.rinqebo_changes.specs.declared.change.TestChanges.{TestChanges}
 use Rattle.rinqebo_changes.specs.declared.diff.BinaryTests.{BinaryTests}
 use Rattle.rinqebo_changes.specs.declared.diff.Diff.{Diff}
 use Rattle.rinqebo_files.specs.declared.files.Gathered.{Gathered}

@@ -1,5 +1,5 @@
 -- Tests of two lists that are looked for in each other.
-use Rattle.std.proofs.Common.{◌≡◌, ◌∙◌, ℕ, ◌+◌, ◌<◌, ◌≤◌, ◌||◌, Bool, true, false, cond, ltb, not, List, [], ◌∷◌, ◌++◌, Option, None, Some, MatchOption, option_map, length, map, filter, take, get_or, refl, sym, ap, subst, arith, inl, inr, zero, suc}
+use Rattle.std.proofs.Common.{◌≡◌, ◌∙◌, ℕ, ◌+◌, ◌<◌, ◌≤◌, ◌||◌, Bool, true, false, cond, ltb, not, List, [], ◌∷◌, ◌++◌, Option, None, Some, MatchOption, length, map, filter, take, get_or, refl, sym, ap, subst, arith, inl, inr, zero, suc}
 use Rattle.std.proofs.lemmas.Bool.{ltb-true, ltb-false}
 use Rattle.std.proofs.lemmas.List.{append-nil, length-map}
 use Rattle.std.proofs.lemmas.List.Elements.{All-append, All-cons, All-nil, filter-append}

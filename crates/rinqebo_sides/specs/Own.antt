@@ -2,7 +2,7 @@
 use Rattle.std.specs.Prelude.{◌≡◌, true, List, [], filter, not}
 use Rattle.std.specs.List.{AllByRecursion, Contains}
 use Rattle.nextest_lists.specs.Lists.{ListTest}
-use Rattle.rinqebo_sides.specs.Matched.{same_test, is_in, ArePairs, IsOneTest, TestPair}
+use Rattle.rinqebo_sides.specs.Matched.{same_test, is_in, IsOneTest, TestPair}
 
 -- Two tests of a list that have the same binary and the same name are one.
 pub record NamesOnce (tests : List ListTest) : Type 0 where

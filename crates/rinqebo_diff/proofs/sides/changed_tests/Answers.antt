@@ -1,4 +1,4 @@
-use Rattle.std.proofs.Common.{Bool, IfOk, ap, map, subst, sym}
+use Rattle.std.proofs.Common.{Bool, IfOk, map, subst}
 use Rattle.filter_engine.specs.Compiling.{names_of}
 use Rattle.filter_engine.specs.Engine.{filter_holds}
 use Rattle.filter_language.specs.Filtersets.{marks_view}
@@ -8,7 +8,6 @@ use Rattle.rinqebo_changes.specs.Changes.{is_change}
 use Rattle.rinqebo_request.specs.declared.request.RequestedSettings.{RequestedSettings}
 use Rattle.rinqebo_rules.specs.TestOrigins.{Basis}
 use Rattle.rinqebo_run.proofs.Listing.{basis_here}
-use Rattle.rinqebo_run.specs.ListedBy.{basis_of}
 use Rattle.rinqebo_sides.specs.Matched.{pair_view}
 use Rattle.rinqebo_diff.specs.Compared.{AreCompared, ReportsBy}
 use Rattle.rinqebo_diff.proofs.sides.changed_tests.Goals as goal

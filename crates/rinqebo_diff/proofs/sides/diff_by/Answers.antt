@@ -1,12 +1,8 @@
-use Rattle.std.proofs.Common.{◌∙◌, ap, length, map, subst, sym}
+use Rattle.std.proofs.Common.{◌∙◌, map, subst, sym}
 use Rattle.std.proofs.lemmas.List.{length-map}
 use Rattle.std.specs.List.{AllZip}
-use Rattle.nextest_lists.specs.ListView.{listed_view}
-use Rattle.rinqebo_changes.specs.Changes.{is_change}
 use Rattle.rinqebo_sides.specs.Matched.{pair_view}
-use Rattle.rinqebo_diff.specs.Asked.{compares_runs}
-use Rattle.rinqebo_diff.specs.Compared.{AreCompared}
-use Rattle.rinqebo_diff.specs.Differences.{SideReports, IsCountOf, IsIdOf}
+use Rattle.rinqebo_diff.specs.Differences.{IsIdOf}
 use Rattle.rinqebo_diff.specs.Evaluated.{evaluation_of}
 use Rattle.rinqebo_diff.proofs.sides.diff_by.Goals as goal
 

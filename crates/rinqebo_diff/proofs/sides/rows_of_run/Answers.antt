@@ -1,6 +1,5 @@
-use Rattle.std.proofs.Common.{[], false, subst}
+use Rattle.std.proofs.Common.{[]}
 use Rattle.std.proofs.lemmas.Result.{IfOk-weaker}
-use Rattle.nextest_inheritance.specs.View.{borrowed_view}
 use Rattle.rinqebo_diff.proofs.Sides.{shown_of}
 use Rattle.rinqebo_sides.specs.RunRows.{AreRunRows}
 use Rattle.rinqebo_diff.specs.Evaluated.{evaluation_of}

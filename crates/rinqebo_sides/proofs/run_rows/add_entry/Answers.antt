@@ -1,4 +1,4 @@
-use Rattle.std.proofs.Common.{◌∙◌, ap, string_bytes, sym}
+use Rattle.std.proofs.Common.{◌∙◌, ap, sym}
 use Rattle.rinqebo_sides.specs.RunRows.{is_of_tests}
 use Rattle.rinqebo_sides.proofs.RunRows.{entry_added, entry_left}
 use Rattle.rinqebo_sides.proofs.run_rows.add_entry.Goals as goal
