@@ -35,7 +35,7 @@ impl ComparedSettings {
         Ok(ComparedSettings::new(true, settings))
     }
 
-    /// The settings, as each side is asked for them.
+    /// The settings, as a request of either side names them.
     pub fn asked(&self) -> &RequestedSettings
         ensures { result.now ≡ self.now.asked }
     {
