@@ -37,7 +37,8 @@ scalar_decides (Duration a) (Boolean b) = never (λ e. cc)
 scalar_decides (Duration a) (Integer b) = never (λ e. cc)
 scalar_decides (Duration a) (Text b) = never (λ e. cc)
 scalar_decides (Duration a) (Duration b) =
-    Decides-like (same_scalar (Duration a) (Duration b)) (λ e. ap duration e) (λ e. cc) (Decides-eqb a b)
+    Decides-like (same_scalar (Duration a) (Duration b)) (λ e. ap duration e) (λ e. cc)
+    (Decides-eqb a.nanoseconds b.nanoseconds)
 
 member_decides : (a b : TableMember) → Decides (same_member a b) (member_view a ≡ member_view b)
 member_decides a b =

@@ -51,7 +51,7 @@ scalar : (s : Scalar) → IsExact 0 (scalar_data s)
 scalar (scalars.Boolean b) = exact_truth 0 b
 scalar (scalars.Integer z) = integer z
 scalar (scalars.Text s) = exact_text 0 (string_bytes s)
-scalar (scalars.Duration m) = exact_text 0 _
+scalar (scalars.Duration d) = exact_text 0 _
 
 value : (v : Value) → has_float (value_data v) ≡ false
 value (values.Scalar s) = (scalar s).whole

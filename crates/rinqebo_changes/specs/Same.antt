@@ -12,12 +12,12 @@ use Rattle.rinqebo_report.specs.declared.value.Scalar.TheVariants as scalars
 use Rattle.rinqebo_report.specs.declared.value.Value.{Value}
 use Rattle.rinqebo_report.specs.declared.value.Value.TheVariants as values
 
--- whether two values that hold no others are the same
+-- whether two values that hold no others are the same: two durations are, however files write them
 abbrev pub same_scalar : Scalar → Scalar → Bool
 same_scalar (scalars.Boolean a) (scalars.Boolean b) = beq a b
 same_scalar (scalars.Integer a) (scalars.Integer b) = int_eq a b
 same_scalar (scalars.Text a) (scalars.Text b) = bytes_eq (string_bytes a) (string_bytes b)
-same_scalar (scalars.Duration a) (scalars.Duration b) = a == b
+same_scalar (scalars.Duration a) (scalars.Duration b) = a.nanoseconds == b.nanoseconds
 same_scalar _ _ = false
 
 -- whether two members of tables are the same

@@ -20,12 +20,12 @@ pub data PlainValue : Type 0 where
   texts : List (List ℕ) → PlainValue
   table : List (List ℕ × PlainScalar) → PlainValue
 
--- a value that holds no others
+-- a value that holds no others: a duration without how a file writes it
 abbrev pub scalar_view : Scalar → PlainScalar
 scalar_view (scalars.Boolean b) = boolean b
 scalar_view (scalars.Integer n) = integer n
 scalar_view (scalars.Text t) = text (string_bytes t)
-scalar_view (scalars.Duration n) = duration n
+scalar_view (scalars.Duration d) = duration d.nanoseconds
 
 -- a member of a table
 abbrev pub member_view : TableMember → List ℕ × PlainScalar

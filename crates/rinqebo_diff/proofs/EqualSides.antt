@@ -48,7 +48,7 @@ scalar_plain : (s : Scalar) → plain_scalar (told.scalar_view s) ≡ plain.scal
 scalar_plain (scalars.Boolean b) = refl
 scalar_plain (scalars.Integer n) = refl
 scalar_plain (scalars.Text t) = refl
-scalar_plain (scalars.Duration n) = refl
+scalar_plain (scalars.Duration d) = refl
 
 fields_plain : (fs : List TableMember) → map plain_field (map told.field_view fs) ≡ map plain.member_view fs
 fields_plain [] = refl
