@@ -3,6 +3,7 @@ pub mod ValueViews
 pub mod SameOrigin
 pub mod OriginViews
 pub mod Changes
+pub mod Diffs
 pub mod Classes
 pub mod Groups
 pub mod Pages

@@ -1,4 +1,7 @@
 //! What is reported of two sides.
+ghost use Rattle.std.specs.Prelude.{◌≡◌};
+ghost use Rattle.rinqebo_changes.specs.Diffs.{is_empty};
+
 use crate::change::{RowChange, TestChanges};
 use rinqebo_report::{Asked, Source, TestId};
 
@@ -45,7 +48,9 @@ pub struct Diff {
 
 impl Diff {
     /// Whether nothing changes.
-    pub fn is_empty(&self) -> bool {
+    pub fn is_empty(&self) -> bool
+        ensures { result ≡ is_empty self.now }
+    {
         self.changed.is_empty()
             && self.removed.is_empty()
             && self.added.is_empty()

@@ -1,6 +1,7 @@
 -- Why a diff has no result, and the exit statuses.
 use Rattle.std.proofs.Common.{◌≡◌, ◌∙◌, ◌≤◌, ◌⊎◌, inl, inr, ℕ, Bool, true, false, if◌then◌else◌, List, Option, Result, Ok, Err, IfErr, IsErrAnd, arith, subst, sym}
 use Rattle.std.specs.Io.KnownBytes.{Appends}
+use Rattle.rinqebo_changes.specs.Diffs.{is_empty}
 use Rattle.rinqebo_changes.specs.declared.diff.Diff.{Diff}
 use Rattle.rinqebo_files.specs.declared.files.Gathered.{Gathered}
 use Rattle.rinqebo_load.specs.Beginning.{IsBeginningFailure}
@@ -10,7 +11,7 @@ use Rattle.rinqebo_load.specs.declared.failure.Failure.TheVariants as causes
 use Rattle.rinqebo_load.specs.declared.session.Session.{Session}
 use Rattle.rinqebo_run.specs.LookedUp.{IsFailureOn}
 use Rattle.rinqebo_run.specs.Statuses.{failure_status}
-use Rattle.rinqebo_diff.specs.Differences.{Differs, diff_status, is_empty, HasResult}
+use Rattle.rinqebo_diff.specs.Differences.{Differs, diff_status, HasResult}
 use Rattle.rinqebo_diff.specs.Failing.{SideFails, FailsAt, DiffFails, IsRefusedSide, LacksItsProfile, HasCause}
 use Rattle.rinqebo_diff.specs.Statuses.{diff_failure_status, HasFailureStatus, TellsDiffFailure, TellsRefusal}
 use Rattle.rinqebo_diff.specs.Written.{IsRendered, TellsDiff}

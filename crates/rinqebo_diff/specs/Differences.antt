@@ -5,6 +5,7 @@ use Rattle.nextest_elements.specs.declared.run_mode.NextestRunMode.{NextestRunMo
 use Rattle.nextest_lists.specs.Lists.{Listed, ListTest, list_tests}
 use Rattle.nextest_lists.specs.ListView.{list_view}
 use Rattle.rinqebo_changes.specs.Changes.{is_change}
+use Rattle.rinqebo_changes.specs.Diffs.{is_empty}
 use Rattle.rinqebo_changes.specs.declared.diff.BinaryTests.{BinaryTests}
 use Rattle.rinqebo_changes.specs.declared.diff.Diff.{Diff}
 use Rattle.rinqebo_files.specs.declared.files.Gathered.{Gathered}
@@ -70,12 +71,6 @@ pub record Differs (request : DiffRequest) (from to : Gathered) (diff : Diff) : 
   pub is_left : IsEvaluationOf request.from from left
   pub is_right : IsEvaluationOf request.to to right
   pub is_diff : IsDiffOf request left right diff
-
--- whether nothing changes
-abbrev pub is_empty : Diff → Bool
-is_empty diff =
-    ((length diff.changed.items == 0 && length diff.removed.items == 0)
-    && length diff.added.items == 0) && length diff.run.items == 0
 
 -- the exit status: 0 exactly where nothing changes
 abbrev pub diff_status : Diff → ℕ
