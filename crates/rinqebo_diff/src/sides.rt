@@ -253,7 +253,9 @@ fn diff_by<P: Progress>(
         to: &to_side.sources,
     };
     let pairs = &matched.pairs;
-    let changed = changed_tests(alloc, request, sources, pairs, from, to, left, right, progress)?;
+    let changed = changed_tests(
+        alloc, request, sources, pairs, from, to, left, right, progress,
+    )?;
     let run = changed_run(alloc, request.with_run, from, to, left, right)?;
     let Beside {
         binaries,

@@ -135,9 +135,10 @@ found_there from test place one at is =
     let here : slice_get from place ≡ Some one = slice_get-get_or from place one below ∙ ap Some (sym is) in
     let viewed : slice_get (map list_test_view from) place ≡ Some (list_test_view one) =
     viewed_at list_test_view from place one here in
-    let same : at.found ≡ list_test_view one = let both : Some at.found ≡ Some (list_test_view one) = sym at.here ∙ viewed in cc in
-    ((place, at.below, get_or_from_slice_get (map list_test_view from) place (list_test_view one) (list_test_view one) viewed),
-    ap (λ t. same_test t test) (sym same) ∙ at.same)
+    let same : at.found ≡ list_test_view one = let both : Some at.found ≡ Some (list_test_view one) = sym at.here ∙ viewed in cc in (
+      (place, at.below, get_or_from_slice_get (map list_test_view from) place (list_test_view one) (list_test_view one) viewed),
+      ap (λ t. same_test t test) (sym same) ∙ at.same,
+    )
 
 -- the pair of a test that the left list has
 pub pair_added : (from : List ListedTest) (test one : ListedTest) (place : ℕ) (old new : List Pair)

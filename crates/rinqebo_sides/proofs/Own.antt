@@ -30,9 +30,11 @@ here_in front t ts =
 
 all_in : (front ts : List ListTest) → AllByRecursion (λ t. is_in (front ++ ts) t ≡ true) ts
 all_in front [] = tt
-all_in front (t ∷ ts) =
-    (here_in front t ts, subst (λ xs. AllByRecursion (λ s. is_in xs s ≡ true) ts) (append_assoc front (t ∷ []) ts)
-    (all_in (front ++ t ∷ []) ts))
+all_in front (t ∷ ts) = (
+  here_in front t ts,
+  subst (λ xs. AllByRecursion (λ s. is_in xs s ≡ true) ts) (append_assoc front (t ∷ []) ts)
+      (all_in (front ++ t ∷ []) ts),
+)
 
 none_left : (p : ListTest → Bool) (ts : List ListTest) → AllByRecursion (λ t. p t ≡ true) ts
     → filter (λ t. not (p t)) ts ≡ []
