@@ -1,3 +1,4 @@
+pub mod Texts
 mod Deciding
 mod SameValues
 mod SameOrigins

@@ -152,6 +152,6 @@ pub fn diff_json(alloc: Global, diff: &Diff) -> Result<String, AllocError>
 {
     let document = diff_document(alloc, diff)?;
     let mut text = document.to_string(alloc)?;
-    text.push('\n')?;
+    text.push_str("\n")?;
     Ok(text)
 }

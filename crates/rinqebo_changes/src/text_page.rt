@@ -1,5 +1,5 @@
 //! The page of a diff.
-ghost use Rattle.std.specs.Prelude.{◌≡◌, ◌++◌, OnOk, IfOk, Some, flat_map, string_bytes};
+ghost use Rattle.std.specs.Prelude.{◌≡◌, ◌++◌, OnOk, IfOk, Some, flat_map, length, string_bytes};
 ghost use Rattle.rinqebo_report.specs.Pieces.{page_text};
 ghost use Rattle.rinqebo_changes.specs.Pages.{value_runs, heading_runs, two_site_runs, site_runs, change_runs, names_runs, test_runs, whole_runs, total_of, whole_at, is_whole, item_runs, binary_runs_at, binary_runs, binaries_runs, group_runs, remark_runs, both_runs, head_runs, listed_runs, run_runs, count_runs, diff_runs, IsDiffText};
 
@@ -403,6 +403,13 @@ fn add_count(
     )
 }
 
+/// How many tests change.
+fn changed_count(diff: &Diff) -> u64
+    ensures { result ≡ length diff.now.changed.items }
+{
+    diff.changed.len() as u64
+}
+
 /// Writes the page of a diff, whose changes are in groups.
 fn add_page(
     alloc: Global,
@@ -420,7 +427,7 @@ fn add_page(
     add_listed(out, colour, "removed:", &diff.removed)?;
     add_listed(out, colour, "added:", &diff.added)?;
     add_run(alloc, out, colour, diff)?;
-    add_count(out, colour, diff.changed.len() as u64, diff.compared)
+    add_count(out, colour, changed_count(diff), diff.compared)
 }
 
 /// The page of a diff.

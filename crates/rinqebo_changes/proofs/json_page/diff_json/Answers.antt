@@ -10,6 +10,6 @@ returns c =
     let is = c.in_ok-document.ensures in record {
       document = view c.in_ok-document.document;
       is_document = is;
-      is_text = c.in_ok-push.ensures.bytes ∙ ap (λ t. t ++ 10 ∷ [])
+      is_text = c.in_ok-push_str.ensures.bytes ∙ ap (λ t. t ++ 10 ∷ [])
           (c.in_ok-text.ensures.text (ap has_float is.is_data ∙ whole_diff c.args.diff.now is.groups));
     }
