@@ -1,4 +1,4 @@
-pub mod Texts
+mod TextParts
 mod Deciding
 mod SameValues
 mod SameOrigins

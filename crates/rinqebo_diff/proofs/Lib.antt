@@ -1,4 +1,4 @@
 pub mod Comparing
-pub mod Sides
+pub mod Evaluating
 pub mod Failing
 pub mod EqualSides

@@ -2,7 +2,7 @@ use Rattle.std.proofs.Common.{◌≡◌, ◌∙◌, ◌++◌, List, ap, codes, f
 use Rattle.rinqebo_report.proofs.WholeTexts.{on_ok}
 use Rattle.rinqebo_report.specs.declared.report.TestId.{TestId}
 use Rattle.rinqebo_changes.specs.MarkdownPage.{alone_line, group_line, head_text, last_text, run_line, table_text}
-use Rattle.rinqebo_changes.proofs.Texts.{and_text}
+use Rattle.rinqebo_changes.proofs.TextParts.{and_text}
 use Rattle.rinqebo_changes.proofs.markdown_page.add_table.Goals as goal
 
 pub returns : goal.returns

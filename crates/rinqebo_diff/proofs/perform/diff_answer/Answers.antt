@@ -1,5 +1,5 @@
 use Rattle.rinqebo_diff.proofs.Failing.{diff_wants, left_fails, right_fails}
-use Rattle.rinqebo_diff.proofs.Sides.{differs_as_loaded}
+use Rattle.rinqebo_diff.proofs.Evaluating.{differs_as_loaded}
 use Rattle.rinqebo_diff.proofs.perform.diff_answer.Goals as goal
 
 pub diff_of-requires-clause-from : goal.diff_of-requires-clause-from

@@ -1,6 +1,6 @@
 use Rattle.std.proofs.Common.{[]}
 use Rattle.std.proofs.lemmas.Result.{IfOk-weaker}
-use Rattle.rinqebo_diff.proofs.Sides.{shown_of}
+use Rattle.rinqebo_diff.proofs.Evaluating.{shown_of}
 use Rattle.rinqebo_sides.specs.RunRows.{AreRunRows}
 use Rattle.rinqebo_diff.specs.Evaluated.{evaluation_of}
 use Rattle.rinqebo_diff.specs.RunChanges.{AreRunRowsOf}
