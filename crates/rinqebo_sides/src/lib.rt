@@ -4,8 +4,8 @@
 
 mod laws;
 mod matched;
-mod run_rows;
+mod rows;
 
 pub use laws::law_own_tests;
 pub use matched::{Matched, Pair, match_tests};
-pub use run_rows::run_rows;
+pub use rows::run_rows;

@@ -2,7 +2,7 @@ use Rattle.std.proofs.Common.{◌∙◌, codes, refl, sym}
 use Rattle.nextest_settings.specs.Settings.{settings}
 use Rattle.rinqebo_sides.specs.RunRows.{is_below, is_of_setting}
 use Rattle.rinqebo_sides.proofs.RunRows.{none_more, none_passes, some_passes}
-use Rattle.rinqebo_sides.proofs.run_rows.is_of_tests.Goals as goal
+use Rattle.rinqebo_sides.proofs.rows.is_of_tests.Goals as goal
 
 pub loop-setting-preserved : goal.loop-setting-preserved
 unfolding settings

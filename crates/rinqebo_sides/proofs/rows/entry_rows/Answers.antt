@@ -4,7 +4,7 @@ use Rattle.std.proofs.lemmas.Iterator.Consumers.{YieldsList-end}
 use Rattle.std.specs.List.{AllZip}
 use Rattle.rinqebo_sides.specs.RunRows.{is_of_run, IsEntryRow}
 use Rattle.rinqebo_sides.proofs.RunRows.{all_yielded, entries_more}
-use Rattle.rinqebo_sides.proofs.run_rows.entry_rows.Goals as goal
+use Rattle.rinqebo_sides.proofs.rows.entry_rows.Goals as goal
 
 pub loop-entry-preserved : goal.loop-entry-preserved
 loop-entry-preserved c =

@@ -1,7 +1,7 @@
 use Rattle.std.proofs.Common.{◌∙◌, None, Some, ap, sym}
 use Rattle.rinqebo_report.proofs.Prefixes.{stripped}
 use Rattle.rinqebo_sides.specs.RunRows.{ends_key}
-use Rattle.rinqebo_sides.proofs.run_rows.is_below.Goals as goal
+use Rattle.rinqebo_sides.proofs.rows.is_below.Goals as goal
 
 pub returns-in-Some : goal.returns-in-Some
 returns-in-Some c =

@@ -5,7 +5,7 @@ use Rattle.std.specs.List.{AllZip}
 use Rattle.rinqebo_sides.specs.RunRows.{IsWrapperRow}
 use Rattle.rinqebo_sides.proofs.RunRows.{all_yielded}
 use Rattle.rinqebo_sides.proofs.Zips.{zip_push}
-use Rattle.rinqebo_sides.proofs.run_rows.wrapper_rows.Goals as goal
+use Rattle.rinqebo_sides.proofs.rows.wrapper_rows.Goals as goal
 
 pub loop-wrapper-preserved : goal.loop-wrapper-preserved
 loop-wrapper-preserved c =

@@ -2,7 +2,7 @@ use Rattle.std.proofs.Common.{◌≡◌, false, take}
 use Rattle.std.specs.List.{list_any}
 use Rattle.nextest_settings.specs.Settings.{settings}
 use Rattle.rinqebo_sides.specs.RunRows.{is_of_setting}
-use Rattle.rinqebo_sides.proofs.run_rows.is_of_tests.Given as goal
+use Rattle.rinqebo_sides.proofs.rows.is_of_tests.Given as goal
 
 -- the key is that of no setting so far
 abbrev pub invariant-loop-setting : goal.invariant-loop-setting

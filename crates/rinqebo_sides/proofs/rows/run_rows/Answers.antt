@@ -1,5 +1,5 @@
 use Rattle.std.proofs.Common.{◌∙◌, ◌∷◌, ◌++◌, [], ap}
-use Rattle.rinqebo_sides.proofs.run_rows.run_rows.Goals as goal
+use Rattle.rinqebo_sides.proofs.rows.run_rows.Goals as goal
 
 pub returns : goal.returns
 returns c = record {

@@ -1,7 +1,7 @@
 use Rattle.std.proofs.Common.{◌∙◌, ap, sym}
 use Rattle.rinqebo_sides.specs.RunRows.{is_of_tests}
 use Rattle.rinqebo_sides.proofs.RunRows.{entry_added, entry_left}
-use Rattle.rinqebo_sides.proofs.run_rows.add_entry.Goals as goal
+use Rattle.rinqebo_sides.proofs.rows.add_entry.Goals as goal
 
 pub returns-then-branch : goal.returns-then-branch
 returns-then-branch c =
