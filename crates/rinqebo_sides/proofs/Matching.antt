@@ -14,7 +14,7 @@ use Rattle.nextest_lists.specs.ListView.{list_test_view}
 use Rattle.nextest_lists.specs.declared.list.ListedTest.{ListedTest}
 use Rattle.rinqebo_sides.specs.Matched.{same_test, is_in, pair_view, TestPair, IsPlaceOf, IsPairOf, AddsPair, ArePairs}
 use Rattle.rinqebo_sides.specs.declared.matched.Pair.{Pair}
-use Rattle.rinqebo_sides.proofs.Zips.{taken_more}
+use Rattle.rinqebo_sides.proofs.Zips.{taken_read}
 
 -- whether a listed test is the same as a test
 abbrev pub is_it : ListTest → ListedTest → Bool
@@ -42,10 +42,10 @@ place_is tests test i one here is lt = record {
 }
 
 -- a place at which a test was guessed to be
-pub guessed : (tests : List ListedTest) (test : ListTest) (i : ℕ) (one : ListedTest) → i < length tests
-    → one ≡ get_or tests i one → is_it test one ≡ true → IsPlaceOf (map list_test_view tests) test i
-guessed tests test i one lt at is =
-    place_is tests test i one (slice_get-get_or tests i one lt ∙ ap Some (sym at)) is lt
+pub guessed : (tests : List ListedTest) (test : ListTest) (i : ℕ) (one d : ListedTest) → i < length tests
+    → one ≡ get_or tests i d → is_it test one ≡ true → IsPlaceOf (map list_test_view tests) test i
+guessed tests test i one d lt at is =
+    place_is tests test i one (slice_get-get_or tests i d lt ∙ ap Some (sym at)) is lt
 
 -- the first place of a test
 first_found : (tests : List ListedTest) (test : ListTest) → position_or_len (is_it test) tests < length tests
@@ -83,13 +83,6 @@ first_by tests test r e =
 pub in_at : (tests : List ListTest) (test : ListTest) (i : ℕ) → IsPlaceOf tests test i → is_in tests test ≡ true
 in_at tests test i at = found tests i at.here
   where
-    found : (ts : List ListTest) (k : ℕ) → slice_get ts k ≡ Some at.found → is_in ts test ≡ true
-    found [] k here = absurd (let no : None ≡ Some at.found = here in cc)
-    found (t ∷ ts) zero here =
-        let same : t ≡ at.found = cc in
-        front (same_test t test) (is_in ts test) (ap (λ x. same_test x test) same ∙ at.same)
-    found (t ∷ ts) (suc k) here = behind (same_test t test) (is_in ts test) (found ts k here)
-
     front : (p q : Bool) → p ≡ true → (p || q) ≡ true
     front true q h = refl
     front false q h = absurd (cc)
@@ -97,6 +90,13 @@ in_at tests test i at = found tests i at.here
     behind : (p q : Bool) → q ≡ true → (p || q) ≡ true
     behind true q h = refl
     behind false q h = h
+
+    found : (ts : List ListTest) (k : ℕ) → slice_get ts k ≡ Some at.found → is_in ts test ≡ true
+    found [] k here = absurd (let no : None ≡ Some at.found = here in cc)
+    found (t ∷ ts) zero here =
+        let same : t ≡ at.found = cc in
+        front (same_test t test) (is_in ts test) (ap (λ x. same_test x test) same ∙ at.same)
+    found (t ∷ ts) (suc k) here = behind (same_test t test) (is_in ts test) (found ts k here)
 
 -- a test that the other list has is left out
 pub kept_out : (others : List ListTest) (test : ListTest) (xs : List ListTest) → is_in others test ≡ true
@@ -113,26 +113,26 @@ put_in others test old new none then =
     ∙ ap (λ b. map list_test_view old ++ cond (not b) (list_test_view test ∷ []) []) (sym none)
 
 -- one more test is put in or left out
-pub alone_more : (others : List ListTest) (tests : List ListedTest) (i : ℕ) (test : ListedTest) → i < length tests
-    → test ≡ get_or tests i test → (old new : List ListedTest)
+pub alone_more : (others : List ListTest) (tests : List ListedTest) (i : ℕ) (test d : ListedTest) → i < length tests
+    → test ≡ get_or tests i d → (old new : List ListedTest)
     → map list_test_view old ≡ filter (λ t. not (is_in others t)) (map list_test_view (take i tests))
     → map list_test_view new
     ≡ map list_test_view old ++ filter (λ t. not (is_in others t)) (list_test_view test ∷ [])
     → map list_test_view new ≡ filter (λ t. not (is_in others t)) (map list_test_view (take (i + 1) tests))
-alone_more others tests i test lt is old new before then =
+alone_more others tests i test d lt is old new before then =
     let p : ListTest → Bool = λ t. not (is_in others t) in
     let view = list_test_view test in
     then ∙ ap (λ xs. xs ++ filter p (view ∷ [])) before
     ∙ sym (filter-append p (map list_test_view (take i tests)) (view ∷ []))
-    ∙ ap (filter p) (sym (taken_more list_test_view tests i test lt is))
+    ∙ ap (filter p) (sym (taken_read list_test_view tests i test d lt is))
 
 -- a test at a place of the left list is its test, and is the same
-pub found_there : (from : List ListedTest) (test : ListTest) (place : ℕ) (one : ListedTest)
-    → IsPlaceOf (map list_test_view from) test place → one ≡ get_or from place one
+pub found_there : (from : List ListedTest) (test : ListTest) (place : ℕ) (one d : ListedTest)
+    → IsPlaceOf (map list_test_view from) test place → one ≡ get_or from place d
     → Contains (map list_test_view from) (list_test_view one) × (same_test (list_test_view one) test ≡ true)
-found_there from test place one at is =
+found_there from test place one d at is =
     let below : place < length from = subst (λ n. place < n) (length-map from list_test_view) at.below in
-    let here : slice_get from place ≡ Some one = slice_get-get_or from place one below ∙ ap Some (sym is) in
+    let here : slice_get from place ≡ Some one = slice_get-get_or from place d below ∙ ap Some (sym is) in
     let viewed : slice_get (map list_test_view from) place ≡ Some (list_test_view one) =
     viewed_at list_test_view from place one here in
     let same : at.found ≡ list_test_view one = let both : Some at.found ≡ Some (list_test_view one) = sym at.here ∙ viewed in cc in (
@@ -141,13 +141,13 @@ found_there from test place one at is =
     )
 
 -- the pair of a test that the left list has
-pub pair_added : (from : List ListedTest) (test one : ListedTest) (place : ℕ) (old new : List Pair)
-    → IsPlaceOf (map list_test_view from) (list_test_view test) place → one ≡ get_or from place one
+pub pair_added : (from : List ListedTest) (test one d : ListedTest) (place : ℕ) (old new : List Pair)
+    → IsPlaceOf (map list_test_view from) (list_test_view test) place → one ≡ get_or from place d
     → new ≡ old ++ record { from = one; to = test } ∷ []
     → AddsPair (map list_test_view from) (list_test_view test) (map pair_view old) (map pair_view new)
-pair_added from test one place old new at is then =
+pair_added from test one d place old new at is then =
     let pair : Pair = record { from = one; to = test } in
-    let there = found_there from (list_test_view test) place one at is in
+    let there = found_there from (list_test_view test) place one d at is in
     let some : is_in (map list_test_view from) (list_test_view test) ≡ true =
     in_at (map list_test_view from) (list_test_view test) place at in
     record {
@@ -177,11 +177,11 @@ pub pairs_none : (from : List ListTest) → ArePairs from [] []
 pairs_none from = record { rights = refl; each = All-nil (IsPairOf from) }
 
 -- the pair of one more test is added
-pub pairs_more : (from : List ListTest) (tests : List ListedTest) (i : ℕ) (test : ListedTest) → i < length tests
-    → test ≡ get_or tests i test → (old new : List TestPair)
+pub pairs_more : (from : List ListTest) (tests : List ListedTest) (i : ℕ) (test d : ListedTest) → i < length tests
+    → test ≡ get_or tests i d → (old new : List TestPair)
     → ArePairs from (map list_test_view (take i tests)) old → AddsPair from (list_test_view test) old new
     → ArePairs from (map list_test_view (take (i + 1) tests)) new
-pairs_more from tests i test lt is old new are adds =
+pairs_more from tests i test d lt is old new are adds =
     let right : TestPair → ListTest = λ p. p.to in
     let so_far = map list_test_view (take i tests) in
     let one = list_test_view test ∷ [] in
@@ -189,7 +189,7 @@ pairs_more from tests i test lt is old new are adds =
       rights = ap (map right) adds.appended ∙ map-append right old adds.added
           ∙ (λ j. are.rights j ++ adds.are_pairs.rights j)
           ∙ sym (filter-append (is_in from) so_far one)
-          ∙ ap (filter (is_in from)) (sym (taken_more list_test_view tests i test lt is));
+          ∙ ap (filter (is_in from)) (sym (taken_read list_test_view tests i test d lt is));
       each = subst (All (IsPairOf from)) (sym adds.appended)
           (All-append (IsPairOf from) old adds.added are.each adds.are_pairs.each);
     }

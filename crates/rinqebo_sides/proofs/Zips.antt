@@ -40,3 +40,9 @@ pub taken_one : {X : Type 0} (xs : List X) (i : ℕ) (x d : X) → i < length xs
     → old ≡ take i xs → new ≡ old ++ x ∷ [] → new ≡ take (i + 1) xs
 taken_one xs i x d lt is old new before then =
     then ∙ ap (λ ys. ys ++ x ∷ []) before ∙ ap (λ y. take i xs ++ y ∷ []) is ∙ sym (take_at_read xs i d lt).1
+
+-- what is made of one more of a list, as it is read
+pub taken_read : {X Y : Type 0} (f : X → Y) (xs : List X) (i : ℕ) (x d : X) → i < length xs → x ≡ get_or xs i d
+    → map f (take (i + 1) xs) ≡ map f (take i xs) ++ f x ∷ []
+taken_read f xs i x d lt is =
+    ap (map f) ((take_at_read xs i d lt).1 ∙ ap (λ y. take i xs ++ y ∷ []) (sym is)) ∙ map-append f (take i xs) (x ∷ [])

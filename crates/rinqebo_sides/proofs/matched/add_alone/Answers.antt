@@ -9,6 +9,6 @@ returns-in-Some c =
     let test = list_test_view c.args.test.now in
     kept_out others test (map list_test_view c.args.found.now.items) (in_at others test c.in-Some.place c.in-Some.ensures)
 
-pub returns-in-None : goal.returns-in-None
-returns-in-None c =
-    put_in (map list_test_view c.args.others.now) c.args.test.now _ _ c.in-None.ensures c.in_ok-push.ensures.items
+pub returns-in_ok-push-in-None : goal.returns-in_ok-push-in-None
+returns-in_ok-push-in-None c =
+    put_in (map list_test_view c.args.others.now) c.args.test.now _ _ c.in-None.ensures c.in_ok-push-in-None.ensures.items

@@ -1,4 +1,4 @@
-use Rattle.std.proofs.Common.{◌<◌, map, subst}
+use Rattle.std.proofs.Common.{◌<◌, map, refl, subst}
 use Rattle.std.proofs.lemmas.List.{length-map}
 use Rattle.nextest_lists.specs.ListView.{list_test_view}
 use Rattle.rinqebo_sides.specs.Matched.{pair_view}
@@ -9,10 +9,10 @@ pub bounds-from-place : goal.bounds-from-place
 bounds-from-place c =
     subst (λ n. c.in-Some.place < n) (length-map c.args.from.now list_test_view) c.in-Some.ensures.below
 
-pub returns-in-Some : goal.returns-in-Some
-returns-in-Some c =
-    pair_added c.args.from.now c.args.test.now c.index-from-place.result c.in-Some.place _ _ c.in-Some.ensures
-    c.index-from-place.is c.in_ok-push.ensures.items
+pub returns-in_ok-push-in-Some : goal.returns-in_ok-push-in-Some
+returns-in_ok-push-in-Some c =
+    pair_added c.args.from.now c.args.test.now _ _ c.in-Some.place _ _ c.in-Some.ensures refl
+    c.in_ok-push-in-Some.ensures.items
 
 pub returns-in-None : goal.returns-in-None
 returns-in-None c =

@@ -1,4 +1,4 @@
-use Rattle.std.proofs.Common.{[], map, subst, sym}
+use Rattle.std.proofs.Common.{[], map, refl, subst, sym}
 use Rattle.nextest_lists.specs.ListView.{list_test_view}
 use Rattle.rinqebo_sides.specs.Matched.{ArePairs, pair_view}
 use Rattle.rinqebo_sides.proofs.Matching.{pairs_more, pairs_none}
@@ -11,5 +11,5 @@ loop-test-init c =
 
 pub loop-test-preserved : goal.loop-test-preserved
 loop-test-preserved c =
-    pairs_more (map list_test_view c.args.from.now) c.args.to.now c.loop-test.test-index c.test-item.result
-    c.loop-test-test.true c.test-item.is _ _ c.loop-test.invariant c.in_ok-add_pair.ensures
+    pairs_more (map list_test_view c.args.from.now) c.args.to.now c.loop-test.test-index _ _ c.loop-test-test.true refl _ _
+    c.loop-test.invariant c.in_ok-guess.ensures
