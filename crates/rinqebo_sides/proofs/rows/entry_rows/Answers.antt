@@ -12,7 +12,7 @@ loop-entry-preserved c =
 
 pub returns : goal.returns
 returns c =
-    let whole = YieldsList-end (YieldsList-from_vec {s = c.into_iter-entry-iterator.result} c.args.entries.items (cc) (cc)) c.loop-entry.yielded _
-    c.loop-entry.yielded_by _ _ c.in-None.is c.next.ensures.steps in
+    let whole = YieldsList-end (YieldsList-from_vec {s = c.into_iter-entry-iterator.result} c.args.entries.items (cc) (cc)) c.loop-entry.yielded
+    c.loop-entry.entry-iterator c.loop-entry.yielded_by c.next.result c.next.new.self c.in-None.is c.next.ensures.steps in
     subst (λ es. AllZip IsEntryRow (filter is_of_run es) c.loop-entry.rows.items)
     (all_yielded c.loop-entry.yielded c.args.entries.items whole.0) c.loop-entry.invariant

@@ -15,7 +15,7 @@ loop-wrapper-preserved c =
 
 pub returns : goal.returns
 returns c =
-    let whole = YieldsList-end (YieldsList-from_vec {s = c.into_iter-wrapper-iterator.result} c.args.wrappers.items (cc) (cc)) c.loop-wrapper.yielded _
-    c.loop-wrapper.yielded_by _ _ c.in-None.is c.next.ensures.steps in
+    let whole = YieldsList-end (YieldsList-from_vec {s = c.into_iter-wrapper-iterator.result} c.args.wrappers.items (cc) (cc)) c.loop-wrapper.yielded
+    c.loop-wrapper.wrapper-iterator c.loop-wrapper.yielded_by c.next.result c.next.new.self c.in-None.is c.next.ensures.steps in
     subst (λ ws. AllZip IsWrapperRow ws c.loop-wrapper.rows.items)
     (all_yielded c.loop-wrapper.yielded c.args.wrappers.items whole.0) c.loop-wrapper.invariant
