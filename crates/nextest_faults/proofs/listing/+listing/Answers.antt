@@ -1,0 +1,70 @@
+use Rattle.std.proofs.Common.{◌≡◌, ◌+◌, [], ◌∷◌, ◌++◌, drop, map, string_bytes, refl, sym, ap, ◌∙◌, subst}
+use Rattle.std.proofs.lemmas.List.{drop_all}
+use Rattle.std.specs.Fmt.{decimal}
+use Rattle.nextest_tree.specs.Schema.{at, below, each_entry, each_item, faults, fields_faults}
+use Rattle.nextest_tree.specs.View.{tree_view, entries_view, nodes_view}
+use Rattle.nextest_faults.specs.Found.{Adds, path_text}
+use Rattle.nextest_faults.specs.Places.{fields_view, names_test, place_view}
+use Rattle.nextest_faults.proofs.Adding.{left_more, left_none}
+use Rattle.nextest_faults.proofs.Listed.{entry_faults, fields_next, items_next}
+use Rattle.nextest_faults.proofs.listing.+listing.Goals as goal
+
+pub add_fields-loop-field-preserved : goal.add_fields-loop-field-preserved
+add_fields-loop-field-preserved t c =
+    let l = c.loop-field in
+    let fields = c.deref-field-items.result.now in
+    let p = path_text c.args.path.now in
+    let es = entries_view c.args.members.now.entries in
+    left_more _ l.found.items c.add_field.new.found.items _
+    (fields_faults (fields_view (drop (l.field-index + 1) fields)) p es) _ _ l.invariant
+    (fields_next fields l.field-index c.field-item.result p es c.loop-field-test.true c.field-item.is)
+    c.in_ok-add_field.ensures
+
+pub add_fields-returns : goal.add_fields-returns
+add_fields-returns t c =
+    let l = c.loop-field in
+    let fields = c.deref-field-items.result.now in
+    let p = path_text c.args.path.now in
+    let es = entries_view c.args.members.now.entries in
+    let none : fields_faults (fields_view (drop l.field-index fields)) p es ≡ [] =
+    ap (λ fs. fields_faults (fields_view fs) p es) (drop_all l.field-index fields c.loop-field-test.false) in
+    subst (λ fs. Adds c.args.found.now.items l.found.items (fields_faults (fields_view fs) p es))
+    c.deref-field-items.ensures.value (left_none _ l.found.items _ _ l.invariant none)
+
+pub add_entries-loop-key-preserved : goal.add_entries-loop-key-preserved
+add_entries-loop-key-preserved t c =
+    let l = c.loop-key in
+    let each = entry_faults (names_test c.args.names) (place_view c.args.values.now) (path_text c.args.path.now) in
+    let k = string_bytes c.in-Some.key.now in
+    let n = tree_view c.in-Some.tree.now in
+    let next = entries_view c.next.new.self in
+    let added : Adds l.found.items c.add_entry.new.found.items (each k n) =
+    rw (← c.as_str.ensures.value) c.in_ok-add_entry.ensures in
+    left_more _ l.found.items c.add_entry.new.found.items (each k n) (each_entry each next) _ _ l.invariant
+    (ap (λ es. each_entry each (entries_view es)) c.in-Some.ensures.steps) added
+
+pub add_entries-returns : goal.add_entries-returns
+add_entries-returns t c =
+    let l = c.loop-key in
+    let each = entry_faults (names_test c.args.names) (place_view c.args.values.now) (path_text c.args.path.now) in
+    left_none _ l.found.items _ _ l.invariant
+    (ap (λ es. each_entry each (entries_view es)) c.in-None.ensures.steps.0)
+
+pub add_items-loop-position-preserved : goal.add_items-loop-position-preserved
+add_items-loop-position-preserved t c =
+    let l = c.loop-position in
+    let values = c.args.values.now in
+    let each = faults (place_view c.args.items.now) in
+    let p = path_text c.args.path.now in
+    left_more _ l.found.items c.add_item.new.found.items _
+    (each_item each p (l.position + 1) (nodes_view (drop (l.position + 1) values))) _ _ l.invariant
+    (items_next each p values l.position c.index-values-position.result c.loop-position-test.true
+    c.index-values-position.is)
+    c.in_ok-add_item.ensures
+
+pub add_items-returns : goal.add_items-returns
+add_items-returns t c =
+    let l = c.loop-position in
+    let each = each_item (faults (place_view c.args.items.now)) (path_text c.args.path.now) l.position in
+    left_none _ l.found.items _ _ l.invariant
+    (ap (λ ts. each (nodes_view ts)) (drop_all l.position c.args.values.now c.loop-position-test.false))
