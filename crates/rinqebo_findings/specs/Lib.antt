@@ -1,2 +1,4 @@
 pub mod Failures
+pub mod Order
 pub mod Reports
+pub mod Shown

@@ -1,6 +1,7 @@
 //! Reports of a session.
 ghost use Rattle.std.specs.Prelude.{◌≡◌, IfOk};
 ghost use Rattle.rinqebo_findings.specs.Reports.{IsReportOf};
+ghost use Rattle.rinqebo_findings.specs.Shown.{AreReported};
 
 use crate::above::add_refusals_above;
 use crate::excerpts::with_lines;
@@ -25,11 +26,14 @@ pub fn report_of(
 ) -> Result<Report, AllocError>
     ensures content { IfOk result (λ report. report.content ≡ content) }
     ensures about { IfOk result (IsReportOf session.now) }
+    ensures findings { IfOk result
+        (λ report. AreReported findings.items report.findings.items) }
 {
+    let ordered = in_order(findings)?;
     Ok(Report {
         root: session.gathered.paths.workspace_root.clone()?,
         sources: sources_of(alloc, &session.layers)?,
-        findings: with_lines(alloc, session.gathered, in_order(findings)?)?,
+        findings: with_lines(alloc, session.gathered, ordered)?,
         unreached,
         content,
     })
