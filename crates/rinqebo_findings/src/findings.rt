@@ -66,7 +66,7 @@ impl Label {
 }
 
 /// What the findings of unknown keys are called.
-const UNKNOWN_KEY: Label = Label {
+pub const UNKNOWN_KEY: Label = Label {
     code: Code::UnknownKey,
     upstream: Some("UnknownConfigKeys"),
 };
@@ -129,7 +129,7 @@ pub fn finding_at(
 }
 
 /// A warning about a key of a source.
-fn key_warning(
+pub fn key_warning(
     alloc: Global,
     label: Label,
     source: SourceAt<'_, '_>,

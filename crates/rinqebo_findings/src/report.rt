@@ -6,6 +6,7 @@ ghost use Rattle.rinqebo_findings.specs.Shown.{AreReported};
 use crate::above::add_refusals_above;
 use crate::excerpts::with_lines;
 use crate::findings::warning_findings;
+use crate::nextest_forms::nextest_findings;
 use crate::order::in_order;
 use crate::refusals::add_refusal;
 use crate::unreached::unreached_of;
@@ -39,8 +40,34 @@ pub fn report_of(
     })
 }
 
-/// The report of a refused load: its warnings, all that the refusal says, and what is wrong with
-/// the files above by themselves.
+/// What is wrong with files, and the checks that they did not reach.
+#[derive(Drop)]
+struct Found {
+    /// What is wrong.
+    findings: Vec<Finding>,
+    /// The checks that were not reached.
+    unreached: Vec<Unreached>,
+}
+
+/// What is wrong with the files of a refused load: its warnings, all that the refusal says, and what
+/// is wrong with the files above by themselves.
+fn refused_findings(
+    alloc: Global,
+    session: &Session<'_>,
+    warnings: &DefaultConfigWarnings,
+    error: &ConfigParseError,
+) -> Result<Found, AllocError> {
+    let mut findings = warning_findings(alloc, &session.layers, warnings)?;
+    add_refusal(alloc, session, error, &mut findings)?;
+    let mut unreached = unreached_of(alloc, session, error)?;
+    add_refusals_above(alloc, session, error, &mut findings, &mut unreached)?;
+    Ok(Found {
+        findings,
+        unreached,
+    })
+}
+
+/// The report of a refused load: what is wrong with the files.
 pub fn report_of_refusal(
     alloc: Global,
     session: &Session<'_>,
@@ -49,9 +76,29 @@ pub fn report_of_refusal(
 ) -> Result<Report, AllocError>
     ensures { IfOk result (IsReportOf session.now) }
 {
-    let mut findings = warning_findings(alloc, &session.layers, warnings)?;
-    add_refusal(alloc, session, error, &mut findings)?;
-    let mut unreached = unreached_of(alloc, session, error)?;
-    add_refusals_above(alloc, session, error, &mut findings, &mut unreached)?;
+    let Found {
+        findings,
+        unreached,
+    } = refused_findings(alloc, session, warnings, error)?;
+    report_of(alloc, session, findings, unreached, Content::Check)
+}
+
+/// The report of a check whose load refuses: what is wrong with the files, also what nextest refuses
+/// and a load does not look at.
+pub fn report_of_refused_check(
+    alloc: Global,
+    session: &Session<'_>,
+    warnings: &DefaultConfigWarnings,
+    error: &ConfigParseError,
+) -> Result<Report, AllocError>
+    ensures { IfOk result (IsReportOf session.now) }
+{
+    let Found {
+        mut findings,
+        unreached,
+    } = refused_findings(alloc, session, warnings, error)?;
+    for finding in nextest_findings(alloc, &session.layers)? {
+        findings.push(finding)?;
+    }
     report_of(alloc, session, findings, unreached, Content::Check)
 }
