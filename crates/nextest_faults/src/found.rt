@@ -1,7 +1,7 @@
 //! Faults that are found, and the paths that lead to them.
 ghost use Rattle.std.specs.Prelude.{◌≡◌, ◌++◌, ◌∷◌, [], IfOk, OnOk, Option};
 ghost use Rattle.nextest_tree.specs.Schema.{FaultCause, at};
-ghost use Rattle.nextest_faults.specs.Found.{Adds, IsCause, path_text};
+ghost use Rattle.nextest_faults.specs.Found.{Adds, IsCause, Sees, cause_view, path_text};
 
 use nextest_places::Step;
 use nextest_tree::ElementCause;
@@ -29,8 +29,22 @@ pub(crate) fn longer<'t>(
     Ok(longer)
 }
 
+/// Adds the fault of a cause at a path.
+fn add_one<'t>(
+    alloc: Global,
+    path: &[Step<'t>],
+    cause: ElementCause,
+    found: &mut Vec<FoundFault<'t>>,
+) -> Result<(), AllocError>
+    ensures { (spec : Option FaultCause) → Sees (cause_view cause) spec
+        → OnOk result (Adds found.old.items found.new.items (at (path_text path.now) spec)) }
+{
+    let path = Vec::from_slice(alloc, path)?;
+    found.push(FoundFault { path, cause })?;
+    Ok(())
+}
+
 /// Adds the fault of a cause at a path, if there is a cause.
-#[tactic(auto, using(crate::proofs::Adding::added_at))]
 pub(crate) fn add_at<'t>(
     alloc: Global,
     path: &[Step<'t>],
@@ -40,11 +54,8 @@ pub(crate) fn add_at<'t>(
     ensures { (spec : Option FaultCause) → IsCause cause spec
         → OnOk result (Adds found.old.items found.new.items (at (path_text path.now) spec)) }
 {
-    if let Some(cause) = cause {
-        found.push(FoundFault {
-            path: Vec::from_slice(alloc, path)?,
-            cause,
-        })?;
+    match cause {
+        Some(cause) => add_one(alloc, path, cause, found),
+        None => Ok(()),
     }
-    Ok(())
 }
