@@ -171,28 +171,20 @@ fn path_of_stray<'p>(
     path_with(alloc, &table, stray)
 }
 
-/// Adds that a table lacks a key: at a key that it does not know, if one is near.
-fn add_missing(
+/// Adds that the table at a path lacks a key: at the path of a key that it has in its place, if it has
+/// one, or else at its own.
+fn add_lack(
     refused: &mut Refused<'_, '_>,
-    fault: &ElementFault,
     key: &str,
     path: &[Step<'_>],
+    at: &[Step<'_>],
+    has_stray: bool,
 ) -> Result<(), AllocError> {
     let alloc = refused.alloc;
     let name = called(alloc, path)?;
     let wrong = format!(in alloc; "{name} needs `{key}`")?;
-    let stray = match value_at(refused.source, path) {
-        Some(table) => stray_key(alloc, path, table, key)?,
-        None => None,
-    };
-    let mut found = match &stray {
-        Some(stray) => {
-            let at = path_of_stray(alloc, refused.source, fault, stray.as_str())?;
-            refused.part_at(Code::MissingKey, &at, SpanPart::Key, wrong.as_str())?
-        }
-        None => refused.part_at(Code::MissingKey, path, SpanPart::Key, wrong.as_str())?,
-    };
-    if stray.is_some() {
+    let mut found = refused.part_at(Code::MissingKey, at, SpanPart::Key, wrong.as_str())?;
+    if has_stray {
         found.help = Some(format!(in alloc; "did you mean `{key}`?")?);
         found.help_place = HelpPlace::Beside;
     } else {
@@ -204,17 +196,77 @@ fn add_missing(
     refused.add_finding(found)
 }
 
+/// Adds that the table at a path lacks a key, and has another one in its place, if there is one.
+pub fn add_missing<'x>(
+    refused: &mut Refused<'_, '_>,
+    key: &str,
+    path: &'x [Step<'x>],
+    stray: Option<&'x str>,
+) -> Result<(), AllocError> {
+    match stray {
+        Some(stray) => {
+            let at = path_with(refused.alloc, path, stray)?;
+            add_lack(refused, key, path, &at, true)
+        }
+        None => add_lack(refused, key, path, path, false),
+    }
+}
+
+/// A copy of the key that the table at a path has in place of one that it lacks, if one is near that
+/// it does not know.
+fn stray_at(
+    refused: &Refused<'_, '_>,
+    key: &str,
+    path: &[Step<'_>],
+) -> Result<Option<String>, AllocError> {
+    let alloc = refused.alloc;
+    let Some(table) = value_at(refused.source, path) else {
+        return Ok(None);
+    };
+    match stray_key(alloc, path, table, key)? {
+        Some(stray) => Ok(Some(String::from_str(alloc, stray)?)),
+        None => Ok(None),
+    }
+}
+
+/// Adds that a table lacks a key: at a key that it does not know, if one is near.
+fn add_missing_element(
+    refused: &mut Refused<'_, '_>,
+    fault: &ElementFault,
+    key: &str,
+    path: &[Step<'_>],
+) -> Result<(), AllocError> {
+    match stray_at(refused, key, path)? {
+        Some(stray) => {
+            let at = path_of_stray(refused.alloc, refused.source, fault, stray.as_str())?;
+            add_lack(refused, key, path, &at, true)
+        }
+        None => add_lack(refused, key, path, path, false),
+    }
+}
+
+/// Adds that the value at a path is refused.
+pub fn add_element_at(
+    refused: &mut Refused<'_, '_>,
+    cause: &ElementCause,
+    path: &[Step<'_>],
+) -> Result<(), AllocError> {
+    match (cause, value_at(refused.source, path)) {
+        (ElementCause::OutOfRange, Some(Tree::Table(_))) => add_delays(refused, path),
+        _ => {
+            let found = element_finding(refused, cause, path)?;
+            refused.add_finding(found)
+        }
+    }
+}
+
 /// Adds that a value is refused.
 pub fn add_element(refused: &mut Refused<'_, '_>, fault: &ElementFault) -> Result<(), AllocError> {
     let alloc = refused.alloc;
-    let told = Fault::Value(&fault.cause);
-    let path = spelled_path(alloc, refused.source, fault.path.as_str(), told)?;
-    match (&fault.cause, value_at(refused.source, &path)) {
-        (ElementCause::Missing(key), _) => add_missing(refused, fault, key.as_str(), &path),
-        (ElementCause::OutOfRange, Some(Tree::Table(_))) => add_delays(refused, &path),
-        (cause, _) => {
-            let found = element_finding(refused, cause, &path)?;
-            refused.add_finding(found)
-        }
+    let about = Fault::Value(&fault.cause);
+    let path = spelled_path(alloc, refused.source, fault.path.as_str(), about)?;
+    match &fault.cause {
+        ElementCause::Missing(key) => add_missing_element(refused, fault, key.as_str(), &path),
+        cause => add_element_at(refused, cause, &path),
     }
 }

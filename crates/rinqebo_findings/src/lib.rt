@@ -2,10 +2,13 @@
 //! that have them, and why a run returns nothing.
 #![tactic(auto)]
 
-mod above;
 mod checks;
 mod cycles;
 mod delays;
+mod edited;
+mod edited_files;
+mod edits;
+mod element_repairs;
 mod elements;
 mod excerpts;
 mod expected;
@@ -14,16 +17,19 @@ mod failures;
 mod findings;
 mod given;
 mod hints;
+mod left_out;
 mod loading;
 mod meant;
 mod nextest_forms;
 mod order;
 mod parents;
 mod paths;
+mod refusal_repairs;
 mod refusals;
 mod refused;
 mod refused_values;
 mod report;
+mod search;
 mod shapes;
 mod spellings;
 mod tables;

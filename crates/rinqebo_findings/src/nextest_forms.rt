@@ -2,6 +2,7 @@
 //! that it switches on, archives, and how running tests are ended.
 use crate::findings::{SourceAt, UNKNOWN_KEY, key_warning};
 use crate::given::kind_words;
+use crate::left_out::LeftOut;
 use crate::paths::path_with;
 use crate::refused::Refused;
 use crate::tables::called;
@@ -428,6 +429,7 @@ fn add_forms(refused: &mut Refused<'_, '_>, tree: &Tree) -> Result<(), AllocErro
 /// Returns what nextest refuses in the files of layers and a load does not look at.
 pub fn nextest_findings(alloc: Global, layers: &[Layer<'_>]) -> Result<Vec<Finding>, AllocError> {
     let mut findings = Vec::new(alloc);
+    let left_out = LeftOut::new(alloc);
     for (place, layer) in layers.iter().enumerate() {
         let Some(tree) = layer.tree() else {
             continue;
@@ -440,6 +442,7 @@ pub fn nextest_findings(alloc: Global, layers: &[Layer<'_>]) -> Result<Vec<Findi
             },
             text: None,
             upstream: REFUSED_VALUE,
+            left_out: &left_out,
             findings: &mut findings,
         };
         add_forms(&mut refused, tree)?;

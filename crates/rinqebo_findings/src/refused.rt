@@ -1,5 +1,6 @@
 //! The findings of a refused source.
 use crate::findings::{Label, SourceAt, finding, finding_at};
+use crate::left_out::LeftOut;
 use nextest_places::Step;
 use rinqebo_codes::Code;
 use rinqebo_files::{Layer, SpanPart, part_place};
@@ -16,6 +17,8 @@ pub struct Refused<'r, 't> {
     pub text: Option<&'r str>,
     /// The name that nextest-runner has for the refusal.
     pub upstream: &'static str,
+    /// The names whose definitions are left out.
+    pub left_out: &'r LeftOut,
     /// The findings so far.
     pub findings: &'r mut Vec<Finding>,
 }

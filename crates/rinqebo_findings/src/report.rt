@@ -3,13 +3,10 @@ ghost use Rattle.std.specs.Prelude.{◌≡◌, IfOk};
 ghost use Rattle.rinqebo_findings.specs.Reports.{IsReportOf};
 ghost use Rattle.rinqebo_findings.specs.Shown.{AreReported};
 
-use crate::above::add_refusals_above;
 use crate::excerpts::with_lines;
-use crate::findings::warning_findings;
 use crate::nextest_forms::nextest_findings;
 use crate::order::in_order;
-use crate::refusals::add_refusal;
-use crate::unreached::unreached_of;
+use crate::search::{Found, all_findings};
 use nextest_config::{ConfigParseError, DefaultConfigWarnings};
 use rinqebo_files::sources_of;
 use rinqebo_load::Session;
@@ -40,34 +37,7 @@ pub fn report_of(
     })
 }
 
-/// What is wrong with files, and the checks that they did not reach.
-#[derive(Drop)]
-struct Found {
-    /// What is wrong.
-    findings: Vec<Finding>,
-    /// The checks that were not reached.
-    unreached: Vec<Unreached>,
-}
-
-/// What is wrong with the files of a refused load: its warnings, all that the refusal says, and what
-/// is wrong with the files above by themselves.
-fn refused_findings(
-    alloc: Global,
-    session: &Session<'_>,
-    warnings: &DefaultConfigWarnings,
-    error: &ConfigParseError,
-) -> Result<Found, AllocError> {
-    let mut findings = warning_findings(alloc, &session.layers, warnings)?;
-    add_refusal(alloc, session, error, &mut findings)?;
-    let mut unreached = unreached_of(alloc, session, error)?;
-    add_refusals_above(alloc, session, error, &mut findings, &mut unreached)?;
-    Ok(Found {
-        findings,
-        unreached,
-    })
-}
-
-/// The report of a refused load: what is wrong with the files.
+/// The report of a refused load: its warnings, and all that is wrong with the files.
 pub fn report_of_refusal(
     alloc: Global,
     session: &Session<'_>,
@@ -79,7 +49,7 @@ pub fn report_of_refusal(
     let Found {
         findings,
         unreached,
-    } = refused_findings(alloc, session, warnings, error)?;
+    } = all_findings(alloc, session, warnings, error)?;
     report_of(alloc, session, findings, unreached, Content::Check)
 }
 
@@ -96,7 +66,7 @@ pub fn report_of_refused_check(
     let Found {
         mut findings,
         unreached,
-    } = refused_findings(alloc, session, warnings, error)?;
+    } = all_findings(alloc, session, warnings, error)?;
     for finding in nextest_findings(alloc, &session.layers)? {
         findings.push(finding)?;
     }
