@@ -171,19 +171,23 @@ fn path_of_stray<'p>(
     path_with(alloc, &table, stray)
 }
 
-/// Adds that the table at a path lacks a key: at the path of a key that it has in its place, if it has
-/// one, or else at its own.
+/// That the table at a path lacks a key.
+fn lack_text(alloc: Global, key: &str, path: &[Step<'_>]) -> Result<String, AllocError> {
+    let name = called(alloc, path)?;
+    format!(in alloc; "{name} needs `{key}`")
+}
+
+/// Adds a finding that the table at a path lacks a key, with what to do: it may have another one in
+/// its place.
 fn add_lack(
     refused: &mut Refused<'_, '_>,
+    found: Finding,
     key: &str,
     path: &[Step<'_>],
-    at: &[Step<'_>],
     has_stray: bool,
 ) -> Result<(), AllocError> {
     let alloc = refused.alloc;
-    let name = called(alloc, path)?;
-    let wrong = format!(in alloc; "{name} needs `{key}`")?;
-    let mut found = refused.part_at(Code::MissingKey, at, SpanPart::Key, wrong.as_str())?;
+    let mut found = found;
     if has_stray {
         found.help = Some(format!(in alloc; "did you mean `{key}`?")?);
         found.help_place = HelpPlace::Beside;
@@ -196,31 +200,33 @@ fn add_lack(
     refused.add_finding(found)
 }
 
-/// Adds that the table at a path lacks a key, and has another one in its place, if there is one.
+/// Adds that the table at a path lacks a key: at the key that it has in its place, if it has one.
 pub fn add_missing<'x>(
     refused: &mut Refused<'_, '_>,
     key: &str,
     path: &'x [Step<'x>],
     stray: Option<&'x str>,
 ) -> Result<(), AllocError> {
-    match stray {
+    let wrong = lack_text(refused.alloc, key, path)?;
+    let found = match stray {
         Some(stray) => {
             let at = path_with(refused.alloc, path, stray)?;
-            add_lack(refused, key, path, &at, true)
+            refused.part_at(Code::MissingKey, &at, SpanPart::Key, wrong.as_str())?
         }
-        None => add_lack(refused, key, path, path, false),
-    }
+        None => refused.part_at(Code::MissingKey, path, SpanPart::Key, wrong.as_str())?,
+    };
+    add_lack(refused, found, key, path, stray.is_some())
 }
 
 /// A copy of the key that the table at a path has in place of one that it lacks, if one is near that
 /// it does not know.
 fn stray_at(
-    refused: &Refused<'_, '_>,
+    alloc: Global,
+    source: SourceAt<'_, '_>,
     key: &str,
     path: &[Step<'_>],
 ) -> Result<Option<String>, AllocError> {
-    let alloc = refused.alloc;
-    let Some(table) = value_at(refused.source, path) else {
+    let Some(table) = value_at(source, path) else {
         return Ok(None);
     };
     match stray_key(alloc, path, table, key)? {
@@ -236,13 +242,17 @@ fn add_missing_element(
     key: &str,
     path: &[Step<'_>],
 ) -> Result<(), AllocError> {
-    match stray_at(refused, key, path)? {
+    let alloc = refused.alloc;
+    let wrong = lack_text(alloc, key, path)?;
+    let stray = stray_at(alloc, refused.source, key, path)?;
+    let found = match &stray {
         Some(stray) => {
-            let at = path_of_stray(refused.alloc, refused.source, fault, stray.as_str())?;
-            add_lack(refused, key, path, &at, true)
+            let at = path_of_stray(alloc, refused.source, fault, stray.as_str())?;
+            refused.part_at(Code::MissingKey, &at, SpanPart::Key, wrong.as_str())?
         }
-        None => add_lack(refused, key, path, path, false),
-    }
+        None => refused.part_at(Code::MissingKey, path, SpanPart::Key, wrong.as_str())?,
+    };
+    add_lack(refused, found, key, path, stray.is_some())
 }
 
 /// Adds that the value at a path is refused.
