@@ -9,20 +9,39 @@ use crate::answer::Answer;
 use crate::open_filters::open_filters_note;
 use crate::status::Status;
 use nextest_config::{ConfigParseError, DefaultConfigWarnings};
-use rinqebo_findings::{report_of, report_of_refusal, warning_findings};
+use rinqebo_findings::{nextest_findings, report_of, report_of_refused_check, warning_findings};
 use rinqebo_load::{Config, Failure, Session};
-use rinqebo_report::{Content, Finding};
+use rinqebo_report::{Content, Finding, Level};
 use std::alloc::{AllocError, Global};
+
+/// Whether a finding is at the level of errors.
+fn is_error(finding: &Finding) -> bool {
+    matches!(finding.level, Level::Error)
+}
 
 /// The exit status of a check whose load accepts.
 fn status_of(findings: &[Finding], deny_warnings: bool) -> u8
     ensures { (result ≡ 0) ⊎ (result ≡ 1) }
 {
-    if deny_warnings && !findings.is_empty() {
+    let has_error = findings.iter().any(|finding| is_error(finding));
+    if has_error || (deny_warnings && !findings.is_empty()) {
         Status::Negative as u8
     } else {
         Status::Success as u8
     }
+}
+
+/// What is wrong with files that a load accepts: its warnings, and what nextest refuses.
+fn accepted_findings(
+    alloc: Global,
+    session: &Session<'_>,
+    warnings: &DefaultConfigWarnings,
+) -> Result<Vec<Finding>, AllocError> {
+    let mut findings = warning_findings(alloc, &session.layers, warnings)?;
+    for finding in nextest_findings(alloc, &session.layers)? {
+        findings.push(finding)?;
+    }
+    Ok(findings)
 }
 
 /// The answer of a check whose load accepts, and returns a configuration.
@@ -36,7 +55,7 @@ fn accepted(
     ensures status { IfOk result (λ answer. (answer.status ≡ 0) ⊎ (answer.status ≡ 1)) }
     ensures about { IfOk result (λ answer. IsReportOf session.now answer.report) }
 {
-    let findings = warning_findings(alloc, &session.layers, warnings)?;
+    let findings = accepted_findings(alloc, session, warnings)?;
     let status = status_of(&findings, deny_warnings);
     let report = report_of(alloc, session, findings, Vec::new(alloc), Content::Check)?;
     Ok(Answer {
@@ -60,7 +79,7 @@ fn refused(
     if error.config_file().is_none() {
         return Err(AllocError);
     }
-    let report = report_of_refusal(alloc, session, warnings, error)?;
+    let report = report_of_refused_check(alloc, session, warnings, error)?;
     Ok(Answer {
         report,
         status: Status::Refused as u8,
