@@ -2,3 +2,4 @@ pub mod Failures
 pub mod Order
 pub mod Reports
 pub mod Shown
+pub mod Subjects

@@ -1,4 +1,8 @@
 //! Findings: how they are made, and those of warnings.
+ghost use Rattle.std.specs.Prelude.{◌≡◌, IfOk, Some, None};
+ghost use Rattle.rinqebo_codes.specs.Codes.{code_word};
+ghost use Rattle.rinqebo_findings.specs.Subjects.{shown_path, subject};
+
 use crate::paths::{path_text, spelled_path};
 use crate::refused_values::Fault;
 use crate::tables::{keys_note, unknown_key_help, unknown_key_text};
@@ -104,7 +108,10 @@ pub fn finding(
     label: Label,
     source: SourceAt<'_, '_>,
     message: String,
-) -> Result<Finding, AllocError> {
+) -> Result<Finding, AllocError>
+    ensures { IfOk result (λ found. subject found
+        ≡ record { level = level; code = code_word label.code; path = None }) }
+{
     let code = String::from_str(alloc, label.code.word())?;
     let mut found = Finding::new(alloc, level, code, message);
     found.upstream = copied(alloc, label.upstream)?;
@@ -121,7 +128,10 @@ pub fn finding_at(
     path: &[Step<'_>],
     part: SpanPart,
     message: String,
-) -> Result<Finding, AllocError> {
+) -> Result<Finding, AllocError>
+    ensures { IfOk result (λ found. subject found ≡ record {
+        level = level; code = code_word label.code; path = Some (shown_path path.now) }) }
+{
     let mut found = finding(alloc, level, label, source, message)?;
     found.place = source.place_at(path, part);
     found.path = Some(path_text(alloc, path)?);
