@@ -1,5 +1,8 @@
 //! Findings of values that a file may not have where it writes them.
-use crate::delays::add_delays;
+ghost use Rattle.std.specs.Prelude.{◌≡◌, IfOk};
+ghost use Rattle.rinqebo_findings.specs.Subjects.{IsElementFinding, IsErrorBelow, code_of, error_at, subject};
+
+use crate::delays::delays_finding;
 use crate::expected::expected_at;
 use crate::findings::SourceAt;
 use crate::given::{kind_words, value_at};
@@ -89,7 +92,9 @@ fn wrong_part(cause: &ElementCause) -> SpanPart {
 }
 
 /// The code of a value that is refused.
-fn element_code(cause: &ElementCause) -> Code {
+fn element_code(cause: &ElementCause) -> Code
+    ensures { result ≡ code_of cause.now }
+{
     match cause {
         ElementCause::WrongKind => Code::WrongKind,
         ElementCause::Missing(_) => Code::MissingKey,
@@ -145,11 +150,13 @@ fn advice(
 }
 
 /// The finding of a value that is refused.
-fn element_finding(
+fn value_finding(
     refused: &Refused<'_, '_>,
     cause: &ElementCause,
     path: &[Step<'_>],
-) -> Result<Finding, AllocError> {
+) -> Result<Finding, AllocError>
+    ensures { IfOk result (λ found. subject found ≡ error_at (code_of cause.now) path.now) }
+{
     let alloc = refused.alloc;
     let wrong = wrong_element(alloc, refused.source, cause, path)?;
     let code = element_code(cause);
@@ -157,6 +164,102 @@ fn element_finding(
     found.expected = wanted(alloc, cause, path)?;
     found.help = advice(alloc, refused.source, cause, path)?;
     Ok(found)
+}
+
+/// The finding of a value that is refused, other than that of a table that lacks a key.
+fn element_finding(
+    refused: &Refused<'_, '_>,
+    cause: &ElementCause,
+    path: &[Step<'_>],
+) -> Result<Finding, AllocError>
+    ensures { IfOk result (IsElementFinding cause.now path.now) }
+{
+    match (cause, value_at(refused.source, path)) {
+        (ElementCause::OutOfRange, Some(Tree::Table(_))) => delays_finding(refused, path),
+        _ => value_finding(refused, cause, path),
+    }
+}
+
+/// That the table at a path lacks a key.
+fn lack_text(alloc: Global, key: &str, table: &[Step<'_>]) -> Result<String, AllocError> {
+    let name = called(alloc, table)?;
+    format!(in alloc; "{name} needs `{key}`")
+}
+
+/// Returns a finding that the table at a path lacks a key, with what to do: it may have another one
+/// in its place.
+fn with_advice(
+    refused: &Refused<'_, '_>,
+    found: Finding,
+    key: &str,
+    table: &[Step<'_>],
+    has_stray: bool,
+) -> Result<Finding, AllocError>
+    ensures { IfOk result (λ advised. subject advised ≡ subject found) }
+{
+    let alloc = refused.alloc;
+    let mut found = found;
+    if has_stray {
+        found.help = Some(format!(in alloc; "did you mean `{key}`?")?);
+        found.help_place = HelpPlace::Beside;
+    } else {
+        found.help = script_header(alloc, table, value_at(refused.source, table))?;
+    }
+    if let Some(note) = keys_note(alloc, table)? {
+        found.notes.push(note)?;
+    }
+    Ok(found)
+}
+
+/// The finding, at a path, that the table at another one lacks a key: at that of the key that it has
+/// in its place, or of the table itself.
+fn lack_finding(
+    refused: &Refused<'_, '_>,
+    key: &str,
+    table: &[Step<'_>],
+    at: &[Step<'_>],
+    has_stray: bool,
+) -> Result<Finding, AllocError>
+    ensures { IfOk result (λ found. subject found ≡ error_at Code.MissingKey at.now) }
+{
+    let wrong = lack_text(refused.alloc, key, table)?;
+    let found = refused.part_at(Code::MissingKey, at, SpanPart::Key, wrong.as_str())?;
+    with_advice(refused, found, key, table, has_stray)
+}
+
+/// The finding that the table at a path lacks a key: at the key that it has in its place, if it has
+/// one.
+fn missing_finding<'x>(
+    refused: &Refused<'_, '_>,
+    key: &str,
+    table: &[Step<'x>],
+    stray: Option<&'x str>,
+) -> Result<Finding, AllocError>
+    ensures { IfOk result (IsErrorBelow Code.MissingKey table.now) }
+{
+    match stray {
+        Some(stray) => {
+            let at = path_with(refused.alloc, table, stray)?;
+            lack_finding(refused, key, table, &at, true)
+        }
+        None => lack_finding(refused, key, table, table, false),
+    }
+}
+
+/// The finding of a fault of a value at a path. A table that lacks a key may have another one in its
+/// place.
+pub fn fault_finding<'x>(
+    refused: &Refused<'_, '_>,
+    cause: &ElementCause,
+    path: &[Step<'x>],
+    stray: Option<&'x str>,
+) -> Result<Finding, AllocError>
+    ensures { IfOk result (IsElementFinding cause.now path.now) }
+{
+    match cause {
+        ElementCause::Missing(key) => missing_finding(refused, key.as_str(), path, stray),
+        cause => element_finding(refused, cause, path),
+    }
 }
 
 /// The path of a key of the table in which a value is refused.
@@ -171,112 +274,47 @@ fn path_of_stray<'p>(
     path_with(alloc, &table, stray)
 }
 
-/// That the table at a path lacks a key.
-fn lack_text(alloc: Global, key: &str, path: &[Step<'_>]) -> Result<String, AllocError> {
-    let name = called(alloc, path)?;
-    format!(in alloc; "{name} needs `{key}`")
-}
-
-/// Adds a finding that the table at a path lacks a key, with what to do: it may have another one in
-/// its place.
-fn add_lack(
-    refused: &mut Refused<'_, '_>,
-    found: Finding,
-    key: &str,
-    path: &[Step<'_>],
-    has_stray: bool,
-) -> Result<(), AllocError> {
-    let alloc = refused.alloc;
-    let mut found = found;
-    if has_stray {
-        found.help = Some(format!(in alloc; "did you mean `{key}`?")?);
-        found.help_place = HelpPlace::Beside;
-    } else {
-        found.help = script_header(alloc, path, value_at(refused.source, path))?;
-    }
-    if let Some(note) = keys_note(alloc, path)? {
-        found.notes.push(note)?;
-    }
-    refused.add_finding(found)
-}
-
-/// Adds that the table at a path lacks a key: at the key that it has in its place, if it has one.
-pub fn add_missing<'x>(
-    refused: &mut Refused<'_, '_>,
-    key: &str,
-    path: &'x [Step<'x>],
-    stray: Option<&'x str>,
-) -> Result<(), AllocError> {
-    let wrong = lack_text(refused.alloc, key, path)?;
-    let found = match stray {
-        Some(stray) => {
-            let at = path_with(refused.alloc, path, stray)?;
-            refused.part_at(Code::MissingKey, &at, SpanPart::Key, wrong.as_str())?
-        }
-        None => refused.part_at(Code::MissingKey, path, SpanPart::Key, wrong.as_str())?,
-    };
-    add_lack(refused, found, key, path, stray.is_some())
-}
-
 /// A copy of the key that the table at a path has in place of one that it lacks, if one is near that
 /// it does not know.
 fn stray_at(
     alloc: Global,
     source: SourceAt<'_, '_>,
     key: &str,
-    path: &[Step<'_>],
+    table: &[Step<'_>],
 ) -> Result<Option<String>, AllocError> {
-    let Some(table) = value_at(source, path) else {
+    let Some(tree) = value_at(source, table) else {
         return Ok(None);
     };
-    match stray_key(alloc, path, table, key)? {
+    match stray_key(alloc, table, tree, key)? {
         Some(stray) => Ok(Some(String::from_str(alloc, stray)?)),
         None => Ok(None),
     }
 }
 
-/// Adds that a table lacks a key: at a key that it does not know, if one is near.
-fn add_missing_element(
-    refused: &mut Refused<'_, '_>,
+/// The finding that a table of a source lacks a key: at a key that it does not know, if one is near.
+fn missing_in_source(
+    refused: &Refused<'_, '_>,
     fault: &ElementFault,
     key: &str,
-    path: &[Step<'_>],
-) -> Result<(), AllocError> {
+    table: &[Step<'_>],
+) -> Result<Finding, AllocError> {
     let alloc = refused.alloc;
-    let wrong = lack_text(alloc, key, path)?;
-    let stray = stray_at(alloc, refused.source, key, path)?;
-    let found = match &stray {
+    match stray_at(alloc, refused.source, key, table)? {
         Some(stray) => {
             let at = path_of_stray(alloc, refused.source, fault, stray.as_str())?;
-            refused.part_at(Code::MissingKey, &at, SpanPart::Key, wrong.as_str())?
+            lack_finding(refused, key, table, &at, true)
         }
-        None => refused.part_at(Code::MissingKey, path, SpanPart::Key, wrong.as_str())?,
-    };
-    add_lack(refused, found, key, path, stray.is_some())
-}
-
-/// Adds that the value at a path is refused.
-pub fn add_element_at(
-    refused: &mut Refused<'_, '_>,
-    cause: &ElementCause,
-    path: &[Step<'_>],
-) -> Result<(), AllocError> {
-    match (cause, value_at(refused.source, path)) {
-        (ElementCause::OutOfRange, Some(Tree::Table(_))) => add_delays(refused, path),
-        _ => {
-            let found = element_finding(refused, cause, path)?;
-            refused.add_finding(found)
-        }
+        None => lack_finding(refused, key, table, table, false),
     }
 }
 
 /// Adds that a value is refused.
 pub fn add_element(refused: &mut Refused<'_, '_>, fault: &ElementFault) -> Result<(), AllocError> {
-    let alloc = refused.alloc;
     let about = Fault::Value(&fault.cause);
-    let path = spelled_path(alloc, refused.source, fault.path.as_str(), about)?;
-    match &fault.cause {
-        ElementCause::Missing(key) => add_missing_element(refused, fault, key.as_str(), &path),
-        cause => add_element_at(refused, cause, &path),
-    }
+    let path = spelled_path(refused.alloc, refused.source, fault.path.as_str(), about)?;
+    let found = match &fault.cause {
+        ElementCause::Missing(key) => missing_in_source(refused, fault, key.as_str(), &path)?,
+        cause => element_finding(refused, cause, &path)?,
+    };
+    refused.add_finding(found)
 }

@@ -1,5 +1,5 @@
 //! Paths into files, as lists of steps, and the texts that spell them.
-ghost use Rattle.std.specs.Prelude.{◌≡◌, ◌++◌, IfOk, OnOk, string_bytes};
+ghost use Rattle.std.specs.Prelude.{◌≡◌, ◌++◌, ◌∷◌, [], IfOk, OnOk, string_bytes};
 ghost use Rattle.rinqebo_findings.specs.Subjects.{shown_path, step_text};
 
 use crate::findings::SourceAt;
@@ -45,7 +45,9 @@ pub fn path_with<'p>(
     alloc: Global,
     table: &[Step<'p>],
     key: &'p str,
-) -> Result<Vec<Step<'p>>, AllocError> {
+) -> Result<Vec<Step<'p>>, AllocError>
+    ensures { IfOk result (λ path. path.items ≡ table.now ++ Step.Key key.entry ∷ []) }
+{
     let mut path = Vec::from_slice(alloc, table)?;
     path.push(Step::Key(key))?;
     Ok(path)

@@ -1,9 +1,12 @@
 //! All that is wrong with files that are refused: the faults of all values, and then what each later
 //! check finds in files without these.
+ghost use Rattle.std.specs.Prelude.{IfOk};
+ghost use Rattle.rinqebo_findings.specs.Subjects.{IsElementFinding};
+
 use crate::checks::{Check, Scope, check_of, scope_of};
 use crate::edited_files::Reading;
 use crate::element_repairs::{leave_out_element, leave_out_setting};
-use crate::elements::{add_element_at, add_missing};
+use crate::elements::fault_finding;
 use crate::excerpts::text_of;
 use crate::findings::{SourceAt, warning_findings};
 use crate::given::tree_at;
@@ -100,31 +103,28 @@ fn source_at<'s, 'g>(session: &'s Session<'g>, place: usize) -> SourceAt<'s, 'g>
     }
 }
 
-/// Adds the finding of a fault in the source at a place among the layers, and of a key that a table
-/// has instead of one that it lacks.
-fn add_fault<'x, 'y>(
+/// The finding of a fault in the source at a place among the layers. A table that lacks a key may have
+/// another one in its place.
+fn finding_of(
     alloc: Global,
-    session: &'x Session<'_>,
-    left_out: &'x LeftOut,
-    findings: &'x mut Vec<Finding>,
+    session: &Session<'_>,
     place: usize,
-    fault: &'y FoundFault<'y>,
-    stray: Option<&'y str>,
-) -> Result<(), AllocError> {
-    let mut refused = Refused {
+    fault: &FoundFault<'_>,
+    stray: Option<&str>,
+) -> Result<Finding, AllocError>
+    ensures { IfOk result (IsElementFinding fault.now.cause fault.now.path.items) }
+{
+    let left_out = LeftOut::new(alloc);
+    let mut none = Vec::new(alloc);
+    let refused = Refused {
         alloc,
         source: source_at(session, place),
         text: text_of(session.gathered, place),
         upstream: REFUSED_VALUE,
-        left_out,
-        findings,
+        left_out: &left_out,
+        findings: &mut none,
     };
-    match &fault.cause {
-        ElementCause::Missing(key) => {
-            add_missing(&mut refused, key.as_str(), &fault.path, stray)
-        }
-        cause => add_element_at(&mut refused, cause, &fault.path),
-    }
+    fault_finding(&refused, &fault.cause, &fault.path, stray)
 }
 
 impl<'s, 'g> Search<'s, 'g> {
@@ -165,15 +165,8 @@ impl<'s, 'g> Search<'s, 'g> {
             return Ok(());
         };
         let stray = stray_in(self.alloc, laid, &fault.path, key.as_str())?;
-        add_fault(
-            self.alloc,
-            self.session,
-            &self.left_out,
-            &mut self.findings,
-            place,
-            fault,
-            stray,
-        )?;
+        let found = finding_of(self.alloc, self.session, place, fault, stray)?;
+        self.findings.push(found)?;
         if let Some(stray) = stray {
             self.reading.edits.remove_key(place, &fault.path, stray)?;
         }
@@ -196,15 +189,8 @@ impl<'s, 'g> Search<'s, 'g> {
         if self.is_found(place, fault)? {
             return Ok(());
         }
-        add_fault(
-            self.alloc,
-            self.session,
-            &self.left_out,
-            &mut self.findings,
-            place,
-            fault,
-            None,
-        )?;
+        let found = finding_of(self.alloc, self.session, place, fault, None)?;
+        self.findings.push(found)?;
         self.leave_out(place, fault)
     }
 
