@@ -35,6 +35,7 @@ mod spellings;
 mod tables;
 mod unknown_names;
 mod unreached;
+mod value_faults;
 mod ways;
 
 pub use failures::find_test;

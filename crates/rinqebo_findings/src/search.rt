@@ -1,24 +1,17 @@
 //! All that is wrong with files that are refused: the faults of all values, and then what each later
 //! check finds in files without these.
-ghost use Rattle.std.specs.Prelude.{IfOk};
-ghost use Rattle.rinqebo_findings.specs.Subjects.{IsElementFinding};
-
 use crate::checks::{Check, Scope, check_of, scope_of};
 use crate::edited_files::Reading;
 use crate::element_repairs::{leave_out_element, leave_out_setting};
-use crate::elements::fault_finding;
-use crate::excerpts::text_of;
-use crate::findings::{SourceAt, warning_findings};
-use crate::given::tree_at;
+use crate::findings::warning_findings;
 use crate::left_out::LeftOut;
 use crate::refusal_repairs::{
     leave_out_foreign_groups, leave_out_groups, leave_out_old_scripts, leave_out_parents,
     leave_out_script_rules, leave_out_scripts, leave_out_sections,
 };
 use crate::refusals::{add_refusal, refused_place};
-use crate::refused::Refused;
-use crate::tables::stray_key;
 use crate::unreached::{names_after, only};
+use crate::value_faults::{fault_findings, strays_of};
 use nextest_config::{
     ConfigExperimental, ConfigParseError, ConfigParseErrorKind, DefaultConfigWarnings,
     ElementCause, Tree,
@@ -32,9 +25,6 @@ use rinqebo_load::Session;
 use rinqebo_report::{Finding, Unreached};
 use std::alloc::{AllocError, Global};
 use std::collections::BTreeSet;
-
-/// The name that nextest-runner has for a value that is refused.
-const REFUSED_VALUE: &str = "DeserializeError";
 
 /// How often a source is refused at most before the search ends.
 const MOST_STEPS: usize = 16;
@@ -81,52 +71,6 @@ fn warning_mark(alloc: Global, warning: &Finding) -> Result<String, AllocError> 
     }
 }
 
-/// The key that the table at a path has in place of one that it lacks, if one is near that it does
-/// not know.
-fn stray_in<'y>(
-    alloc: Global,
-    laid: &'y Tree,
-    path: &[Step<'_>],
-    missing: &str,
-) -> Result<Option<&'y str>, AllocError> {
-    match tree_at(laid, path) {
-        Some(table) => stray_key(alloc, path, table, missing),
-        None => Ok(None),
-    }
-}
-
-/// The source at a place among the layers.
-fn source_at<'s, 'g>(session: &'s Session<'g>, place: usize) -> SourceAt<'s, 'g> {
-    SourceAt {
-        layers: &session.layers,
-        position: Some(place),
-    }
-}
-
-/// The finding of a fault in the source at a place among the layers. A table that lacks a key may have
-/// another one in its place.
-fn finding_of(
-    alloc: Global,
-    session: &Session<'_>,
-    place: usize,
-    fault: &FoundFault<'_>,
-    stray: Option<&str>,
-) -> Result<Finding, AllocError>
-    ensures { IfOk result (IsElementFinding fault.now.cause fault.now.path.items) }
-{
-    let left_out = LeftOut::new(alloc);
-    let mut none = Vec::new(alloc);
-    let refused = Refused {
-        alloc,
-        source: source_at(session, place),
-        text: text_of(session.gathered, place),
-        upstream: REFUSED_VALUE,
-        left_out: &left_out,
-        findings: &mut none,
-    };
-    fault_finding(&refused, &fault.cause, &fault.path, stray)
-}
-
 impl<'s, 'g> Search<'s, 'g> {
     /// A search that has found nothing.
     fn new(alloc: Global, session: &'s Session<'g>) -> Result<Search<'s, 'g>, AllocError> {
@@ -153,45 +97,21 @@ impl<'s, 'g> Search<'s, 'g> {
         leave_out_element(edits, &mut self.left_out, place, &fault.cause, &fault.path)
     }
 
-    /// Adds that a table lacks a key, with the key that it has instead, if one is near, in a source
-    /// over the defaults.
-    fn add_missing<'y>(
+    /// Leaves out the values of a source that are refused, and the keys that stand in place of missing
+    /// ones.
+    fn leave_out_faults(
         &mut self,
         place: usize,
-        laid: &'y Tree,
-        fault: &'y FoundFault<'y>,
+        faults: &[FoundFault<'_>],
+        strays: &[Option<&str>],
     ) -> Result<(), AllocError> {
-        let ElementCause::Missing(key) = &fault.cause else {
-            return Ok(());
-        };
-        let stray = stray_in(self.alloc, laid, &fault.path, key.as_str())?;
-        let found = finding_of(self.alloc, self.session, place, fault, stray)?;
-        self.findings.push(found)?;
-        if let Some(stray) = stray {
-            self.reading.edits.remove_key(place, &fault.path, stray)?;
+        for (fault, stray) in faults.iter().zip(strays) {
+            if let Some(stray) = stray {
+                self.reading.edits.remove_key(place, &fault.path, *stray)?;
+            }
+            self.leave_out(place, fault)?;
         }
-        self.leave_out(place, fault)
-    }
-
-    /// Whether a fault is in a finding: a key that a table refuses, in place of one that it lacks.
-    fn is_found(&self, place: usize, fault: &FoundFault<'_>) -> Result<bool, AllocError> {
-        match &fault.cause {
-            ElementCause::UnknownField => self.reading.edits.removes_at(place, &fault.path),
-            _ => Ok(false),
-        }
-    }
-
-    /// Adds that a value is refused.
-    fn add_other(&mut self, place: usize, fault: &FoundFault<'_>) -> Result<(), AllocError> {
-        if let ElementCause::Missing(_) = &fault.cause {
-            return Ok(());
-        }
-        if self.is_found(place, fault)? {
-            return Ok(());
-        }
-        let found = finding_of(self.alloc, self.session, place, fault, None)?;
-        self.findings.push(found)?;
-        self.leave_out(place, fault)
+        Ok(())
     }
 
     /// Adds the faults of all values of the source at a place among the layers.
@@ -202,13 +122,11 @@ impl<'s, 'g> Search<'s, 'g> {
         };
         let laid = lay_over(alloc, tree, default_tree(alloc)?)?;
         let faults = file_faults(alloc, &laid)?;
-        for fault in &faults {
-            self.add_missing(place, &laid, fault)?;
+        let strays = strays_of(alloc, &laid, &faults)?;
+        for finding in fault_findings(alloc, self.session, place, &faults, &strays)? {
+            self.findings.push(finding)?;
         }
-        for fault in &faults {
-            self.add_other(place, fault)?;
-        }
-        Ok(())
+        self.leave_out_faults(place, &faults, &strays)
     }
 
     /// Whether a warning only follows from what is left out: a rule lacks the script that it names.
