@@ -56,7 +56,7 @@ fn bad_text(
         Some(Tree::Text(text)) if text.as_str() == given => {
             format!(in alloc; "{name} is `{given}`")
         }
-        _ => format!(in alloc; "`{given}` is not a name that may stand here"),
+        _ => format!(in alloc; "`{given}` is not a valid name here"),
     }
 }
 

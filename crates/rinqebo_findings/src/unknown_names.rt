@@ -138,7 +138,7 @@ pub fn add_script_errors(
     }
     for error in &errors.list_scripts_using_run_filters {
         let name = error.name.to_string(alloc)?;
-        let wrong = "a list wrapper may not stand beside a filter that only a running test answers";
+        let wrong = "a list wrapper cannot have a filter on tests";
         let profile = error.profile_name.as_str();
         add_script(
             refused,

@@ -45,36 +45,36 @@ impl Holder {
     ghost use Rattle.std.specs.Prelude.{◌≡◌};
 
     /// Returns the path of a key of the object.
-    pub fn at(self, key: &'static str) -> Place
+    pub fn at(self, key: &'static str) -> FieldPlace
         ensures { result.key.now ≡ key.now }
     {
-        Place { holder: self, key }
+        FieldPlace { holder: self, key }
     }
 }
 
 /// The path of a value in a request.
 #[derive(Clone, Copy, Debug, PartialEq, Eq, Drop)]
-pub struct Place {
+pub struct FieldPlace {
     /// The object that has the key.
     pub holder: Holder,
     /// The key.
     pub key: &'static str,
 }
 
-impl fmt::Display for Place {
+impl fmt::Display for FieldPlace {
     fn fmt<W: fmt::Write>(&self, f: &mut fmt::Formatter<W>) -> fmt::Result {
         write!(f, "{}{}", self.holder, self.key)
     }
 }
 
-impl Place {
+impl FieldPlace {
     ghost use Rattle.std.specs.Prelude.{◌≡◌};
     ghost use Rattle.serde_json.specs.Find.{get};
     ghost use Rattle.serde_json.specs.View.{view};
     ghost use Rattle.json_fields.specs.Fields.{found_at};
 
     /// Returns the field at the path, of the object that has the key.
-    pub(crate) fn of(self, value: &Value) -> Field<'_, Place>
+    pub(crate) fn of(self, value: &Value) -> Field<'_, FieldPlace>
         ensures { found_at result ≡ get self.key.now (view value.now) }
     {
         Field::under(value, self.key, self)
@@ -113,20 +113,20 @@ pub enum RequestFault {
     NotJson,
     /// The value at the path isn't the one that is wanted, or is missing.
     #[error("expected {0} at `{1}`")]
-    Expected(ExpectedValue, Place),
+    Expected(ExpectedValue, FieldPlace),
     /// An allocation failed.
     #[error("out of memory")]
     Memory,
 }
 
-impl From<Misfit<Place>> for RequestFault {
+impl From<Misfit<FieldPlace>> for RequestFault {
     ghost use Rattle.std.specs.Prelude.{◌≡◌};
     ghost use Rattle.rinqebo_forms.specs.declared.fault.RequestFault.TheVariants.{Expected};
     ghost use Rattle.rinqebo_forms.specs.declared.fault.ExpectedValue.TheVariants.{Value};
 
     ghost from_gives = { λ misfit fault. fault ≡ Expected (Value misfit.wanted) misfit.place };
 
-    fn from(misfit: Misfit<Place>) -> Self {
+    fn from(misfit: Misfit<FieldPlace>) -> Self {
         RequestFault::Expected(ExpectedValue::Value(misfit.wanted), misfit.place)
     }
 }

@@ -10,7 +10,7 @@ mod request;
 mod run_request;
 mod values;
 
-pub use fault::{ExpectedValue, Holder, Place, RequestFault};
+pub use fault::{ExpectedValue, FieldPlace, Holder, RequestFault};
 pub use machines::{EngineFault, filters_of, open_filters_of, platform_of, platforms_of};
 pub use numbers::{
     Duration, GroupThreads, LeakNumbers, RetryNumbers, SlowNumbers, ThreadNumbers, duration_parts,

@@ -5,7 +5,7 @@ ghost use Rattle.nextest_sources.specs.Sources.{outcome_view};
 ghost use Rattle.rinqebo_forms.specs.Reading.{Reads};
 ghost use Rattle.rinqebo_forms.specs.Requests.{kind_at, kind_of, outcome_in, outcome_of};
 
-use crate::fault::{ExpectedValue, Holder, Place, RequestFault};
+use crate::fault::{ExpectedValue, FieldPlace, Holder, RequestFault};
 use crate::values::string_at;
 use nextest_sources::ReadOutcome;
 use serde_json::Value;
@@ -42,7 +42,7 @@ fn kind_of(word: &str) -> Option<OutcomeKind>
 }
 
 /// Reads the kind of outcome that the word at a path names.
-fn kind_at(value: &Value, place: Place) -> Result<OutcomeKind, RequestFault>
+fn kind_at(value: &Value, place: FieldPlace) -> Result<OutcomeKind, RequestFault>
     ensures { Reads (λ kind. kind) result (kind_at place.key.now (view value.now)) }
 {
     match kind_of(place.of(value).text()?) {

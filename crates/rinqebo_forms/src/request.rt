@@ -6,7 +6,7 @@ ghost use Rattle.rinqebo_forms.specs.Reading.{Reads};
 ghost use Rattle.rinqebo_forms.specs.Requests.{config_file_in, file_in, tool_in, tools_in, machine_in, machine_view, switches_in, target_in, target_directory_in, request_in, request_view, request_of, organisation_file_in, tool_name_in};
 ghost use Rattle.nextest_texts.specs.IdentifierText.{tool_name_text};
 
-use crate::fault::{ExpectedValue, Holder, Place, RequestFault};
+use crate::fault::{ExpectedValue, FieldPlace, Holder, RequestFault};
 use crate::outcome::outcome_in;
 use crate::values::{optional_string_at, string_at};
 use nextest_sources::{ConfigPath, ConfigPaths, FileInput, ToolConfigFile};
@@ -72,7 +72,7 @@ fn config_file_in(alloc: Global, value: &Value) -> Result<Option<FileInput>, Req
     ensures { Reads (λ file. option_map file_view file) result
         (config_file_in (view value.now)) }
 {
-    let place = Place {
+    let place = FieldPlace {
         holder: Holder::Request,
         key: "config-file",
     };
@@ -87,7 +87,7 @@ fn organisation_file_in(alloc: Global, value: &Value) -> Result<Option<FileInput
     ensures { Reads (λ file. option_map file_view file) result
         (organisation_file_in (view value.now)) }
 {
-    let place = Place {
+    let place = FieldPlace {
         holder: Holder::Request,
         key: "organisation-config-file",
     };
@@ -168,11 +168,11 @@ fn switches_in(value: &Value) -> Result<Switches, RequestFault>
     ensures { Reads (λ switches. switches) result (switches_in (view value.now)) }
 {
     let holder = Holder::Features;
-    let setup_scripts = Place {
+    let setup_scripts = FieldPlace {
         holder,
         key: "setup-scripts",
     };
-    let wrapper_scripts = Place {
+    let wrapper_scripts = FieldPlace {
         holder,
         key: "wrapper-scripts",
     };
@@ -183,7 +183,7 @@ fn switches_in(value: &Value) -> Result<Switches, RequestFault>
 }
 
 /// Returns the path of a key of a request.
-pub(crate) fn at(key: &'static str) -> Place
+pub(crate) fn at(key: &'static str) -> FieldPlace
     ensures { result.key.now ≡ key.now }
 {
     Holder::Request.at(key)

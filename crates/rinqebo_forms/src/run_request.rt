@@ -4,7 +4,7 @@ ghost use Rattle.serde_json.specs.View.{view};
 ghost use Rattle.rinqebo_forms.specs.Reading.{Reads};
 ghost use Rattle.rinqebo_forms.specs.Runs.{mode_at, mode_of, run_in, run_of, run_view};
 
-use crate::fault::{ExpectedValue, Place, RequestFault};
+use crate::fault::{ExpectedValue, FieldPlace, RequestFault};
 use crate::request::{LoadRequest, at};
 use crate::values::string_at;
 use nextest_elements::NextestRunMode;
@@ -38,7 +38,7 @@ fn mode_of(word: &str) -> Option<NextestRunMode>
 }
 
 /// Reads the mode that the word at a path names.
-fn mode_at(value: &Value, place: Place) -> Result<NextestRunMode, RequestFault>
+fn mode_at(value: &Value, place: FieldPlace) -> Result<NextestRunMode, RequestFault>
     ensures { Reads (λ mode. mode) result (mode_at place.key.now (view value.now)) }
 {
     match mode_of(place.of(value).text()?) {

@@ -5,12 +5,12 @@ ghost use Rattle.serde_json.specs.View.{view};
 ghost use Rattle.json_fields.specs.Parts.{optional_text, under};
 ghost use Rattle.rinqebo_forms.specs.Reading.{Reads};
 
-use crate::fault::{Place, RequestFault};
+use crate::fault::{FieldPlace, RequestFault};
 use serde_json::Value;
 use std::alloc::Global;
 
 /// Reads the string at a path, and returns a copy.
-pub fn string_at(alloc: Global, value: &Value, place: Place) -> Result<String, RequestFault>
+pub fn string_at(alloc: Global, value: &Value, place: FieldPlace) -> Result<String, RequestFault>
     ensures { Reads string_bytes result (under as_str place.key.now (view value.now)) }
 {
     let text = place.of(value).text()?;
@@ -21,7 +21,7 @@ pub fn string_at(alloc: Global, value: &Value, place: Place) -> Result<String, R
 pub fn optional_string_at(
     alloc: Global,
     value: &Value,
-    place: Place,
+    place: FieldPlace,
 ) -> Result<Option<String>, RequestFault>
     ensures { Reads (λ text. option_map string_bytes text) result
         (under optional_text place.key.now (view value.now)) }

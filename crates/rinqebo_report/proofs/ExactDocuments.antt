@@ -81,7 +81,7 @@ scalar : (n : ℕ) (s : Scalar) → IsExact n (scalar_data s)
 scalar n (scalars.Boolean b) = exact_truth n b
 scalar n (scalars.Integer z) = integer n z
 scalar n (scalars.Text s) = text n s
-scalar n (scalars.Duration m) = exact_text n _
+scalar n (scalars.Duration duration) = exact_text n _
 
 value : (n : ℕ) (v : Value) → IsExact (n + 1) (value_data v)
 value n (values.Scalar s) = scalar (n + 1) s

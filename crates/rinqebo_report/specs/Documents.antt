@@ -76,12 +76,12 @@ range_data None = null
 range_data (Some range) =
     array (item (position_data range.start) (item (position_data range.end) no_items))
 
--- a value that holds no others: a duration is the text of it
+-- a value that holds no others: a duration is its text in one number, however a file writes it
 abbrev pub scalar_data : Scalar → Data
 scalar_data (scalars.Boolean b) = boolean b
 scalar_data (scalars.Integer z) = number (of_integer z)
 scalar_data (scalars.Text text) = text_data text
-scalar_data (scalars.Duration n) = string (duration_text n)
+scalar_data (scalars.Duration duration) = string (duration_text duration.nanoseconds)
 
 -- members, with one of a table
 abbrev pub with_field : Members → TableMember → Members

@@ -14,7 +14,7 @@ use Rattle.rinqebo_report.specs.declared.report.SettingRow.{SettingRow}
 use Rattle.rinqebo_report.specs.declared.report.TestRows.{TestRows}
 use Rattle.rinqebo_report.specs.Pages.{plain, absent_runs, rows_shown, test_line_runs, list_head_runs, list_end_runs, content_runs}
 use Rattle.rinqebo_report.specs.Pieces.{Run, styled, ending, page_text}
-use Rattle.rinqebo_report.specs.TomlText.{value_text}
+use Rattle.rinqebo_report.specs.TomlText.{canonical_text}
 
 -- a setting and its value, or that it has none
 abbrev pub reported_line_runs : List ℕ → Option (List ℕ) → List Run
@@ -22,9 +22,10 @@ reported_line_runs key (Some value) =
     styled styles.Key key ∷ plain (codes " = ") ∷ plain value ∷ ending ∷ []
 reported_line_runs key None = absent_runs key
 
--- what a page shows of a setting
+-- what a page shows of a setting, the same however files write its durations
 abbrev pub reported_row_runs : SettingRow → List Run
-reported_row_runs row = reported_line_runs (string_bytes row.key) (option_map value_text row.value)
+reported_row_runs row =
+    reported_line_runs (string_bytes row.key) (option_map canonical_text row.value)
 
 -- what a page shows of a test, a line for each row
 abbrev pub reported_runs : TestRows → List Run

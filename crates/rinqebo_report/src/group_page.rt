@@ -10,7 +10,7 @@ use crate::list_page::{add_list_end, add_list_head, add_test_line};
 use crate::origin::{Origin, Source};
 use crate::piece::{Colour, Piece, Style, add_pieces};
 use crate::report::{Asked, SettingRow, TestRows};
-use crate::toml_text::value_text;
+use crate::toml_text::canonical_text;
 use std::alloc::{AllocError, Global};
 
 /// Writes a setting and its value.
@@ -48,7 +48,7 @@ fn add_reported_row(
     let key = row.key.as_str();
     match &row.value {
         Some(value) => {
-            let value = value_text(alloc, value)?;
+            let value = canonical_text(alloc, value)?;
             add_reported_value(out, colour, key, value.as_str())
         }
         None => add_absent(alloc, out, colour, key),

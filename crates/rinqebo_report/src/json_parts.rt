@@ -66,7 +66,7 @@ pub(crate) fn range_json(alloc: Global, range: Option<Range>) -> Result<Value, A
     }
 }
 
-/// A value that holds no others: a duration is the text of it.
+/// A value that holds no others: a duration is its text in one number.
 fn scalar_json(alloc: Global, scalar: &Scalar) -> Result<Value, AllocError>
     ensures { IfOk result (λ value. view value ≡ scalar_data scalar.now) }
 {
@@ -74,9 +74,9 @@ fn scalar_json(alloc: Global, scalar: &Scalar) -> Result<Value, AllocError>
         Scalar::Boolean(truth) => Ok(Value::Bool(*truth)),
         Scalar::Integer(number) => Ok(Value::from(*number)),
         Scalar::Text(text) => Value::try_from_str(alloc, text.as_str()),
-        Scalar::Duration(nanoseconds) => {
+        Scalar::Duration(duration) => {
             let mut text = String::new(alloc);
-            add_duration(&mut text, *nanoseconds)?;
+            add_duration(&mut text, duration.nanoseconds)?;
             Ok(Value::String(text))
         }
     }

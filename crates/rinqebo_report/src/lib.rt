@@ -53,4 +53,4 @@ pub use report::{
     Rule, RunMode, SettingRow, TestId, TestRows, Unreached, Verdict,
 };
 pub use toml_text::value_text;
-pub use value::{Scalar, TableMember, Value};
+pub use value::{ReportedDuration, Scalar, TableMember, Value};

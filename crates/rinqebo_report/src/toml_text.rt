@@ -3,12 +3,21 @@ ghost use Rattle.std.specs.Prelude.{◌≡◌, ◌==◌, ◌||◌, ◌/◌, ◌%
 ghost use Rattle.std.specs.List.{list_all};
 ghost use Rattle.std.specs.Str.{chars};
 ghost use Rattle.rinqebo_report.specs.Joined.{joined};
-ghost use Rattle.rinqebo_report.specs.TomlText.{hex_digit, toml_char, quoted, is_bare_byte, is_bare as bare_test, key_text, scalar_text, field_text, item_text, value_text};
+ghost use Rattle.rinqebo_report.specs.TomlText.{hex_digit, toml_char, quoted, is_bare_byte, is_bare as bare_test, key_text, canonical_duration, written_duration, spelled_duration, scalar_text, field_text, item_text, spelled_value, value_text, canonical_text};
 
 use crate::duration::add_duration;
-use crate::value::{Scalar, TableMember, Value};
+use crate::value::{ReportedDuration, Scalar, TableMember, Value};
 use std::alloc::{AllocError, Global};
 use std::fmt::Write;
+
+/// How the durations of a value are spelled.
+#[derive(Clone, Copy)]
+enum Spelling {
+    /// As a file writes them, where one file alone writes the value.
+    AsWritten,
+    /// As one number, and the longest unit that divides them.
+    Canonical,
+}
 
 /// Writes a control character as a text of TOML spells it.
 fn add_control(out: &mut String, c: char) -> Result<(), AllocError>
@@ -79,19 +88,52 @@ pub(crate) fn add_key(out: &mut String, key: &str) -> Result<(), AllocError>
     }
 }
 
+/// Writes a duration in quotes, as one number and a unit.
+fn add_canonical_duration(out: &mut String, nanoseconds: u128) -> Result<(), AllocError>
+    ensures { OnOk result (string_bytes out.new
+        ≡ string_bytes out.old ++ canonical_duration nanoseconds) }
+{
+    out.push('"')?;
+    add_duration(out, nanoseconds)?;
+    out.push('"')
+}
+
+/// Writes a duration in quotes, as a file writes it, if that is known.
+fn add_written_duration(out: &mut String, duration: &ReportedDuration) -> Result<(), AllocError>
+    ensures { OnOk result (string_bytes out.new ≡ string_bytes out.old
+        ++ written_duration duration.now.nanoseconds duration.now.written) }
+{
+    match &duration.written {
+        Some(written) => add_quoted(out, written.as_str()),
+        None => add_canonical_duration(out, duration.nanoseconds),
+    }
+}
+
+/// Writes a duration in quotes.
+fn add_spelled_duration(
+    out: &mut String,
+    spelling: Spelling,
+    duration: &ReportedDuration,
+) -> Result<(), AllocError>
+    ensures { OnOk result (string_bytes out.new
+        ≡ string_bytes out.old ++ spelled_duration spelling duration.now) }
+{
+    match spelling {
+        Spelling::AsWritten => add_written_duration(out, duration),
+        Spelling::Canonical => add_canonical_duration(out, duration.nanoseconds),
+    }
+}
+
 /// Writes a value that holds no others.
-fn add_scalar(out: &mut String, scalar: &Scalar) -> Result<(), AllocError>
-    ensures { OnOk result (string_bytes out.new ≡ string_bytes out.old ++ scalar_text scalar.now) }
+fn add_scalar(out: &mut String, spelling: Spelling, scalar: &Scalar) -> Result<(), AllocError>
+    ensures { OnOk result (string_bytes out.new
+        ≡ string_bytes out.old ++ scalar_text spelling scalar.now) }
 {
     match scalar {
         Scalar::Boolean(truth) => write!(out, "{truth}"),
         Scalar::Integer(number) => write!(out, "{number}"),
         Scalar::Text(text) => add_quoted(out, text.as_str()),
-        Scalar::Duration(nanoseconds) => {
-            out.push('"')?;
-            add_duration(out, *nanoseconds)?;
-            out.push('"')
-        }
+        Scalar::Duration(duration) => add_spelled_duration(out, spelling, duration),
     }
 }
 
@@ -110,34 +152,40 @@ fn add_items(out: &mut String, items: &[String]) -> Result<(), AllocError>
 }
 
 /// Writes a member of a table.
-fn add_field(out: &mut String, field: &TableMember) -> Result<(), AllocError>
-    ensures { OnOk result (string_bytes out.new ≡ string_bytes out.old ++ field_text field.now) }
+fn add_field(out: &mut String, spelling: Spelling, field: &TableMember) -> Result<(), AllocError>
+    ensures { OnOk result (string_bytes out.new
+        ≡ string_bytes out.old ++ field_text spelling field.now) }
 {
     out.push_str(field.key.as_str())?;
     out.push_str(" = ")?;
-    add_scalar(out, &field.value)
+    add_scalar(out, spelling, &field.value)
 }
 
 /// Writes members of a table.
-fn add_fields(out: &mut String, fields: &[TableMember]) -> Result<(), AllocError>
+fn add_fields(
+    out: &mut String,
+    spelling: Spelling,
+    fields: &[TableMember],
+) -> Result<(), AllocError>
     ensures { OnOk result (string_bytes out.new
-        ≡ string_bytes out.old ++ joined (codes ", ") field_text fields.now) }
+        ≡ string_bytes out.old ++ joined (codes ", ") (field_text spelling) fields.now) }
 {
     let mut separator = "";
     for field in fields {
         out.push_str(separator)?;
-        add_field(out, field)?;
+        add_field(out, spelling, field)?;
         separator = ", ";
     }
     Ok(())
 }
 
 /// Writes a value.
-fn add_value(out: &mut String, value: &Value) -> Result<(), AllocError>
-    ensures { OnOk result (string_bytes out.new ≡ string_bytes out.old ++ value_text value.now) }
+fn add_value(out: &mut String, spelling: Spelling, value: &Value) -> Result<(), AllocError>
+    ensures { OnOk result (string_bytes out.new
+        ≡ string_bytes out.old ++ spelled_value spelling value.now) }
 {
     match value {
-        Value::Scalar(scalar) => add_scalar(out, scalar),
+        Value::Scalar(scalar) => add_scalar(out, spelling, scalar),
         Value::Texts(items) => {
             out.push('[')?;
             add_items(out, items)?;
@@ -145,17 +193,27 @@ fn add_value(out: &mut String, value: &Value) -> Result<(), AllocError>
         }
         Value::Table(fields) => {
             out.push_str("{ ")?;
-            add_fields(out, fields)?;
+            add_fields(out, spelling, fields)?;
             out.push_str(" }")
         }
     }
 }
 
-/// A value as TOML, on one line.
+/// A value as TOML, on one line, with its durations as a file writes them, where one file alone
+/// writes the value.
 pub fn value_text(alloc: Global, value: &Value) -> Result<String, AllocError>
     ensures { IfOk result (λ text. string_bytes text ≡ value_text value.now) }
 {
     let mut text = String::new(alloc);
-    add_value(&mut text, value)?;
+    add_value(&mut text, Spelling::AsWritten, value)?;
+    Ok(text)
+}
+
+/// A value as TOML, on one line, the same however files write its durations.
+pub(crate) fn canonical_text(alloc: Global, value: &Value) -> Result<String, AllocError>
+    ensures { IfOk result (λ text. string_bytes text ≡ canonical_text value.now) }
+{
+    let mut text = String::new(alloc);
+    add_value(&mut text, Spelling::Canonical, value)?;
     Ok(text)
 }

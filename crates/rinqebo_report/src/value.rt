@@ -1,5 +1,14 @@
 //! Values of settings.
 
+/// A length of time.
+#[derive(Drop)]
+pub struct ReportedDuration {
+    /// Its nanoseconds.
+    pub nanoseconds: u128,
+    /// The text that a file writes it with, where one file alone writes the value.
+    pub written: Option<String>,
+}
+
 /// A value that holds no others.
 #[derive(Drop)]
 pub enum Scalar {
@@ -9,8 +18,8 @@ pub enum Scalar {
     Integer(i64),
     /// A text, as it is: pages put it in quotes.
     Text(String),
-    /// A length of time, in nanoseconds.
-    Duration(u128),
+    /// A length of time.
+    Duration(ReportedDuration),
 }
 
 /// A member of a table.

@@ -151,11 +151,11 @@ pub fn listed_rows(
     let mut named = named_rows(alloc, matches, mode)?;
     let is_all = matches.get_flag("all");
     if is_all && !named.is_empty() {
-        return Err(usage(alloc, "`--all` stands in place of settings", None)?);
+        return Err(usage(alloc, "`--all` cannot be used with KEYs", None)?);
     }
     if let Some(key) = matches.get_str("by") {
         if is_all || !named.is_empty() {
-            return Err(usage(alloc, "`--by` stands in place of settings", None)?);
+            return Err(usage(alloc, "`--by` cannot be used with KEYs", None)?);
         }
         named.add_one(alloc, "--by", key, mode)?;
     }

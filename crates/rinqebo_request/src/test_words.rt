@@ -88,7 +88,7 @@ fn explain_question<'a>(
         });
     };
     if matches.contains_id("KEY") || matches.contains_id("key") {
-        return Err(usage(alloc, "`--why` stands in place of settings", None)?);
+        return Err(usage(alloc, "`--why` cannot be used with KEYs", None)?);
     }
     if key == RUNS {
         return Ok(Question::WhyRuns { profile, test });

@@ -141,7 +141,7 @@ fn checked_file<'a>(alloc: Global, matches: &ArgMatches<'a>) -> Result<ConfigFil
     let file = matches.get_str("FILE");
     let shown = matches.get_str("stdin-path");
     if file.is_some() && matches.contains_id("config-file") {
-        return Err(usage(alloc, "FILE stands in place of `--config-file`", None)?);
+        return Err(usage(alloc, "FILE cannot be used with `--config-file`", None)?);
     }
     match (file, shown) {
         (Some("-"), shown) => Ok(ConfigFile::Input(shown.unwrap_or("-"))),

@@ -6,6 +6,7 @@ pub mod VerdictsOf
 pub mod Judged
 pub mod ReportedOf
 pub mod Items
+pub mod OriginNodes
 pub mod Copies
 pub mod Listing
 pub mod NoneHold

@@ -18,7 +18,7 @@ abbrev pub scalar_node : Scalar → Node
 scalar_node (scalars.Boolean b) = bool b
 scalar_node (scalars.Integer z) = int z
 scalar_node (scalars.Text t) = text_node t
-scalar_node (scalars.Duration n) = text (duration_text n)
+scalar_node (scalars.Duration d) = text (duration_text d.nanoseconds)
 
 -- what a file writes for a value
 abbrev pub value_node : Value → Node

@@ -11,6 +11,7 @@ pub mod VerdictsBy
 pub mod Verdicts
 pub mod Told
 pub mod SettingValues
+pub mod AsWritten
 pub mod LeafValue
 pub mod ReportedEntries
 pub mod TestOrigins

@@ -1,5 +1,5 @@
 -- Which settings are told of a test, and how.
-use Rattle.std.specs.Prelude.{◌≡◌, List, filter, Bool, true, false, Option, None, Some, option_map, string_bytes}
+use Rattle.std.specs.Prelude.{◌≡◌, List, filter, Bool, true, false, IfSome, Option, None, Some, option_map, string_bytes}
 use Rattle.nextest_elements.specs.declared.run_mode.NextestRunMode.{NextestRunMode}
 use Rattle.nextest_rules.specs.Rules.{RuleId}
 use Rattle.nextest_settings.specs.Queries.{Origin, unwritten, by_profile, by_override, by_script}
@@ -10,6 +10,8 @@ use Rattle.rinqebo_request.specs.declared.request.RequestedSettings.{RequestedSe
 use Rattle.rinqebo_request.specs.declared.request.RequestedSettings.TheVariants as asks
 use Rattle.rinqebo_report.specs.declared.report.SettingRow.{SettingRow}
 use Rattle.rinqebo_request.specs.Keys.{key_name, key_table, key_text}
+use Rattle.rinqebo_rules.specs.AsWritten.{IsValueAsWritten, node_alone}
+use Rattle.rinqebo_rules.specs.Origins.{key_steps}
 use Rattle.rinqebo_rules.specs.Told.{reported_of, value_view}
 
 -- whether a rule decides a setting
@@ -26,7 +28,8 @@ reported_settings asks.Decided origin = filter (λ s. is_by_rule (origin s)) set
 reported_settings (asks.These runs asked) origin = asked.items
 
 -- A setting is told: by its key in files, with its value, and with where that comes from, for the
--- script rule that wraps the run of the test.
+-- script rule that wraps the run of the test. Durations are as a file writes them, where one file
+-- alone writes the value.
 pub record IsSettingReported (basis : Basis) (wrapping : Option RuleId)
     (value : (s : Setting) → Option (ValueOf s)) (origin : Setting → Option Origin)
     (mode : NextestRunMode) (s : Setting) (told : SettingRow) : Type 0 where
@@ -34,3 +37,5 @@ pub record IsSettingReported (basis : Basis) (wrapping : Option RuleId)
   pub value_reported : option_map value_view told.value ≡ option_map (reported_of s) (value s)
   pub origins_reported : AreOriginsBy basis wrapping (key_table s mode) (key_name s) (origin s)
       told.origins.items
+  pub value_as_written : IfSome told.value (IsValueAsWritten
+      (node_alone basis.layers (key_steps (key_table s mode) (key_name s)) told.origins.items))

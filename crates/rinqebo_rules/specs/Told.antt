@@ -47,7 +47,7 @@ abbrev pub scalar_view : Scalar → ReportedScalar
 scalar_view (scalars.Boolean b) = boolean b
 scalar_view (scalars.Integer n) = integer n
 scalar_view (scalars.Text t) = text (string_bytes t)
-scalar_view (scalars.Duration n) = duration n
+scalar_view (scalars.Duration d) = duration d.nanoseconds
 
 -- what contracts see of a member of a table
 abbrev pub field_view : TableMember → ReportedField

@@ -3,6 +3,7 @@
 //! decides.
 #![tactic(auto)]
 
+mod as_written;
 mod chain_rules;
 mod conditions;
 mod default_rules;
@@ -12,6 +13,7 @@ mod grounds;
 mod holds;
 mod leaf_value;
 mod lister;
+mod origin_node;
 mod origins;
 mod progress;
 mod reported_entries;
@@ -37,10 +39,11 @@ pub use filter_laws::law_filter_rules;
 pub use grounds::{built_in, idle_grounds, profile_grounds};
 pub use leaf_value::reported_value;
 pub use lister::{ListedRows, Lister, reported_platform};
+pub use origin_node::node_alone;
 pub use origins::Origins;
 pub use progress::{NoProgress, Progress};
 pub use reported_entries::{reported_entry, steps_of};
-pub use reported_values::{reported, reported_if_set};
+pub use reported_values::reported_if_set;
 pub use rule_places::{RuleKind, RulePlace};
 pub use runs::{default_filter_key, filtering_place};
 pub use scripts::scripts_of;

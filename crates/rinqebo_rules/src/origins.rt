@@ -213,6 +213,13 @@ impl<'l, 't, 'c> Origins<'l, 't, 'c> {
         }
     }
 
+    /// The layers of the files.
+    pub(crate) fn layers(&self) -> &'l [Layer<'t>]
+        ensures { result.now ≡ self.now.layers }
+    {
+        self.layers
+    }
+
     /// Where the value at a key comes from: from a rule, or without one from the profile. It is
     /// looked up the first time.
     pub(crate) fn of(

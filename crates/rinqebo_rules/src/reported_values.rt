@@ -1,13 +1,16 @@
 //! How the values of settings are reported.
-ghost use Rattle.std.specs.Prelude.{◌≡◌, ◌++◌, IfOk, OnOk, map, option_map, string_bytes};
+ghost use Rattle.std.specs.Prelude.{◌≡◌, ◌++◌, IfOk, IfSome, OnOk, map, option_map, string_bytes};
+ghost use Rattle.nextest_tree.specs.View.{tree_view};
+ghost use Rattle.rinqebo_rules.specs.AsWritten.{IsValueAsWritten};
 ghost use Rattle.rinqebo_rules.specs.SettingValues.{reported_value};
 ghost use Rattle.rinqebo_rules.specs.Told.{ReportedScalar, ReportedValue, scalar_view, field_view, value_view, reported_count, one, one_if, one_if_true, retry_fields, is_plain, reported_fixed, reported_retries, reported_slow, reported_leak, reported_threads};
 
+use crate::as_written::as_written;
 use nextest_config::{
-    LeakTimeout, RetryPolicy, SlowTimeout, TestGroup, TestPriority, ThreadsRequired,
+    LeakTimeout, RetryPolicy, SlowTimeout, TestGroup, TestPriority, ThreadsRequired, Tree,
 };
 use nextest_settings::SettingValue;
-use rinqebo_report::{Scalar, TableMember, Value};
+use rinqebo_report::{ReportedDuration, Scalar, TableMember, Value};
 use std::alloc::{AllocError, Global};
 
 /// A number as one of TOML. Files write no greater one.
@@ -15,6 +18,16 @@ fn count(number: u64) -> Scalar
     ensures { scalar_view result ≡ reported_count number }
 {
     Scalar::Integer(i64::try_from(number).unwrap_or(i64::MAX))
+}
+
+/// A duration, without a text that a file writes it with.
+fn duration_value(nanoseconds: u128) -> Scalar
+    ensures { scalar_view result ≡ ReportedScalar.duration nanoseconds }
+{
+    Scalar::Duration(ReportedDuration {
+        nanoseconds,
+        written: None,
+    })
 }
 
 /// A text as a value.
@@ -50,7 +63,7 @@ fn add_duration(
         ≡ map field_view fields.old.items ++ one_if key.now ReportedScalar.duration duration) }
 {
     match duration {
-        Some(duration) => add_field(alloc, fields, key, Scalar::Duration(duration)),
+        Some(duration) => add_field(alloc, fields, key, duration_value(duration)),
         None => Ok(()),
     }
 }
@@ -133,7 +146,7 @@ fn retry_table(
         "count",
         Scalar::Integer(i64::from(count)),
     )?;
-    add_field(alloc, &mut fields, "delay", Scalar::Duration(delay))?;
+    add_field(alloc, &mut fields, "delay", duration_value(delay))?;
     add_if_true(alloc, &mut fields, "jitter", jitter)?;
     add_duration(alloc, &mut fields, "max-delay", max_delay)?;
     Ok(Value::Table(fields))
@@ -181,9 +194,9 @@ fn slow_timeout_value(alloc: Global, slow: SlowTimeout) -> Result<Value, AllocEr
 {
     let mut fields = Vec::new(alloc);
     let on_timeout = slow.on_timeout.to_string(alloc)?;
-    add_field(alloc, &mut fields, "period", Scalar::Duration(slow.period))?;
+    add_field(alloc, &mut fields, "period", duration_value(slow.period))?;
     add_count(alloc, &mut fields, "terminate-after", slow.terminate_after)?;
-    let grace_period = Scalar::Duration(slow.grace_period);
+    let grace_period = duration_value(slow.grace_period);
     add_field(alloc, &mut fields, "grace-period", grace_period)?;
     add_field(alloc, &mut fields, "on-timeout", Scalar::Text(on_timeout))?;
     Ok(Value::Table(fields))
@@ -195,14 +208,14 @@ fn leak_timeout_value(alloc: Global, leak: LeakTimeout) -> Result<Value, AllocEr
 {
     let mut fields = Vec::new(alloc);
     let result = leak.result.to_string(alloc)?;
-    add_field(alloc, &mut fields, "period", Scalar::Duration(leak.period))?;
+    add_field(alloc, &mut fields, "period", duration_value(leak.period))?;
     add_field(alloc, &mut fields, "result", Scalar::Text(result))?;
     Ok(Value::Table(fields))
 }
 
-/// A value, as it is reported.
+/// A value, as it is reported, without texts that a file writes its durations with.
 #[tactic(auto, unfolding(nextest_elements::specs::TestGroup::global_text))]
-pub fn reported(alloc: Global, value: SettingValue<'_>) -> Result<Value, AllocError>
+fn reported(alloc: Global, value: SettingValue<'_>) -> Result<Value, AllocError>
     ensures { IfOk result (λ told. value_view told ≡ reported_value value.entry) }
 {
     match value {
@@ -227,16 +240,20 @@ pub fn reported(alloc: Global, value: SettingValue<'_>) -> Result<Value, AllocEr
     }
 }
 
-/// A value that may be absent, as it is reported.
+/// A value that may be absent, as it is reported, with its durations as a node writes them, which is
+/// what one file alone has for the value.
 pub fn reported_if_set(
     alloc: Global,
     value: Option<SettingValue<'_>>,
+    node: Option<&Tree>,
 ) -> Result<Option<Value>, AllocError>
-    ensures { IfOk result (λ told. option_map value_view told
+    ensures told { IfOk result (λ told. option_map value_view told
         ≡ option_map reported_value value.entry) }
+    ensures written { IfOk result (λ told. IfSome told (IsValueAsWritten
+        (option_map (λ tree. tree_view tree.now) node.entry))) }
 {
     match value {
-        Some(value) => Ok(Some(reported(alloc, value)?)),
+        Some(value) => Ok(Some(as_written(alloc, reported(alloc, value)?, node)?)),
         None => Ok(None),
     }
 }

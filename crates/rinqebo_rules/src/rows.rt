@@ -9,6 +9,7 @@ ghost use Rattle.rinqebo_rules.specs.TestOrigins.{AreOriginsBy, wrapping_at, wra
 ghost use Rattle.rinqebo_rules.specs.Settings.{is_by_rule, reported_settings, IsSettingReported};
 ghost use Rattle.rinqebo_rules.specs.Origins.{IsOriginOf, key_steps};
 
+use crate::origin_node::node_of_origins;
 use crate::origins::Origins;
 use crate::values::SourcedSettings;
 use crate::{RulePlace, built_in, reported_if_set};
@@ -131,10 +132,13 @@ fn setting_row<'c, F: Filters, S: Specs>(
     let key = SettingKey::of(setting, mode);
     let source = source_of(settings, setting);
     let wrapping = wrapping_rule(settings);
+    let layers = origins.layers();
+    let found = origins_by(alloc, source, wrapping, key, origins)?;
+    let node = node_of_origins(layers, key, &found);
     Ok(SettingRow {
         key: key.text(alloc)?,
-        value: reported_if_set(alloc, settings.value(setting, mode))?,
-        origins: origins_by(alloc, source, wrapping, key, origins)?,
+        value: reported_if_set(alloc, settings.value(setting, mode), node)?,
+        origins: found,
     })
 }
 

@@ -97,7 +97,7 @@ fn filtering_override<'c, F: Filters, S: Specs>(
     None
 }
 
-/// The id of the override of a profile whose default filter counts, if it is that of an override.
+/// The id of the override of a profile whose default filter counts, if an override sets it.
 fn id_in<'c, F: Filters, S: Specs>(profile: &EvaluatableProfile<'c, F, S>) -> Option<&'c OverrideId>
     ensures { option_map id_place (option_map (λ id. id_view id.now) result)
         ≡ filtering_place (profile_meaning F.meaning profile.now) }
@@ -106,7 +106,7 @@ fn id_in<'c, F: Filters, S: Specs>(profile: &EvaluatableProfile<'c, F, S>) -> Op
     filtering_override(&rules.overrides)
 }
 
-/// Where the override of a profile stands whose default filter counts, if it is one of an override.
+/// The override of a profile whose default filter counts, if an override sets it.
 pub fn filtering_place<'c, F: Filters, S: Specs>(
     profile: &EvaluatableProfile<'c, F, S>,
 ) -> Option<RulePlace<'c>>

@@ -210,7 +210,7 @@ fn add_items<'t>(
 }
 
 /// The tree of the layer at a position.
-fn tree_of<'l>(layers: &'l [Layer<'_>], position: usize) -> Option<&'l Tree>
+pub(crate) fn tree_of<'l>(layers: &'l [Layer<'_>], position: usize) -> Option<&'l Tree>
     ensures { option_map (λ tree. tree_view tree.now) result
         ≡ option_and_then layer_tree (slice_get layers.now position) }
 {

@@ -1,5 +1,5 @@
 -- The rules of a setting and the fallback, put together.
-use Rattle.std.proofs.Common.{◌≡◌, ℕ, List, [], ◌∷◌, ◌++◌, option_map, subst, sym, string_bytes}
+use Rattle.std.proofs.Common.{◌≡◌, All, ℕ, List, [], ◌∷◌, ◌++◌, option_map, subst, sym, string_bytes}
 use Rattle.filter_language.specs.Filtersets.{marks_view}
 use Rattle.filter_language.specs.declared.filterset.Filterset.{Filterset}
 use Rattle.nextest_engines.specs.Engines.{Test, test_view}
@@ -24,7 +24,7 @@ use Rattle.rinqebo_report.specs.declared.report.Report.{Report}
 use Rattle.rinqebo_report.specs.declared.report.Rule.{Rule}
 use Rattle.rinqebo_report.specs.declared.report.TestId.{TestId}
 use Rattle.rinqebo_report.specs.declared.report.Verdict.TheVariants as told
-use Rattle.rinqebo_request.specs.Keys.{key_text}
+use Rattle.rinqebo_request.specs.Keys.{key_name, key_table, key_text}
 use Rattle.platform_language.specs.Expressions.{spec_view}
 use Rattle.platform_language.specs.declared.expression.TargetSpec.{TargetSpec}
 use Rattle.platform_table.specs.declared.Platform.{Platform}
@@ -34,8 +34,9 @@ use Rattle.rinqebo_run.specs.Requested.{IsRequestedIn}
 use Rattle.rinqebo_load.specs.Accepted.{AreAccepted}
 use Rattle.rinqebo_load.specs.FoundTests.{found_view}
 use Rattle.rinqebo_rules.specs.Conditions.{is_met_by, filter_matches}
-use Rattle.rinqebo_run.specs.Reasons.{AreRulesReported}
+use Rattle.rinqebo_run.specs.Reasons.{AreRulesReported, IsRuleAsWritten}
 use Rattle.rinqebo_load.specs.Sessions.{files_view, readings, IsLoadedFrom}
+use Rattle.rinqebo_rules.specs.Origins.{key_steps}
 use Rattle.rinqebo_rules.specs.SettingRules.{rules_for}
 use Rattle.rinqebo_run.specs.TellsReasons.{AreReasons, AreReasonsIn, configured_by, IfWhy, IsTestNamed, TellsReasons}
 use Rattle.rinqebo_load.specs.declared.found_test.FoundTest.{FoundTest}
@@ -54,8 +55,9 @@ pub reasons_here : (layers : List FileLayer) (platforms : BuildPlatforms Platfor
     → option_map value_view fallback.value
     ≡ option_map (reported_of s) (fallback_of profile.facts.fields test.mode s)
     → rules ≡ before ++ fallback ∷ []
+    → All (IsRuleAsWritten layers (key_steps (key_table s test.mode) (key_name s))) rules
     → AreReasons layers is_met_by filter_matches platforms test s profile rules
-reasons_here layers platforms test query s default profile before fallback rules same found here last valued are =
+reasons_here layers platforms test query s default profile before fallback rules same found here last valued are written =
     let Told : Test → FilterChoice (Filterset FieldMatcher) → Type 0 =
     λ t choice. AreRulesReported layers is_met_by platforms (test_query filter_matches choice.filter t)
     (rules_for s test.mode profile.overrides profile.script_rules) before in
@@ -66,6 +68,7 @@ reasons_here layers platforms test query s default profile before fallback rules
       rules_reported = subst (Told (found_view test).test) same (subst (λ t. Told t default) found here);
       fallback_reported = last;
       fallback_value = valued;
+      as_written = written;
     }
 
 -- a fact of a test, a key and rules follows from another one

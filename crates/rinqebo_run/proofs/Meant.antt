@@ -191,6 +191,7 @@ module _ {E N M K P : Type 0} (f : E → M) (g : N → K) (meets : K → P → O
               (rules_meant (query (f default)) layers written is.before is.rules_reported));
           fallback_reported = is.fallback_reported;
           fallback_value = is.fallback_value;
+          as_written = is.as_written;
         }
 
     -- what is told of the rules of a profile, by what texts mean

@@ -1,5 +1,5 @@
 -- What comes of the rules of a setting, and how it is told.
-use Rattle.std.specs.Prelude.{◌≡◌, Bool, List, [], map, Option, option_map}
+use Rattle.std.specs.Prelude.{◌≡◌, Bool, List, [], ◌∷◌, map, Option, option_map, IfSome}
 use Rattle.std.specs.List.{AllZip, zip}
 use Rattle.nextest_engines.specs.declared.queries.BuildPlatforms.{BuildPlatforms}
 use Rattle.nextest_settings.specs.Deciding.{QueryContext}
@@ -13,7 +13,8 @@ use Rattle.rinqebo_rules.specs.Verdicts.{verdicts_of}
 use Rattle.rinqebo_rules.specs.declared.verdict.RuleVerdict.{RuleVerdict}
 use Rattle.rinqebo_rules.specs.declared.verdict.RuleVerdict.TheVariants as verdicts
 use Rattle.rinqebo_rules.specs.Conditions.{is_met_by}
-use Rattle.rinqebo_rules.specs.Origins.{IsOriginOf}
+use Rattle.rinqebo_rules.specs.AsWritten.{IsValueAsWritten, node_alone}
+use Rattle.rinqebo_rules.specs.Origins.{IsOriginOf, PathStep}
 use Rattle.rinqebo_rules.specs.RuleAnswers.{answers_by, requested_query}
 use Rattle.rinqebo_rules.specs.RuleViews.{setting_rule_view, Rule as ReadRule}
 use Rattle.rinqebo_rules.specs.SettingRules.{RuleFor, RuleValue, writes_it}
@@ -40,6 +41,12 @@ pub record IsRuleReported (layers : List Layer) (written : RuleValue) (answers :
   pub target : rule.target.answer ≡ answers.target
   pub filter : rule.filter.answer ≡ answers.filter
   pub value : option_map value_view rule.value ≡ written.value
+
+-- What a rule writes at some steps is reported with its durations as a file writes them, where one
+-- file alone writes the value.
+abbrev pub IsRuleAsWritten : List Layer → List PathStep → Rule → Type 0
+IsRuleAsWritten layers steps rule = IfSome rule.value
+    (IsValueAsWritten (node_alone layers steps (rule.origin ∷ rule.others.items)))
 
 -- Rules for a setting are told in their order, each with what comes of it.
 abbrev pub AreRulesReported : {M K P : Type 0} → List Layer → (K → P → Option Bool)

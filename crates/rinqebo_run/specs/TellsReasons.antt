@@ -1,5 +1,5 @@
 -- That a report tells the rules of a setting, by what the files mean.
-use Rattle.std.specs.Prelude.{◌≡◌, ℕ, List, [], ◌∷◌, ◌++◌, Bool, Option, option_map, string_bytes}
+use Rattle.std.specs.Prelude.{◌≡◌, ℕ, List, [], ◌∷◌, ◌++◌, All, Bool, Option, option_map, string_bytes}
 use Rattle.nextest_engines.specs.Engines.{Test}
 use Rattle.nextest_engines.specs.declared.queries.BuildPlatforms.{BuildPlatforms}
 use Rattle.filter_engine.specs.Engine.{Filter}
@@ -21,14 +21,15 @@ use Rattle.rinqebo_report.specs.declared.report.Report.{Report}
 use Rattle.rinqebo_report.specs.declared.report.Rule.{Rule}
 use Rattle.rinqebo_report.specs.declared.report.TestId.{TestId}
 use Rattle.rinqebo_report.specs.declared.report.Verdict.TheVariants as told
-use Rattle.rinqebo_request.specs.Keys.{key_text}
+use Rattle.rinqebo_request.specs.Keys.{key_name, key_table, key_text}
 use Rattle.platform_language.specs.Expressions.{Spec}
 use Rattle.rinqebo_load.specs.Accepted.{AreAccepted}
 use Rattle.rinqebo_load.specs.FoundTests.{found_view}
 use Rattle.rinqebo_load.specs.Meant.{config_meant}
 use Rattle.rinqebo_run.specs.Requested.{IsRequestedIn}
-use Rattle.rinqebo_run.specs.Reasons.{AreRulesReported}
+use Rattle.rinqebo_run.specs.Reasons.{AreRulesReported, IsRuleAsWritten}
 use Rattle.rinqebo_load.specs.Sessions.{files_view, readings}
+use Rattle.rinqebo_rules.specs.Origins.{key_steps}
 use Rattle.rinqebo_rules.specs.SettingRules.{rules_for}
 use Rattle.rinqebo_load.specs.declared.found_test.FoundTest.{FoundTest}
 use Rattle.rinqebo_load.specs.declared.session.Session.{Session}
@@ -36,7 +37,8 @@ use Rattle.rinqebo_rules.specs.Told.{reported_of, value_view}
 
 -- The rules of a setting are told for a test: each override of a profile, in order, or
 -- for a run wrapper each script rule, with what comes of it on the platforms of a build, and then
--- what counts where none decides.
+-- what counts where none decides. Durations are as a file writes them, where one file alone writes
+-- the value.
 pub record AreReasons {M K P : Type 0} (layers : List Layer) (meets : K → P → Option Bool)
     (matches : M → Test → M → Bool) (platforms : BuildPlatforms P) (test : FoundTest) (s : Setting)
     (profile : EarlyModel M K) (rules : List Rule) : Type 0 where
@@ -49,6 +51,8 @@ pub record AreReasons {M K P : Type 0} (layers : List Layer) (meets : K → P �
   pub fallback_reported : fallback.verdict ≡ told.Fallback
   pub fallback_value : option_map value_view fallback.value
       ≡ option_map (reported_of s) (fallback_of profile.facts.fields test.mode s)
+  pub as_written : All (IsRuleAsWritten layers (key_steps (key_table s test.mode) (key_name s)))
+      rules
 
 -- The rules of a setting are told for a test in the profile of a name.
 pub record AreReasonsIn {M K P : Type 0} (layers : List Layer) (meets : K → P → Option Bool)

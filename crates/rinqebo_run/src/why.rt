@@ -1,14 +1,15 @@
 //! The rules of a setting, and the result of each.
-ghost use Rattle.std.specs.Prelude.{◌≡◌, IfErr, IfOk, List, map, option_map};
+ghost use Rattle.std.specs.Prelude.{◌≡◌, All, IfErr, IfOk, List, map, option_map};
 ghost use Rattle.nextest_inheritance.specs.Parents.{parents_in};
 ghost use Rattle.nextest_load.specs.Config.{config_parents};
 ghost use Rattle.nextest_settings.specs.Settings.{fallback_of};
 ghost use Rattle.nextest_tables.specs.FileTexts.{names_in, IsIn};
 ghost use Rattle.rinqebo_report.specs.declared.report.Verdict.TheVariants as told;
-ghost use Rattle.rinqebo_request.specs.Keys.{key_text};
+ghost use Rattle.rinqebo_request.specs.Keys.{key_name, key_table, key_text};
 ghost use Rattle.rinqebo_rules.specs.Conditions.{is_met_by, filter_matches};
 ghost use Rattle.rinqebo_run.specs.ListedBy.{read_by};
-ghost use Rattle.rinqebo_run.specs.Reasons.{page_verdict, AreRulesReportedHere, AreReportedWith, IsRuleReported};
+ghost use Rattle.rinqebo_run.specs.Reasons.{page_verdict, AreRulesReportedHere, AreReportedWith, IsRuleAsWritten, IsRuleReported};
+ghost use Rattle.rinqebo_rules.specs.Origins.{key_steps};
 ghost use Rattle.rinqebo_rules.specs.RuleAnswers.{judged_here};
 ghost use Rattle.rinqebo_run.specs.LookedUp.{IsFailureOn, IsLookedUp};
 ghost use Rattle.rinqebo_findings.specs.Reports.{IsReportOf};
@@ -36,8 +37,8 @@ use rinqebo_load::{Config, Failure, FoundTest, Session, chain_of_profile};
 use rinqebo_report::{Condition, ConditionAnswer, Content, Origin, Rule, TestId, Verdict};
 use rinqebo_request::SettingKey;
 use rinqebo_rules::{
-    Asking, SettingRule, profile_grounds, reported_if_set, reported_platform, rules_for,
-    verdicts_of,
+    Asking, SettingRule, node_alone, profile_grounds, reported_if_set, reported_platform,
+    rules_for, verdicts_of,
 };
 use std::alloc::{AllocError, Global};
 
@@ -68,57 +69,70 @@ pub(crate) fn reported_verdict(verdict: rinqebo_rules::RuleVerdict) -> Verdict
     }
 }
 
-/// A rule with its verdict.
+/// A rule with its verdict, and what it writes at a key.
 fn reported_rule(
     alloc: Global,
     layers: &[Layer],
     rule: &SettingRule<'_>,
     verdict: rinqebo_rules::RuleVerdict,
+    key: SettingKey,
 ) -> Result<Rule, AllocError>
-    ensures { IfOk result (IsRuleReported layers.now (setting_rule_view rule.now).writes
+    ensures told { IfOk result (IsRuleReported layers.now (setting_rule_view rule.now).writes
         rule.now.answers verdict) }
+    ensures written { IfOk result (IsRuleAsWritten layers.now
+        (key_steps (option_map (λ table. table.now) key.table) key.key.now)) }
 {
     let table = rule.place.table(layers);
     let answers = rule.answers;
+    let origin = rule.place.origin(alloc, layers)?;
+    let others = Vec::new(alloc);
+    let node = node_alone(layers, key, &origin, &others);
     Ok(Rule {
         verdict: reported_verdict(verdict),
-        origin: rule.place.origin(alloc, layers)?,
-        others: Vec::new(alloc),
+        origin,
+        others,
         host: condition(alloc, host_text(table), answers.host)?,
         target: condition(alloc, target_text(table), answers.target)?,
         filter: condition(alloc, text_at(table, "filter"), answers.filter)?,
-        value: reported_if_set(alloc, rule.value)?,
+        value: reported_if_set(alloc, rule.value, node)?,
     })
 }
 
-/// Rules with their verdicts.
+/// Rules with their verdicts, and what each writes at a key.
 fn rules_with_verdicts(
     alloc: Global,
     layers: &[Layer],
     rules: &[SettingRule<'_>],
     verdicts: &[rinqebo_rules::RuleVerdict],
+    key: SettingKey,
 ) -> Result<Vec<Rule>, AllocError>
-    ensures { IfOk result (λ told. AreReportedWith layers.now rules.now verdicts.now told.items) }
+    ensures told { IfOk result (λ told.
+        AreReportedWith layers.now rules.now verdicts.now told.items) }
+    ensures written { IfOk result (λ told. All (IsRuleAsWritten layers.now
+        (key_steps (option_map (λ table. table.now) key.table) key.key.now)) told.items) }
 {
     let mut reported = Vec::new(alloc);
     for (rule, verdict) in rules.iter().zip(verdicts) {
-        reported.push(reported_rule(alloc, layers, rule, *verdict)?)?;
+        reported.push(reported_rule(alloc, layers, rule, *verdict, key)?)?;
     }
     Ok(reported)
 }
 
-/// Rules that are held against a test, each with its verdict.
+/// Rules that are held against a test, each with its verdict, and with what it writes at a key.
 fn reported_rules(
     alloc: Global,
     layers: &[Layer],
     rules: &[SettingRule<'_>],
+    key: SettingKey,
 ) -> Result<Vec<Rule>, AllocError>
-    ensures { (asking : Asking) (written : List ReadRule)
+    ensures told { (asking : Asking) (written : List ReadRule)
         → map setting_rule_view rules.now ≡ map (judged_here asking) written
         → IfOk result (λ told. AreRulesReportedHere layers.now asking written told.items) }
+    ensures written { IfOk result (λ told. All (IsRuleAsWritten layers.now
+        (key_steps (option_map (λ table. table.now) key.table) key.key.now)) told.items) }
 {
     let verdicts = verdicts_of(alloc, rules)?;
-    rules_with_verdicts(alloc, layers, rules, &verdicts)
+    rules_with_verdicts(alloc, layers, rules, &verdicts, key)
 }
 
 /// The first of some origins, or built in where there is none, and the others.
@@ -147,10 +161,13 @@ fn fallback_rule(
     ensures verdict { IfOk result (λ rule. rule.verdict ≡ told.Fallback) }
     ensures value { IfOk result (λ rule. option_map value_view rule.value
         ≡ option_map (reported_of setting) (fallback_of profile.now.facts.fields mode setting)) }
+    ensures written { IfOk result (IsRuleAsWritten session.now.layers.items
+        (key_steps (key_table setting mode) (key_name setting))) }
 {
     let key = SettingKey::of(setting, mode);
     let origins = profile_grounds(alloc, &session.layers, chain, key)?;
     let (origin, others) = first_and_others(alloc, origins)?;
+    let node = node_alone(&session.layers, key, &origin, &others);
     Ok(Rule {
         verdict: Verdict::Fallback,
         origin,
@@ -158,7 +175,7 @@ fn fallback_rule(
         host: condition(alloc, None, ConditionAnswer::Absent)?,
         target: condition(alloc, None, ConditionAnswer::Absent)?,
         filter: condition(alloc, None, ConditionAnswer::Absent)?,
-        value: reported_if_set(alloc, profile.fallback(setting, mode))?,
+        value: reported_if_set(alloc, profile.fallback(setting, mode), node)?,
     })
 }
 
@@ -196,7 +213,8 @@ fn rules_and_fallback<'c>(
     let on = profile.rules_on(alloc, platforms)?;
     let asking = asking_of(platforms, &listed.query, on.default_filter.expr);
     let rules = rules_for(alloc, &on, setting, test.mode, &asking)?;
-    let mut reported = reported_rules(alloc, &session.layers, &rules)?;
+    let key = SettingKey::of(setting, test.mode);
+    let mut reported = reported_rules(alloc, &session.layers, &rules, key)?;
     let fallback = fallback_rule(alloc, session, profile, chain, setting, test.mode)?;
     reported.push(fallback)?;
     Ok(reported)

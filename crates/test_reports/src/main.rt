@@ -21,6 +21,7 @@
 //! | `value KIND TEXT` | the value of the setting, rule or leaf: `boolean`, `integer`, `text` or `duration` |
 //! | `texts TEXT ..`, `table` | the value is a list of texts, or a table |
 //! | `field KEY KIND TEXT` | a member of the table |
+//! | `value duration TEXT WRITTEN`, `field KEY duration TEXT WRITTEN` | the same, and how a file writes the duration |
 //! | `built-in`, `default-table` | where the setting, rule or leaf comes from, or what says that the test runs |
 //! | `profile`, `override` or `script`, then `PROFILE INDEX SOURCE FIRST LAST` and perhaps a range | the same, with the place of the source from 0, and lines |
 //! | `file SOURCE FIRST LAST` and perhaps a range | the same, of what is beside all profiles |

@@ -2,7 +2,7 @@
 use crate::line::{Line, RowError};
 use rinqebo_report::{
     CharSpan, ConditionAnswer, FileLines, FilePlace, Origin, Part, Position, Range,
-    RefusedExpression, Scalar, Verdict, Written,
+    RefusedExpression, ReportedDuration, Scalar, Verdict, Written,
 };
 use std::alloc::Global;
 
@@ -31,6 +31,25 @@ pub fn answer_of(word: &str) -> Option<ConditionAnswer> {
     }
 }
 
+/// The duration of so many nanoseconds, with the text that a file writes it with at a place, if the
+/// line has as many words.
+fn duration_of(
+    alloc: Global,
+    line: &Line,
+    nanoseconds: u128,
+    place: usize,
+) -> Result<ReportedDuration, RowError> {
+    let written = if line.words().len() <= place {
+        None
+    } else {
+        Some(line.text(alloc, place)?)
+    };
+    Ok(ReportedDuration {
+        nanoseconds,
+        written,
+    })
+}
+
 /// The scalar whose kind is at a place, and whose text behind it.
 pub fn scalar_of(alloc: Global, line: &Line, place: usize) -> Result<Scalar, RowError> {
     let text = line.word(place.saturating_add(1))?;
@@ -42,7 +61,10 @@ pub fn scalar_of(alloc: Global, line: &Line, place: usize) -> Result<Scalar, Row
         },
         "text" => Ok(Scalar::Text(String::from_str(alloc, text)?)),
         "duration" => match text.parse::<u128>() {
-            Ok(nanoseconds) => Ok(Scalar::Duration(nanoseconds)),
+            Ok(nanoseconds) => {
+                let written = place.saturating_add(2);
+                Ok(Scalar::Duration(duration_of(alloc, line, nanoseconds, written)?))
+            }
             Err(_) => Err(RowError::NoRow),
         },
         _ => Err(RowError::NoRow),

@@ -6,5 +6,5 @@ use Rattle.rinqebo_report.proofs.toml_text.add_fields.Given as goal
 abbrev pub invariant-loop-field : goal.invariant-loop-field
 invariant-loop-field l =
     (string_bytes l.out ≡ string_bytes l.initial.out
-    ++ joined (codes ", ") field_text (take l.field-index l.fields))
+    ++ joined (codes ", ") (field_text l.spelling) (take l.field-index l.fields))
     × (l.separator ≡ separator_after (codes ", ") (take l.field-index l.fields))

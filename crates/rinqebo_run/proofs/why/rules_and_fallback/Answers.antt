@@ -1,7 +1,10 @@
-use Rattle.std.proofs.Common.{◌∙◌, ap, map}
+use Rattle.std.proofs.Common.{◌∙◌, All, ap, map, subst}
+use Rattle.std.proofs.lemmas.List.Elements.{All-push}
+use Rattle.rinqebo_rules.specs.Origins.{key_steps}
 use Rattle.rinqebo_rules.specs.RuleViews.{setting_rule_view}
 use Rattle.rinqebo_rules.specs.SettingRules.{rules_for}
 use Rattle.rinqebo_run.proofs.Gathering.{reasons_here}
+use Rattle.rinqebo_run.specs.Reasons.{IsRuleAsWritten}
 use Rattle.rinqebo_run.proofs.why.rules_and_fallback.Goals as goal
 
 pub returns : goal.returns
@@ -17,9 +20,16 @@ returns c =
       c.asking_of-asking.ensures.platforms,
       c.asking_of-asking.ensures.query,
       c.asking_of-asking.ensures.default_filter,
-    ) at (c.in_ok-reported.ensures c.asking_of-asking.result written judged) in
+    ) at (c.in_ok-reported.ensures.told c.asking_of-asking.result written judged) in
+    let layers = c.args.session.now.layers.items in
+    let before = c.in_ok-reported.reported.items in
+    let same = λ i. key_steps (c.of-key.ensures.table i) (c.of-key.ensures.key i) in
+    let written = subst (λ steps. All (IsRuleAsWritten layers steps) before) same
+    (subst (λ ls. All (IsRuleAsWritten ls _) before) c.deref.ensures.value c.in_ok-reported.ensures.written) in
     reasons_here c.args.session.now.layers.items platforms c.args.test.now c.listed-listed.result.query c.args.setting _
     profile c.in_ok-reported.reported.items c.in_ok-fallback.fallback _ c.in_ok-on.ensures.default_filter
     (ap (λ t. t.test) c.listed-listed.ensures) told
     c.in_ok-fallback.ensures.verdict c.in_ok-fallback.ensures.value
     c.in_ok-push.ensures.items
+    (rw c.in_ok-push.ensures.items
+    (All-push (IsRuleAsWritten layers _) before c.in_ok-fallback.fallback written c.in_ok-fallback.ensures.written))
