@@ -1,9 +1,9 @@
 //! The answer of a check: what is wrong with files.
-ghost use Rattle.std.specs.Prelude.{◌≡◌, ◌⊎◌, IfOk, IfErr};
+ghost use Rattle.std.specs.Prelude.{◌≡◌, IfOk, IfErr};
 ghost use Rattle.nextest_sources.specs.Endings.{IsMemory};
 ghost use Rattle.rinqebo_findings.specs.Reports.{IsReportOf};
 ghost use Rattle.rinqebo_load.specs.Beginning.{IsBeginningFailure};
-ghost use Rattle.rinqebo_run.specs.Checked.{IsCheckStatus};
+ghost use Rattle.rinqebo_run.specs.Checked.{IsCheckStatus, accepted_status, is_error};
 
 use crate::answer::Answer;
 use crate::open_filters::open_filters_note;
@@ -15,13 +15,18 @@ use rinqebo_report::{Content, Finding, Level};
 use std::alloc::{AllocError, Global};
 
 /// Whether a finding is at the level of errors.
-fn is_error(finding: &Finding) -> bool {
-    matches!(finding.level, Level::Error)
+fn is_error(finding: &Finding) -> bool
+    ensures { result ≡ is_error finding.now }
+{
+    match finding.level {
+        Level::Error => true,
+        Level::Warning => false,
+    }
 }
 
 /// The exit status of a check whose load accepts.
 fn status_of(findings: &[Finding], deny_warnings: bool) -> u8
-    ensures { (result ≡ 0) ⊎ (result ≡ 1) }
+    ensures { result ≡ accepted_status deny_warnings findings.now }
 {
     let has_error = findings.iter().any(|finding| is_error(finding));
     if has_error || (deny_warnings && !findings.is_empty()) {
@@ -52,12 +57,13 @@ fn accepted(
     warnings: &DefaultConfigWarnings,
     deny_warnings: bool,
 ) -> Result<Answer, AllocError>
-    ensures status { IfOk result (λ answer. (answer.status ≡ 0) ⊎ (answer.status ≡ 1)) }
+    ensures status { IfOk result (λ answer. answer.status
+        ≡ accepted_status deny_warnings answer.report.findings.items) }
     ensures about { IfOk result (λ answer. IsReportOf session.now answer.report) }
 {
     let findings = accepted_findings(alloc, session, warnings)?;
-    let status = status_of(&findings, deny_warnings);
     let report = report_of(alloc, session, findings, Vec::new(alloc), Content::Check)?;
+    let status = status_of(&report.findings, deny_warnings);
     Ok(Answer {
         report,
         status,
@@ -89,7 +95,8 @@ fn refused(
 
 /// The answer of a check.
 fn checked(alloc: Global, session: &Session<'_>, deny_warnings: bool) -> Result<Answer, AllocError>
-    ensures status { IfOk result (λ answer. IsCheckStatus session.now answer.status) }
+    ensures status { IfOk result (λ answer.
+        IsCheckStatus session.now deny_warnings answer.report answer.status) }
     ensures about { IfOk result (λ answer. IsReportOf session.now answer.report) }
 {
     let mut warnings = DefaultConfigWarnings::new(alloc);
@@ -101,7 +108,8 @@ fn checked(alloc: Global, session: &Session<'_>, deny_warnings: bool) -> Result<
 
 /// What is wrong with the files.
 pub fn check(alloc: Global, session: &Session<'_>, deny_warnings: bool) -> Result<Answer, Failure>
-    ensures ok { IfOk result (λ answer. IsCheckStatus session.now answer.status) }
+    ensures ok { IfOk result (λ answer.
+        IsCheckStatus session.now deny_warnings answer.report answer.status) }
     ensures about { IfOk result (λ answer. IsReportOf session.now answer.report) }
     ensures err { IfErr result IsBeginningFailure }
 {
