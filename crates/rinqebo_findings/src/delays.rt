@@ -163,10 +163,7 @@ fn entry_finding(
 
 /// The finding that the longest delay of retries is shorter than the first one: at the longest one,
 /// unless another file writes it.
-pub fn delays_finding(
-    refused: &Refused<'_, '_>,
-    path: &[Step<'_>],
-) -> Result<Finding, AllocError>
+pub fn delays_finding(refused: &Refused<'_, '_>, path: &[Step<'_>]) -> Result<Finding, AllocError>
     ensures { IfOk result (IsErrorBelow Code.MaxDelayBelowDelay path.now) }
 {
     let alloc = refused.alloc;

@@ -108,12 +108,6 @@ impl Edits {
         self.removed.contains(mark)
     }
 
-    /// Whether the value at a path of a source is left out.
-    pub fn removes_at(&self, place: usize, path: &[Step<'_>]) -> Result<bool, AllocError> {
-        let mark = mark_of(self.alloc, place, path)?;
-        Ok(self.removes(mark.as_str()))
-    }
-
     /// What is read in place of the value at a mark.
     pub fn replacement(&self, mark: &str) -> Option<&'static str> {
         match self.replaced.get(mark) {

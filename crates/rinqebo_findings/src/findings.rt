@@ -130,7 +130,10 @@ pub fn finding_at(
     message: String,
 ) -> Result<Finding, AllocError>
     ensures { IfOk result (λ found. subject found ≡ record {
-        level = level; code = code_word label.code; path = Some (shown_path path.now) }) }
+      level = level;
+      code = code_word label.code;
+      path = Some (shown_path path.now);
+    }) }
 {
     let mut found = finding(alloc, level, label, source, message)?;
     found.place = source.place_at(path, part);

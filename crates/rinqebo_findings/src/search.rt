@@ -13,12 +13,10 @@ use crate::refusals::{add_refusal, refused_place};
 use crate::unreached::{names_after, only};
 use crate::value_faults::{fault_findings, strays_of};
 use nextest_config::{
-    ConfigExperimental, ConfigParseError, ConfigParseErrorKind, DefaultConfigWarnings,
-    ElementCause, Tree,
+    ConfigExperimental, ConfigParseError, ConfigParseErrorKind, DefaultConfigWarnings, Tree,
 };
 use nextest_documents::{TextFault, lay_over, tree_from_text};
 use nextest_faults::{FoundFault, file_faults};
-use nextest_places::Step;
 use nextest_tables::default_tree;
 use rinqebo_codes::Code;
 use rinqebo_load::Session;

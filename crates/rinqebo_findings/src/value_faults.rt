@@ -122,11 +122,7 @@ fn refused_before(
 
 /// The place of the fault that is joined with the one at a place, if one is: that the table refuses
 /// the key that it has in place of one that it lacks.
-fn joined_with(
-    faults: &[FoundFault<'_>],
-    place: usize,
-    stray: Option<&str>,
-) -> Option<usize>
+fn joined_with(faults: &[FoundFault<'_>], place: usize, stray: Option<&str>) -> Option<usize>
     ensures { IfSome result (λ joined. (fault : FoundFault)
         → slice_get faults.now joined ≡ Some fault → IsJoined faults.now fault) }
 {
@@ -154,12 +150,7 @@ fn is_marked(marks: &[bool], place: usize) -> bool
 }
 
 /// Adds the mark of the fault that is joined with the one at a place, if one is.
-fn mark_joined(
-    marks: &mut Vec<bool>,
-    faults: &[FoundFault<'_>],
-    place: usize,
-    stray: Option<&str>,
-)
+fn mark_joined(marks: &mut Vec<bool>, faults: &[FoundFault<'_>], place: usize, stray: Option<&str>)
     requires { AreJoined faults.now marks.old.items }
     ensures { AreJoined faults.now marks.new.items }
 {
