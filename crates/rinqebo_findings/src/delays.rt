@@ -3,6 +3,7 @@ ghost use Rattle.std.specs.Prelude.{◌≡◌, IfOk};
 ghost use Rattle.rinqebo_findings.specs.Subjects.{IsErrorBelow, error_at, subject};
 
 use crate::excerpts::{Mark, lines_of};
+use crate::findings::with_note;
 use crate::given::value_at;
 use crate::paths::path_with;
 use crate::refused::Refused;
@@ -131,34 +132,35 @@ fn elsewhere_note(
     }
 }
 
-/// An entry of a table that is at fault, and another one with which it does not agree.
-#[derive(Clone, Copy)]
-struct Entries<'e> {
-    /// The path of the one at fault.
-    fault: &'e [Step<'e>],
-    /// The path of the other one.
-    related: &'e [Step<'e>],
-    /// The key of the other one.
-    key: &'e str,
-}
-
 /// The finding that the longest delay of retries is shorter than the first one, at one of the two.
 fn entry_finding(
     refused: &Refused<'_, '_>,
-    entries: Entries<'_>,
+    fault: &[Step<'_>],
     wrong: &str,
     least: &str,
 ) -> Result<Finding, AllocError>
-    ensures { IfOk result (λ found. subject found
-        ≡ error_at Code.MaxDelayBelowDelay entries.entry.fault.now) }
+    ensures { IfOk result (λ found. subject found ≡ error_at Code.MaxDelayBelowDelay fault.now) }
 {
     let alloc = refused.alloc;
-    let mut found = refused.at(Code::MaxDelayBelowDelay, entries.fault, wrong)?;
+    let mut found = refused.at(Code::MaxDelayBelowDelay, fault, wrong)?;
     found.help = Some(format!(in alloc; "raise `max-delay` to at least `{least}`")?);
-    if let Some(note) = elsewhere_note(refused, entries.key, entries.related)? {
-        found.notes.push(note)?;
-    }
-    with_entry(refused, found, entries.fault, entries.related)
+    Ok(found)
+}
+
+/// Returns a finding about an entry of a table, with what it says of the other entry that it does not
+/// agree with.
+fn with_other(
+    refused: &Refused<'_, '_>,
+    found: Finding,
+    fault: &[Step<'_>],
+    related: &[Step<'_>],
+    key: &str,
+) -> Result<Finding, AllocError>
+    ensures { IfOk result (λ shown. subject shown ≡ subject found) }
+{
+    let note = elsewhere_note(refused, key, related)?;
+    let noted = with_note(found, note)?;
+    Ok(with_entry(refused, noted, fault, related)?)
 }
 
 /// The finding that the longest delay of retries is shorter than the first one: at the longest one,
@@ -171,22 +173,14 @@ pub fn delays_finding(refused: &Refused<'_, '_>, path: &[Step<'_>]) -> Result<Fi
     let first = path_with(alloc, path, "delay")?;
     let (Some(most), Some(least)) = (text_of(refused, &longest), text_of(refused, &first)) else {
         let code = Code::MaxDelayBelowDelay;
-        return refused.at(code, path, "`max-delay` is shorter than `delay`");
+        return Ok(refused.at(code, path, "`max-delay` is shorter than `delay`")?);
     };
     let wrong = format!(in alloc; "`max-delay` ({most}) is shorter than `delay` ({least})")?;
     if writes(refused, &longest) {
-        let entries = Entries {
-            fault: &longest,
-            related: &first,
-            key: "delay",
-        };
-        entry_finding(refused, entries, wrong.as_str(), least)
+        let found = entry_finding(refused, &longest, wrong.as_str(), least)?;
+        Ok(with_other(refused, found, &longest, &first, "delay")?)
     } else {
-        let entries = Entries {
-            fault: &first,
-            related: &longest,
-            key: "max-delay",
-        };
-        entry_finding(refused, entries, wrong.as_str(), least)
+        let found = entry_finding(refused, &first, wrong.as_str(), least)?;
+        Ok(with_other(refused, found, &first, &longest, "max-delay")?)
     }
 }

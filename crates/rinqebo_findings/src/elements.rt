@@ -4,7 +4,7 @@ ghost use Rattle.rinqebo_findings.specs.Subjects.{IsElementFinding, IsErrorBelow
 
 use crate::delays::delays_finding;
 use crate::expected::expected_at;
-use crate::findings::SourceAt;
+use crate::findings::{SourceAt, with_note};
 use crate::given::{kind_words, value_at};
 use crate::hints::word_hint;
 use crate::paths::{path_text, path_with, spelled_path};
@@ -166,6 +166,11 @@ fn value_finding(
     Ok(found)
 }
 
+/// Whether there is a table at a path.
+fn has_table(source: SourceAt<'_, '_>, path: &[Step<'_>]) -> bool {
+    matches!(value_at(source, path), Some(Tree::Table(_)))
+}
+
 /// The finding of a value that is refused, other than that of a table that lacks a key.
 fn element_finding(
     refused: &Refused<'_, '_>,
@@ -174,9 +179,11 @@ fn element_finding(
 ) -> Result<Finding, AllocError>
     ensures { IfOk result (IsElementFinding cause.now path.now) }
 {
-    match (cause, value_at(refused.source, path)) {
-        (ElementCause::OutOfRange, Some(Tree::Table(_))) => delays_finding(refused, path),
-        _ => value_finding(refused, cause, path),
+    match cause {
+        ElementCause::OutOfRange if has_table(refused.source, path) => {
+            Ok(delays_finding(refused, path)?)
+        }
+        cause => Ok(value_finding(refused, cause, path)?),
     }
 }
 
@@ -186,29 +193,21 @@ fn lack_text(alloc: Global, key: &str, table: &[Step<'_>]) -> Result<String, All
     format!(in alloc; "{name} needs `{key}`")
 }
 
-/// Returns a finding that the table at a path lacks a key, with what to do: it may have another one
-/// in its place.
-fn with_advice(
+/// What to do about a key that the table at a path lacks, and where that is shown: it may have another
+/// one in its place.
+fn lack_help(
     refused: &Refused<'_, '_>,
-    found: Finding,
     key: &str,
     table: &[Step<'_>],
     has_stray: bool,
-) -> Result<Finding, AllocError>
-    ensures { IfOk result (λ advised. subject advised ≡ subject found) }
-{
+) -> Result<(Option<String>, HelpPlace), AllocError> {
     let alloc = refused.alloc;
-    let mut found = found;
     if has_stray {
-        found.help = Some(format!(in alloc; "did you mean `{key}`?")?);
-        found.help_place = HelpPlace::Beside;
-    } else {
-        found.help = script_header(alloc, table, value_at(refused.source, table))?;
+        let hint = format!(in alloc; "did you mean `{key}`?")?;
+        return Ok((Some(hint), HelpPlace::Beside));
     }
-    if let Some(note) = keys_note(alloc, table)? {
-        found.notes.push(note)?;
-    }
-    Ok(found)
+    let help = script_header(alloc, table, value_at(refused.source, table))?;
+    Ok((help, HelpPlace::Below))
 }
 
 /// The finding, at a path, that the table at another one lacks a key: at that of the key that it has
@@ -223,8 +222,12 @@ fn lack_finding(
     ensures { IfOk result (λ found. subject found ≡ error_at Code.MissingKey at.now) }
 {
     let wrong = lack_text(refused.alloc, key, table)?;
-    let found = refused.part_at(Code::MissingKey, at, SpanPart::Key, wrong.as_str())?;
-    with_advice(refused, found, key, table, has_stray)
+    let (help, help_place) = lack_help(refused, key, table, has_stray)?;
+    let note = keys_note(refused.alloc, table)?;
+    let mut found = refused.part_at(Code::MissingKey, at, SpanPart::Key, wrong.as_str())?;
+    found.help = help;
+    found.help_place = help_place;
+    Ok(with_note(found, note)?)
 }
 
 /// The finding that the table at a path lacks a key: at the key that it has in its place, if it has
@@ -240,9 +243,9 @@ fn missing_finding<'x>(
     match stray {
         Some(stray) => {
             let at = path_with(refused.alloc, table, stray)?;
-            lack_finding(refused, key, table, &at, true)
+            Ok(lack_finding(refused, key, table, &at, true)?)
         }
-        None => lack_finding(refused, key, table, table, false),
+        None => Ok(lack_finding(refused, key, table, table, false)?),
     }
 }
 
@@ -257,8 +260,8 @@ pub fn fault_finding<'x>(
     ensures { IfOk result (IsElementFinding cause.now path.now) }
 {
     match cause {
-        ElementCause::Missing(key) => missing_finding(refused, key.as_str(), path, stray),
-        cause => element_finding(refused, cause, path),
+        ElementCause::Missing(key) => { Ok(missing_finding(refused, key.as_str(), path, stray)?) }
+        cause => Ok(element_finding(refused, cause, path)?),
     }
 }
 

@@ -141,6 +141,20 @@ pub fn finding_at(
     Ok(found)
 }
 
+/// Returns a finding with one more note, if there is one.
+pub fn with_note(found: Finding, note: Option<String>) -> Result<Finding, AllocError>
+    ensures { IfOk result (λ noted. subject noted ≡ subject found) }
+{
+    let mut noted = found;
+    match note {
+        Some(note) => {
+            noted.notes.push(note)?;
+            Ok(noted)
+        }
+        None => Ok(noted),
+    }
+}
+
 /// A warning about a key of a source.
 pub fn key_warning(
     alloc: Global,
@@ -161,12 +175,10 @@ fn unknown_key(alloc: Global, source: SourceAt<'_, '_>, path: &str) -> Result<Fi
     let (help, help_place) = unknown_key_help(alloc, &at)?;
     found.help = help;
     found.help_place = help_place;
-    if let Some((_key, table)) = at.split_last() {
-        if let Some(note) = keys_note(alloc, table)? {
-            found.notes.push(note)?;
-        }
+    match at.split_last() {
+        Some((_key, table)) => with_note(found, keys_note(alloc, table)?),
+        None => Ok(found),
     }
-    Ok(found)
 }
 
 /// Warns of a profile whose name is reserved.
