@@ -41,6 +41,24 @@ view-List : (other items : Box Place Global) (across : AcrossItems)
     ≡ items_of (place_view other.value) (place_view items.value) (items_test across)
 view-List other items across = search (rules, places.the_lemmas)
 
+-- the node that has these entries
+table_of : (n : Node) (es : Entries) → Some es ≡ as_table n → n ≡ table es
+table_of (table fs) es is = cc
+table_of (array ns) es is = absurd (cc)
+table_of (text t) es is = absurd (cc)
+table_of (int z) es is = absurd (cc)
+table_of (bool b) es is = absurd (cc)
+table_of opaque es is = absurd (cc)
+
+-- the node that has these items
+array_of : (n : Node) (ns : Nodes) → Some ns ≡ as_array n → n ≡ array ns
+array_of (table es) ns is = absurd (cc)
+array_of (array ms) ns is = cc
+array_of (text t) ns is = absurd (cc)
+array_of (int z) ns is = absurd (cc)
+array_of (bool b) ns is = absurd (cc)
+array_of opaque ns is = absurd (cc)
+
 module _ (place : Place) (p : List ℕ) where
   pub of_anything : (n : Node) → place ≡ places.Anything → [] ≡ faults (place_view place) p n
   of_anything n is = sym (ap (λ s. faults s p n) (ap place_view is ∙ view-Anything))
@@ -49,29 +67,30 @@ module _ (place : Place) (p : List ℕ) where
   of_leaf l n is = sym (ap (λ s. faults s p n) (ap place_view is ∙ view-Leaf l))
 
   pub of_table : (how : Others) (other : Box Place Global) (fs : Vec (Field Place) Global) (across : Across)
-      (n : Node) (es : Entries) → place ≡ places.Table how other fs across → n ≡ table es
+      (n : Node) (es : Entries) → place ≡ places.Table how other fs across → Some es ≡ as_table n
       → others_faults (others_view how) (names_of (fields_view fs.items)) p es
       ++ (fields_faults (fields_view fs.items) p es ++ at p (across_test across es))
       ≡ faults (place_view place) p n
   of_table how other fs across n es is there =
       sym (ap (λ s. faults s p n) (ap place_view is ∙ view-Table how other fs across)
       ∙ ap (faults (fields (others_view how) (place_view other.value) (fields_view fs.items) (across_test across)) p)
-      there)
+      (table_of n es there))
 
   pub of_map : (names : Names) (values : Box Place Global) (n : Node) (es : Entries)
-      → place ≡ places.Map names values → n ≡ table es
+      → place ≡ places.Map names values → Some es ≡ as_table n
       → each_entry (entry_faults (names_test names) (place_view values.value) p) es ≡ faults (place_view place) p n
   of_map names values n es is there =
       sym (ap (λ s. faults s p n) (ap place_view is ∙ view-Map names values)
-      ∙ ap (faults (map_of (names_test names) (place_view values.value)) p) there)
+      ∙ ap (faults (map_of (names_test names) (place_view values.value)) p) (table_of n es there))
 
   pub of_list : (other items : Box Place Global) (across : AcrossItems) (n : Node) (ns : Nodes)
-      → place ≡ places.List other items across → n ≡ array ns
+      → place ≡ places.List other items across → Some ns ≡ as_array n
       → each_item (faults (place_view items.value)) p 0 ns ++ at p (items_test across ns)
       ≡ faults (place_view place) p n
   of_list other items across n ns is there =
       sym (ap (λ s. faults s p n) (ap place_view is ∙ view-List other items across)
-      ∙ ap (faults (items_of (place_view other.value) (place_view items.value) (items_test across)) p) there)
+      ∙ ap (faults (items_of (place_view other.value) (place_view items.value) (items_test across)) p)
+      (array_of n ns there))
 
   other_table : (how : schemas.Others) (s : Schema) (fs : Fields) (across : Entries → Option FaultCause) (n : Node)
       → as_table n ≡ None → faults s p n ≡ faults (fields how s fs across) p n

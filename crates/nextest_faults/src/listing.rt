@@ -6,9 +6,9 @@ ghost use Rattle.nextest_tree.specs.Node.{get};
 ghost use Rattle.nextest_tree.specs.Schema.{each_entry, each_item, faults, field_faults, fields_faults, others_faults, are_refused, at, below, is_one_of, missing, names_of, unknown_field};
 ghost use Rattle.nextest_tree.specs.View.{tree_view, nodes_view, entries_view};
 ghost use Rattle.nextest_faults.specs.Found.{Adds, path_text};
-ghost use Rattle.nextest_faults.specs.Places.{names_test, need_test, others_view, place_view, fields_view};
+ghost use Rattle.nextest_faults.specs.Places.{across_test, items_test, names_test, need_test, others_view, place_view, fields_view};
 
-use crate::across::{Names, member};
+use crate::across::{Across, AcrossItems, Names, member};
 use crate::found::{FoundFault, add_at, longer};
 use crate::place::{Field, Others, Place};
 use nextest_places::Step;
@@ -119,12 +119,7 @@ pub(crate) fn add_faults<'t>(
             fields,
             across,
         } => match tree.as_table() {
-            Some(members) => {
-                add_others(alloc, *others, fields, path, members, found)?;
-                add_fields(alloc, fields, path, members, found)?;
-                add_at(alloc, path, across.cause(members), found)?;
-                Ok(())
-            }
+            Some(members) => add_table(alloc, *others, fields, *across, path, members, found),
             None => add_faults(alloc, other, path, tree, found),
         },
         Place::Map { names, values } => match tree.as_table() {
@@ -136,14 +131,53 @@ pub(crate) fn add_faults<'t>(
             items,
             across,
         } => match tree.as_array() {
-            Some(values) => {
-                add_items(alloc, items, path, values, found)?;
-                add_at(alloc, path, across.cause(values), found)?;
-                Ok(())
-            }
+            Some(values) => add_list(alloc, items, *across, path, values, found),
             None => add_faults(alloc, other, path, tree, found),
         },
     }
+}
+
+/// Adds the faults of a table of fields: of its other keys, of its fields, and of several of these
+/// together.
+#[cycle(listing)]
+fn add_table<'t>(
+    alloc: Global,
+    others: Others,
+    fields: &Vec<Field<Place>>,
+    across: Across,
+    path: &[Step<'t>],
+    members: &'t BTreeMap<String, Tree>,
+    found: &mut Vec<FoundFault<'t>>,
+) -> Result<(), AllocError>
+    ensures { let fs = fields_view fields.now.items in let p = path_text path.now in
+        let es = entries_view members.entry.now.entries in
+        OnOk result (Adds found.old.items found.new.items
+        (others_faults (others_view others) (names_of fs) p es
+        ++ (fields_faults fs p es ++ at p (across_test across es)))) }
+{
+    add_others(alloc, others, fields, path, members, found)?;
+    add_fields(alloc, fields, path, members, found)?;
+    add_at(alloc, path, across.cause(members), found)?;
+    Ok(())
+}
+
+/// Adds the faults of an array: of its items, and of all of them together.
+#[cycle(listing)]
+fn add_list<'t>(
+    alloc: Global,
+    items: &Place,
+    across: AcrossItems,
+    path: &[Step<'t>],
+    values: &'t [Tree],
+    found: &mut Vec<FoundFault<'t>>,
+) -> Result<(), AllocError>
+    ensures { let p = path_text path.now in let ns = nodes_view values.entry.now in
+        OnOk result (Adds found.old.items found.new.items
+        (each_item (faults (place_view items.now)) p 0 ns ++ at p (items_test across ns))) }
+{
+    add_items(alloc, items, path, values, found)?;
+    add_at(alloc, path, across.cause(values), found)?;
+    Ok(())
 }
 
 /// Adds the faults at one field of a table.

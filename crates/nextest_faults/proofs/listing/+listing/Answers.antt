@@ -1,12 +1,13 @@
-use Rattle.std.proofs.Common.{◌≡◌, ◌+◌, [], ◌∷◌, ◌++◌, drop, map, string_bytes, refl, sym, ap, ◌∙◌, subst}
+use Rattle.std.proofs.Common.{◌≡◌, ◌+◌, [], ◌∷◌, ◌++◌, drop, map, string_bytes, refl, sym, ap, ◌∙◌, subst, OnOk}
 use Rattle.std.proofs.lemmas.List.{drop_all}
 use Rattle.std.specs.Fmt.{decimal}
-use Rattle.nextest_tree.specs.Schema.{at, below, each_entry, each_item, faults, fields_faults}
+use Rattle.nextest_tree.specs.Schema.{at, below, each_entry, each_item, faults, fields_faults, names_of, others_faults}
 use Rattle.nextest_tree.specs.View.{tree_view, entries_view, nodes_view}
 use Rattle.nextest_faults.specs.Found.{Adds, path_text}
-use Rattle.nextest_faults.specs.Places.{fields_view, names_test, place_view}
-use Rattle.nextest_faults.proofs.Adding.{left_more, left_none}
+use Rattle.nextest_faults.specs.Places.{across_test, fields_view, items_test, leaf_test, names_test, others_view, place_view}
+use Rattle.nextest_faults.proofs.Adding.{adds_more, adds_none, left_more, left_none}
 use Rattle.nextest_faults.proofs.Listed.{entry_faults, fields_next, items_next}
+use Rattle.nextest_faults.proofs.Views.{of_anything, of_leaf, of_list, of_map, of_no_list, of_no_map, of_no_table, of_table}
 use Rattle.nextest_faults.proofs.listing.+listing.Goals as goal
 
 pub add_fields-loop-field-preserved : goal.add_fields-loop-field-preserved
@@ -68,3 +69,72 @@ add_items-returns t c =
     let each = each_item (faults (place_view c.args.items.now)) (path_text c.args.path.now) l.position in
     left_none _ l.found.items _ _ l.invariant
     (ap (λ ts. each (nodes_view ts)) (drop_all l.position c.args.values.now c.loop-position-test.false))
+
+pub add_table-returns : goal.add_table-returns
+add_table-returns t c =
+    let fs = fields_view c.args.fields.now.items in
+    let p = path_text c.args.path.now in
+    let es = entries_view c.args.members.now.entries in
+    let how = others_view c.args.others in
+    let test = across_test c.args.across es in
+    let one = c.add_others.new.found.items in
+    let two = c.add_fields.new.found.items in
+    let three = c.add_at.new.found.items in
+    let first : Adds c.args.found.now.items one (others_faults how (names_of fs) p es) =
+    subst (λ xs. Adds c.args.found.now.items one (others_faults how (names_of (fields_view xs)) p es))
+    c.deref.ensures.value c.in_ok-add_others.ensures in
+    adds_more _ one three _ (fields_faults fs p es ++ at p test) first
+    (adds_more one two three _ (at p test) c.in_ok-add_fields.ensures (c.in_ok-add_at.ensures test c.cause.ensures))
+
+pub add_list-returns : goal.add_list-returns
+add_list-returns t c =
+    let p = path_text c.args.path.now in
+    let ns = nodes_view c.args.values.now in
+    let test = items_test c.args.across ns in
+    adds_more _ c.add_items.new.found.items c.add_at.new.found.items _ (at p test) c.in_ok-add_items.ensures
+    (c.in_ok-add_at.ensures test c.cause.ensures)
+
+pub add_faults-returns-in-Anything : goal.add_faults-returns-in-Anything
+add_faults-returns-in-Anything t c =
+    let p = path_text c.args.path.now in
+    subst (Adds c.args.found.now.items c.args.found.now.items)
+    (of_anything c.args.place.now p (tree_view c.args.tree.now) c.in-Anything.is) (adds_none c.args.found.now.items)
+
+pub add_faults-returns-in-Leaf : goal.add_faults-returns-in-Leaf
+add_faults-returns-in-Leaf t c =
+    let p = path_text c.args.path.now in
+    let n = tree_view c.args.tree.now in
+    subst (λ fs. OnOk c.add_at.result (Adds c.args.found.now.items c.add_at.new.found.items fs))
+    (of_leaf c.args.place.now p c.in-Leaf.leaf n c.in-Leaf.is)
+    (c.add_at.ensures (leaf_test c.in-Leaf.leaf n) c.in_ok-cause.ensures)
+
+pub add_faults-returns-in-Some : goal.add_faults-returns-in-Some
+add_faults-returns-in-Some t c =
+    let p = path_text c.args.path.now in
+    let n = tree_view c.args.tree.now in
+    subst (λ fs. OnOk c.add_table.result (Adds c.args.found.now.items c.add_table.new.found.items fs))
+    (of_table c.args.place.now p c.in-Table.others c.in-Table.other c.in-Table.fields c.in-Table.across n
+    (entries_view c.in-Some.members.now.entries) c.in-Table.is c.in-Some.ensures)
+    c.add_table.ensures
+
+pub add_faults-returns-in-None : goal.add_faults-returns-in-None
+add_faults-returns-in-None t c =
+    let p = path_text c.args.path.now in
+    let n = tree_view c.args.tree.now in
+    subst (λ fs. OnOk c.add_faults.result (Adds c.args.found.now.items c.add_faults.new.found.items fs))
+    (ap (λ s. faults (place_view s) p n) c.deref.ensures
+    ∙ of_no_table c.args.place.now p c.in-Table.others c.in-Table.other c.in-Table.fields c.in-Table.across n
+    c.in-Table.is (sym c.in-None.ensures))
+    c.add_faults.ensures
+
+pub add_faults-returns-in-Some-2 : goal.add_faults-returns-in-Some-2
+add_faults-returns-in-Some-2 t c = ?
+
+pub add_faults-returns-in-None-2 : goal.add_faults-returns-in-None-2
+add_faults-returns-in-None-2 t c = ?
+
+pub add_faults-returns-in-Some-3 : goal.add_faults-returns-in-Some-3
+add_faults-returns-in-Some-3 t c = ?
+
+pub add_faults-returns-in-None-3 : goal.add_faults-returns-in-None-3
+add_faults-returns-in-None-3 t c = ?
