@@ -1,7 +1,7 @@
-use Rattle.std.proofs.Common.{◌≡◌, ◌+◌, [], ◌∷◌, ◌++◌, drop, map, string_bytes, refl, sym, ap, ◌∙◌, subst, OnOk}
+use Rattle.std.proofs.Common.{◌≡◌, ◌+◌, [], ◌∷◌, ◌++◌, drop, map, string_bytes, Some, refl, sym, ap, ◌∙◌, subst, OnOk}
 use Rattle.std.proofs.lemmas.List.{drop_all}
 use Rattle.std.specs.Fmt.{decimal}
-use Rattle.nextest_tree.specs.Schema.{at, below, each_entry, each_item, faults, fields_faults, names_of, others_faults}
+use Rattle.nextest_tree.specs.Schema.{at, below, each_entry, each_item, faults, fields_faults, names_of, others_faults, wrong_kind}
 use Rattle.nextest_tree.specs.View.{tree_view, entries_view, nodes_view}
 use Rattle.nextest_faults.specs.Found.{Adds, path_text}
 use Rattle.nextest_faults.specs.Places.{across_test, fields_view, items_test, leaf_test, names_test, others_view, place_view}
@@ -127,14 +127,46 @@ add_faults-returns-in-None t c =
     c.in-Table.is (sym c.in-None.ensures))
     c.add_faults.ensures
 
-pub add_faults-returns-in-Some-2 : goal.add_faults-returns-in-Some-2
-add_faults-returns-in-Some-2 t c = ?
+pub add_faults-returns-in-Some-as_table : goal.add_faults-returns-in-Some-as_table
+add_faults-returns-in-Some-as_table t c =
+    let p = path_text c.args.path.now in
+    let n = tree_view c.args.tree.now in
+    let es = entries_view c.in-Some-as_table.members.now.entries in
+    subst (λ fs. OnOk c.add_entries.result (Adds c.args.found.now.items c.add_entries.new.found.items fs))
+    (ap (λ s. each_entry (entry_faults (names_test c.in-Map.names) (place_view s) p) es)
+    c.deref-in-Some-as_table.ensures
+    ∙ of_map c.args.place.now p c.in-Map.names c.in-Map.values n es c.in-Map.is c.in-Some-as_table.ensures)
+    c.add_entries.ensures
 
-pub add_faults-returns-in-None-2 : goal.add_faults-returns-in-None-2
-add_faults-returns-in-None-2 t c = ?
+pub add_faults-returns-in-None-as_table : goal.add_faults-returns-in-None-as_table
+add_faults-returns-in-None-as_table t c =
+    let p = path_text c.args.path.now in
+    let n = tree_view c.args.tree.now in
+    subst (λ fs. OnOk c.add_at-in-None-as_table.result
+    (Adds c.args.found.now.items c.add_at-in-None-as_table.new.found.items fs))
+    (of_no_map c.args.place.now p c.in-Map.names c.in-Map.values n c.in-Map.is (sym c.in-None-as_table.ensures))
+    (c.add_at-in-None-as_table.ensures (Some wrong_kind)
+    (record { cause = wrong_kind; seen = refl; meant = refl }))
 
-pub add_faults-returns-in-Some-3 : goal.add_faults-returns-in-Some-3
-add_faults-returns-in-Some-3 t c = ?
+pub add_faults-returns-in-Some-as_array : goal.add_faults-returns-in-Some-as_array
+add_faults-returns-in-Some-as_array t c =
+    let p = path_text c.args.path.now in
+    let n = tree_view c.args.tree.now in
+    let ns = nodes_view c.in-Some-as_array.values.now in
+    subst (λ fs. OnOk c.add_list.result (Adds c.args.found.now.items c.add_list.new.found.items fs))
+    (ap (λ s. each_item (faults (place_view s)) p 0 ns ++ at p (items_test c.in-List.across ns))
+    c.deref-in-Some-as_array.ensures
+    ∙ of_list c.args.place.now p c.in-List.other c.in-List.items c.in-List.across n ns c.in-List.is
+    c.in-Some-as_array.ensures)
+    c.add_list.ensures
 
-pub add_faults-returns-in-None-3 : goal.add_faults-returns-in-None-3
-add_faults-returns-in-None-3 t c = ?
+pub add_faults-returns-in-None-as_array : goal.add_faults-returns-in-None-as_array
+add_faults-returns-in-None-as_array t c =
+    let p = path_text c.args.path.now in
+    let n = tree_view c.args.tree.now in
+    subst (λ fs. OnOk c.add_faults-in-None-as_array.result
+    (Adds c.args.found.now.items c.add_faults-in-None-as_array.new.found.items fs))
+    (ap (λ s. faults (place_view s) p n) c.deref-in-None-as_array.ensures
+    ∙ of_no_list c.args.place.now p c.in-List.other c.in-List.items c.in-List.across n c.in-List.is
+    (sym c.in-None-as_array.ensures))
+    c.add_faults-in-None-as_array.ensures

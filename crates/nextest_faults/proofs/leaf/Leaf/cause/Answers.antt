@@ -1,4 +1,4 @@
-use Rattle.std.proofs.Common.{refl, subst, sym}
+use Rattle.std.proofs.Common.{refl}
 use Rattle.nextest_elements.specs.FlakyResult.{a_flaky_result}
 use Rattle.nextest_elements.specs.Junit.{a_report_skip_policy, a_junit_flaky_fail_status}
 use Rattle.nextest_elements.specs.LeakTimeout.{a_leak_result}
@@ -114,3 +114,18 @@ pub returns-in-TargetRunner : goal.returns-in-TargetRunner
 unfolding a_target_runner
 returns-in-TargetRunner c =
     rw c.in-TargetRunner.is (c.element_cause-in-TargetRunner.ensures (leaf_test leaves.TargetRunner (tree_view c.args.tree.now)) (λ p. refl))
+
+pub returns-in-Limit : goal.returns-in-Limit
+returns-in-Limit c = rw c.in-Limit.is c.limit_cause.ensures
+
+pub returns-in-Count : goal.returns-in-Count
+returns-in-Count c = rw c.in-Count.is c.count_cause.ensures
+
+pub returns-in-CommandLine : goal.returns-in-CommandLine
+returns-in-CommandLine c = rw c.in-CommandLine.is c.line_cause.ensures
+
+pub returns-in-Table : goal.returns-in-Table
+returns-in-Table c = rw c.in-Table.is c.table_cause.ensures
+
+pub returns-in-Array : goal.returns-in-Array
+returns-in-Array c = rw c.in-Array.is c.array_cause.ensures
