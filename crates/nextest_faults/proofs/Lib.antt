@@ -4,3 +4,4 @@ pub mod Words
 pub mod Paths
 pub mod Listed
 pub mod Views
+pub mod Trees

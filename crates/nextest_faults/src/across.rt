@@ -7,6 +7,7 @@ ghost use Rattle.nextest_tree.specs.Node.{get};
 ghost use Rattle.nextest_tree.specs.View.{tree_view, nodes_view, entries_view};
 ghost use Rattle.nextest_texts.specs.Nanoseconds.{duration_at};
 ghost use Rattle.nextest_elements.specs.RetryPolicy.{grows_in, is_below, retry_across};
+ghost use Rattle.nextest_scripts.specs.CommandLine.{list_cause};
 ghost use Rattle.nextest_faults.specs.Found.{IsCause};
 ghost use Rattle.nextest_faults.specs.Places.{across_test, items_test, names_test, need_test};
 
@@ -65,7 +66,6 @@ pub(crate) fn member<'t>(members: &'t BTreeMap<String, Tree>, key: Key) -> Optio
 }
 
 /// Whether a table says that delays grow.
-#[tactic(auto, using(crate::proofs::Words::growing), unfolding(nextest_tree::specs::Key::key_text))]
 fn grows(members: &BTreeMap<String, Tree>) -> bool
     ensures { result ≡ grows_in (entries_view members.now.entries) }
 {
@@ -133,14 +133,25 @@ impl Across {
     }
 }
 
+/// What is wrong with an array that is to have a first item.
+fn first_cause(items: &[Tree]) -> Option<ElementCause>
+    ensures { IsCause result (list_cause (nodes_view items.now)) }
+{
+    if items.is_empty() {
+        Some(ElementCause::OutOfRange)
+    } else {
+        None
+    }
+}
+
 impl AcrossItems {
     /// What is wrong with the items of an array together.
     pub(crate) fn cause(self, items: &[Tree]) -> Option<ElementCause>
         ensures { IsCause result (items_test self (nodes_view items.now)) }
     {
         match self {
-            AcrossItems::First if items.is_empty() => Some(ElementCause::OutOfRange),
-            AcrossItems::First | AcrossItems::Nothing => None,
+            AcrossItems::Nothing => None,
+            AcrossItems::First => first_cause(items),
         }
     }
 }

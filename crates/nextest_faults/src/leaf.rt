@@ -73,14 +73,13 @@ pub(crate) enum Leaf {
 }
 
 /// What is wrong with a limit of failures.
-#[tactic(auto, using(crate::proofs::Words::limit_number, crate::proofs::Words::limit_words))]
 fn limit_cause(alloc: Global, tree: &Tree) -> Result<Option<ElementCause>, AllocError>
     ensures { IfOk result (λ cause. IsCause cause
         (leaf_test Leaf.Limit (tree_view tree.now))) }
 {
-    match tree {
-        Tree::Int(_) => element_cause::<Positive>(alloc, tree),
-        _ => words_cause(alloc, tree, &["all"], "a positive number, `all`"),
+    match tree.as_integer() {
+        Some(_) => element_cause::<Positive>(alloc, tree),
+        None => words_cause(alloc, tree, &["all"], "a positive number, `all`"),
     }
 }
 

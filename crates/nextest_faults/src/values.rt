@@ -41,7 +41,6 @@ pub(crate) fn element_cause<T: Element>(
 }
 
 /// What is wrong with a name that keys a map.
-#[tactic(auto, using(crate::proofs::Reading::refused_name))]
 pub(crate) fn name_cause<N: Name>(
     alloc: Global,
     key: &str,

@@ -1,4 +1,5 @@
-use Rattle.std.proofs.Common.{refl}
+use Rattle.std.proofs.Common.{[], ◌∷◌, codes, refl}
+use Rattle.std.proofs.lemmas.Result.{IfOk-weaker}
 use Rattle.nextest_elements.specs.FlakyResult.{a_flaky_result}
 use Rattle.nextest_elements.specs.Junit.{a_report_skip_policy, a_junit_flaky_fail_status}
 use Rattle.nextest_elements.specs.LeakTimeout.{a_leak_result}
@@ -14,9 +15,14 @@ use Rattle.nextest_scripts.specs.Command.{a_relative_to}
 use Rattle.nextest_scripts.specs.WrapperScript.{a_target_runner}
 use Rattle.nextest_texts.specs.IdentifierReader.{an_identifier}
 use Rattle.nextest_texts.specs.Nanoseconds.{a_duration}
-use Rattle.nextest_tree.specs.Leaf.{a_text, a_bool}
+use Rattle.nextest_elements.specs.RetryPolicy.{backoff_at, backoff_expected}
+use Rattle.nextest_scripts.specs.SetupScript.{setup_result_at, setup_result_expected}
+use Rattle.nextest_tree.specs.Leaf.{a_text, a_bool, cause_of}
 use Rattle.nextest_tree.specs.View.{tree_view}
+use Rattle.nextest_faults.specs.Found.{IsCause}
 use Rattle.nextest_faults.specs.Places.{leaf_test}
+use Rattle.nextest_faults.specs.Values.{words_cause}
+use Rattle.nextest_faults.proofs.Words.{backoff_words, setup_words}
 use Rattle.nextest_faults.specs.declared.leaf.Leaf.TheVariants as leaves
 use Rattle.nextest_faults.proofs.leaf.Leaf.cause.Goals as goal
 
@@ -129,3 +135,20 @@ returns-in-Table c = rw c.in-Table.is c.table_cause.ensures
 
 pub returns-in-Array : goal.returns-in-Array
 returns-in-Array c = rw c.in-Array.is c.array_cause.ensures
+
+pub returns-in-Backoff : goal.returns-in-Backoff
+unfolding backoff_expected
+returns-in-Backoff c =
+    let n = tree_view c.args.tree.now in
+    rw c.in-Backoff.is (IfOk-weaker c.words_cause.result
+    (λ cause. IsCause cause (words_cause (codes "fixed" ∷ codes "exponential" ∷ []) backoff_expected n))
+    (λ cause. IsCause cause (cause_of (backoff_at n))) (λ cause is. backoff_words cause n is) c.words_cause.ensures)
+
+pub returns-in-SetupResult : goal.returns-in-SetupResult
+unfolding setup_result_expected
+returns-in-SetupResult c =
+    let n = tree_view c.args.tree.now in
+    rw c.in-SetupResult.is (IfOk-weaker c.words_cause-in-SetupResult.result
+    (λ cause. IsCause cause (words_cause (codes "fail" ∷ []) setup_result_expected n))
+    (λ cause. IsCause cause (cause_of (setup_result_at n))) (λ cause is. setup_words cause n is)
+    c.words_cause-in-SetupResult.ensures)
