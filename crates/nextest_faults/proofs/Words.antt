@@ -1,5 +1,5 @@
 -- Values that are to be one of some words.
-use Rattle.std.proofs.Common.{◌≡◌, ℕ, ℤ, List, [], ◌∷◌, Bool, true, false, ◌||◌, cond, Option, Some, None, Result, Ok, Err, codes, ok_or, refl, sym, subst}
+use Rattle.std.proofs.Common.{◌≡◌, ℕ, ℤ, List, [], ◌∷◌, Bool, true, false, ◌||◌, cond, Option, Some, None, Result, Ok, Err, codes, ok_or, refl, sym, ◌∙◌, subst}
 use Rattle.std.proofs.lemmas.Bool.Decides.{same_from_decides}
 use Rattle.std.proofs.lemmas.Slice.Eq.{bytes_eq-Decides}
 use Rattle.std.specs.Result.{result_ok}
@@ -8,15 +8,12 @@ use Rattle.nextest_tree.specs.Leaf.{cause_of}
 use Rattle.nextest_tree.specs.Node.{Node, table, array, text, int, bool, opaque, as_int}
 use Rattle.nextest_tree.specs.Schema.{FaultCause, at, bad_value, faults}
 use Rattle.nextest_tree.specs.declared.fault.ElementCause.{ElementCause}
-use Rattle.nextest_elements.specs.declared.max_fail.MaxFail.TheVariants as limits
-use Rattle.nextest_elements.specs.declared.retry_policy.Backoff.TheVariants as backoffs
 use Rattle.nextest_elements.specs.MaxFail.{limit_at, limit_expected, limit_names, limited}
 use Rattle.nextest_elements.specs.Positive.{positive_at}
 use Rattle.nextest_elements.specs.RetryPolicy.{backoff_at, backoff_expected, backoff_names, grows}
 use Rattle.nextest_scripts.specs.Command.{a_command}
 use Rattle.nextest_scripts.specs.CommandLine.{a_command_line, line_cause}
 use Rattle.nextest_scripts.specs.SetupScript.{setup_result_at, setup_result_expected, setup_result_names}
-use Rattle.nextest_scripts.specs.declared.setup_timeout.SetupTimeoutResult.TheVariants.{Fail}
 use Rattle.nextest_faults.specs.Found.{IsCause}
 use Rattle.nextest_faults.specs.Values.{words_cause}
 
@@ -58,7 +55,7 @@ one_word : (s : List ℕ)
     → words_cause (codes "all" ∷ []) limit_expected (text s) ≡ cause_of (limit_at (text s))
 unfolding limit_names
 one_word s =
-    rw (swapped (codes "all") s) (one_of (bytes_eq s (codes "all")) limits.All (bad_value s limit_expected))
+    rw (swapped (codes "all") s) (one_of (bytes_eq s (codes "all")) _ (bad_value s limit_expected))
 
 pub limit_words : (cause : Option ElementCause) (n : Node) → None ≡ as_int n
     → IsCause cause (words_cause (codes "all" ∷ []) limit_expected n)
@@ -76,8 +73,7 @@ two_words : (s : List ℕ)
 unfolding backoff_names
 two_words s =
     rw (swapped (codes "fixed") s, swapped (codes "exponential") s)
-    (one_of_two (bytes_eq s (codes "fixed")) (bytes_eq s (codes "exponential")) backoffs.Fixed backoffs.Exponential
-    (bad_value s backoff_expected))
+    (one_of_two (bytes_eq s (codes "fixed")) (bytes_eq s (codes "exponential")) _ _ (bad_value s backoff_expected))
 
 pub backoff_words : (cause : Option ElementCause) (n : Node)
     → IsCause cause (words_cause (codes "fixed" ∷ codes "exponential" ∷ []) backoff_expected n)
@@ -94,7 +90,7 @@ fail_word : (s : List ℕ)
     → words_cause (codes "fail" ∷ []) setup_result_expected (text s) ≡ cause_of (setup_result_at (text s))
 unfolding setup_result_names
 fail_word s =
-    rw (swapped (codes "fail") s) (one_of (bytes_eq s (codes "fail")) Fail (bad_value s setup_result_expected))
+    rw (swapped (codes "fail") s) (one_of (bytes_eq s (codes "fail")) _ (bad_value s setup_result_expected))
 
 pub setup_words : (cause : Option ElementCause) (n : Node)
     → IsCause cause (words_cause (codes "fail" ∷ []) setup_result_expected n)
@@ -106,18 +102,19 @@ setup_words cause (int z) is = is
 setup_words cause (bool b) is = is
 setup_words cause opaque is = is
 
-grow : (fixed exponential : Bool) (c : FaultCause) → (fixed ≡ true → exponential ≡ false)
-    → exponential
-    ≡ grows (result_ok (ok_or (cond fixed (Some backoffs.Fixed) (cond exponential (Some backoffs.Exponential) None)) c))
-grow true exponential c apart = apart refl
-grow false true c apart = refl
-grow false false c apart = refl
+grow : {B : Type 0} (test : Option B → Bool) (x y : B) (first second : Bool) (c : FaultCause)
+    → test None ≡ false → test (Some x) ≡ false → test (Some y) ≡ true → (first ≡ true → second ≡ false)
+    → second ≡ test (result_ok (ok_or (cond first (Some x) (cond second (Some y) None)) c))
+grow test x y true second c none one other apart = apart refl ∙ sym one
+grow test x y false true c none one other apart = sym other
+grow test x y false false c none one other apart = sym none
 
 -- delays grow where the word says so
 pub growing : (s : List ℕ) → bytes_eq s (codes "exponential") ≡ grows (result_ok (backoff_at (text s)))
 unfolding backoff_names
 growing s =
-    grow (bytes_eq s (codes "fixed")) (bytes_eq s (codes "exponential")) (bad_value s backoff_expected)
+    grow grows _ _ (bytes_eq s (codes "fixed")) (bytes_eq s (codes "exponential")) (bad_value s backoff_expected)
+    refl refl refl
     (λ is. subst (λ (t : List ℕ). bytes_eq t (codes "exponential") ≡ false)
     (sym ((bytes_eq-Decides s (codes "fixed")).0 is)) refl)
 
