@@ -1,5 +1,5 @@
 -- The faults of keys, fields, entries and items, one after another.
-use Rattle.std.proofs.Common.{◌≡◌, ◌<◌, ◌+◌, ℕ, List, [], ◌∷◌, ◌++◌, Bool, true, false, not, Option, Some, None, map, filter, length, drop, get_or, String, Global, string_bytes, refl, sym, ap, ◌∙◌}
+use Rattle.std.proofs.Common.{◌≡◌, ◌<◌, ◌+◌, ℕ, List, [], ◌∷◌, ◌++◌, Bool, true, false, not, cond, Option, Some, None, map, filter, length, drop, get_or, String, Global, string_bytes, refl, sym, ap, ◌∙◌}
 use Rattle.std.proofs.lemmas.List.{drop_more}
 use Rattle.std.specs.Fmt.{decimal}
 use Rattle.nextest_tree.specs.declared.key.Key.{Key}
@@ -60,14 +60,9 @@ unfolding field_faults
 field_there k must f p q n o is longer =
     ap (λ path. f path n) longer ∙ sym (ap (field_faults k must f p) is)
 
--- a field that is missing and has to be there
-pub field_missing : (k : Key) (must : Bool) (f : List ℕ → Node → List Fault) (p : List ℕ) (o : Option Node)
-    → o ≡ None → must ≡ true → at p (Some (missing (key_text k))) ≡ field_faults k must f p o
+-- a field that is missing
+pub field_without : (k : Key) (must : Bool) (f : List ℕ → Node → List Fault) (p : List ℕ) (o : Option Node)
+    → None ≡ o → cond must (at p (Some (missing (key_text k)))) [] ≡ field_faults k must f p o
 unfolding field_faults
-field_missing k must f p o is needed = rw (is, needed) refl
-
--- a field that is missing and may be
-pub field_absent : (k : Key) (must : Bool) (f : List ℕ → Node → List Fault) (p : List ℕ) (o : Option Node)
-    → o ≡ None → must ≡ false → [] ≡ field_faults k must f p o
-unfolding field_faults
-field_absent k must f p o is free = rw (is, free) refl
+field_without k must f p None is = refl
+field_without k must f p (Some n) is = absurd (cc)

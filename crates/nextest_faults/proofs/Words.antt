@@ -5,7 +5,7 @@ use Rattle.std.proofs.lemmas.Slice.Eq.{bytes_eq-Decides}
 use Rattle.std.specs.Result.{result_ok}
 use Rattle.std.specs.Str.{bytes_eq}
 use Rattle.nextest_tree.specs.Leaf.{cause_of}
-use Rattle.nextest_tree.specs.Node.{Node, table, array, text, int, bool, opaque, as_int}
+use Rattle.nextest_tree.specs.Node.{Node, table, array, text, int, bool, opaque, as_int, as_text}
 use Rattle.nextest_tree.specs.Schema.{FaultCause, at, bad_value, faults}
 use Rattle.nextest_tree.specs.declared.fault.ElementCause.{ElementCause}
 use Rattle.nextest_elements.specs.MaxFail.{limit_at, limit_expected, limit_names, limited}
@@ -117,6 +117,24 @@ growing s =
     refl refl refl
     (λ is. subst (λ (t : List ℕ). bytes_eq t (codes "exponential") ≡ false)
     (sym ((bytes_eq-Decides s (codes "fixed")).0 is)) refl)
+
+pub growing_at : (n : Node) (s : List ℕ) → Some s ≡ as_text n
+    → bytes_eq s (codes "exponential") ≡ grows (result_ok (backoff_at n))
+growing_at (text t) s is = let same : s ≡ t = cc in rw same (growing t)
+growing_at (table es) s is = absurd (cc)
+growing_at (array ns) s is = absurd (cc)
+growing_at (int z) s is = absurd (cc)
+growing_at (bool b) s is = absurd (cc)
+growing_at opaque s is = absurd (cc)
+
+-- what is no text says nothing
+pub not_growing : (n : Node) → None ≡ as_text n → false ≡ grows (result_ok (backoff_at n))
+not_growing (text t) is = absurd (cc)
+not_growing (table es) is = refl
+not_growing (array ns) is = refl
+not_growing (int z) is = refl
+not_growing (bool b) is = refl
+not_growing opaque is = refl
 
 -- a command that is a text has the fault of its line
 pub command_text : (n : Node) (s : List ℕ) → n ≡ text s → (p : List ℕ) → faults a_command p n ≡ at p (line_cause n)

@@ -6,7 +6,7 @@ ghost use Rattle.nextest_tree.specs.Leaf.{leaf_at};
 ghost use Rattle.nextest_tree.specs.Node.{get};
 ghost use Rattle.nextest_tree.specs.View.{tree_view, nodes_view, entries_view};
 ghost use Rattle.nextest_texts.specs.Nanoseconds.{duration_at};
-ghost use Rattle.nextest_elements.specs.RetryPolicy.{grows_in, is_below, retry_across};
+ghost use Rattle.nextest_elements.specs.RetryPolicy.{backoff_at, grows, grows_in, is_below, retry_across};
 ghost use Rattle.nextest_scripts.specs.CommandLine.{list_cause};
 ghost use Rattle.nextest_faults.specs.Found.{IsCause};
 ghost use Rattle.nextest_faults.specs.Places.{across_test, items_test, names_test, need_test};
@@ -65,13 +65,23 @@ pub(crate) fn member<'t>(members: &'t BTreeMap<String, Tree>, key: Key) -> Optio
     members.get(key.text())
 }
 
+/// Whether a value says that delays grow.
+fn is_exponential(tree: &Tree) -> bool
+    ensures { result ≡ grows (result_ok (backoff_at (tree_view tree.now))) }
+{
+    match tree.as_str() {
+        Some(text) => text == "exponential",
+        None => false,
+    }
+}
+
 /// Whether a table says that delays grow.
 fn grows(members: &BTreeMap<String, Tree>) -> bool
     ensures { result ≡ grows_in (entries_view members.now.entries) }
 {
     match member(members, Key::Backoff) {
-        Some(Tree::Text(text)) => text.as_str() == "exponential",
-        _ => false,
+        Some(tree) => is_exponential(tree),
+        None => false,
     }
 }
 

@@ -1,5 +1,5 @@
 //! The list of the faults of a tree.
-ghost use Rattle.std.specs.Prelude.{◌≡◌, ◌++◌, Some, OnOk, map};
+ghost use Rattle.std.specs.Prelude.{◌≡◌, ◌++◌, [], Some, OnOk, map, if◌then◌else◌};
 ghost use Rattle.std.specs.Fmt.{decimal};
 ghost use Rattle.nextest_tree.specs.Key.{key_text};
 ghost use Rattle.nextest_tree.specs.Node.{get};
@@ -8,7 +8,7 @@ ghost use Rattle.nextest_tree.specs.View.{tree_view, nodes_view, entries_view};
 ghost use Rattle.nextest_faults.specs.Found.{Adds, path_text};
 ghost use Rattle.nextest_faults.specs.Places.{across_test, items_test, names_test, need_test, others_view, place_view, fields_view};
 
-use crate::across::{Across, AcrossItems, Names, member};
+use crate::across::{Across, AcrossItems, Names, Need, member};
 use crate::found::{FoundFault, add_at, longer};
 use crate::place::{Field, Others, Place};
 use nextest_places::Step;
@@ -98,6 +98,24 @@ fn add_missing<'t>(
     Ok(())
 }
 
+/// Adds that a table lacks a key, if it needs it.
+fn add_absent<'t>(
+    alloc: Global,
+    key: Key,
+    is_needed: bool,
+    path: &[Step<'t>],
+    found: &mut Vec<FoundFault<'t>>,
+) -> Result<(), AllocError>
+    ensures { OnOk result (Adds found.old.items found.new.items
+        (if is_needed then at (path_text path.now) (Some (missing (key_text key))) else [])) }
+{
+    if is_needed {
+        add_missing(alloc, key, path, found)
+    } else {
+        Ok(())
+    }
+}
+
 /// Adds the faults of a tree at a place.
 #[cycle(listing)]
 pub(crate) fn add_faults<'t>(
@@ -184,24 +202,25 @@ fn add_list<'t>(
 #[cycle(listing)]
 fn add_field<'t>(
     alloc: Global,
-    field: &Field<Place>,
+    place: &Place,
+    key: Key,
+    need: Need,
     path: &[Step<'t>],
     members: &'t BTreeMap<String, Tree>,
     found: &mut Vec<FoundFault<'t>>,
 ) -> Result<(), AllocError>
-    ensures { let f = field.now in let es = entries_view members.entry.now.entries in
+    ensures { let es = entries_view members.entry.now.entries in
         OnOk result (Adds found.old.items found.new.items
-        (field_faults f.key (need_test f.need es) (faults (place_view f.place))
-        (path_text path.now) (get (key_text f.key) es))) }
+        (field_faults key (need_test need es) (faults (place_view place.now))
+        (path_text path.now) (get (key_text key) es))) }
 {
-    match member(members, field.key) {
+    match member(members, key) {
         Some(tree) => {
-            let path = longer(alloc, path, Step::Key(field.key.text()))?;
-            add_faults(alloc, &field.place, &path, tree, found)?;
+            let path = longer(alloc, path, Step::Key(key.text()))?;
+            add_faults(alloc, place, &path, tree, found)?;
             Ok(())
         }
-        None if field.need.holds_in(members) => add_missing(alloc, field.key, path, found),
-        None => Ok(()),
+        None => add_absent(alloc, key, need.holds_in(members), path, found),
     }
 }
 
@@ -219,7 +238,15 @@ fn add_fields<'t>(
         (fields_faults (fields_view fields.now.items) (path_text path.now) es)) }
 {
     for field in fields {
-        add_field(alloc, field, path, members, found)?;
+        add_field(
+            alloc,
+            &field.place,
+            field.key,
+            field.need,
+            path,
+            members,
+            found,
+        )?;
     }
     Ok(())
 }

@@ -1,12 +1,15 @@
-use Rattle.std.proofs.Common.{◌≡◌, ◌+◌, [], ◌∷◌, ◌++◌, drop, map, string_bytes, Some, refl, sym, ap, ◌∙◌, subst, OnOk}
+use Rattle.std.proofs.Common.{cond, ◌≡◌, ◌+◌, [], ◌∷◌, ◌++◌, drop, map, string_bytes, Some, refl, sym, ap, ◌∙◌, subst, OnOk}
 use Rattle.std.proofs.lemmas.List.{drop_all}
 use Rattle.std.specs.Fmt.{decimal}
-use Rattle.nextest_tree.specs.Schema.{at, below, each_entry, each_item, faults, fields_faults, names_of, others_faults, wrong_kind}
+use Rattle.nextest_places.specs.declared.step.Step.TheVariants as steps
+use Rattle.nextest_tree.specs.Key.{key_text}
+use Rattle.nextest_tree.specs.Node.{get}
+use Rattle.nextest_tree.specs.Schema.{at, below, each_entry, each_item, faults, fields_faults, names_of, missing, others_faults, wrong_kind}
 use Rattle.nextest_tree.specs.View.{tree_view, entries_view, nodes_view}
 use Rattle.nextest_faults.specs.Found.{Adds, path_text}
-use Rattle.nextest_faults.specs.Places.{across_test, fields_view, items_test, leaf_test, names_test, others_view, place_view}
-use Rattle.nextest_faults.proofs.Adding.{adds_more, adds_none, left_more, left_none}
-use Rattle.nextest_faults.proofs.Listed.{entry_faults, fields_next, items_next}
+use Rattle.nextest_faults.specs.Places.{across_test, fields_view, items_test, leaf_test, names_test, need_test, others_view, place_view}
+use Rattle.nextest_faults.proofs.Adding.{added_below, adds_more, adds_none, left_more, left_none}
+use Rattle.nextest_faults.proofs.Listed.{entry_faults, field_there, field_without, fields_next, items_next}
 use Rattle.nextest_faults.proofs.Views.{of_anything, of_leaf, of_list, of_map, of_no_list, of_no_map, of_no_table, of_table}
 use Rattle.nextest_faults.proofs.listing.+listing.Goals as goal
 
@@ -100,13 +103,13 @@ add_faults-returns-in-Anything t c =
     subst (Adds c.args.found.now.items c.args.found.now.items)
     (of_anything c.args.place.now p (tree_view c.args.tree.now) c.in-Anything.is) (adds_none c.args.found.now.items)
 
-pub add_faults-returns-in-Leaf : goal.add_faults-returns-in-Leaf
-add_faults-returns-in-Leaf t c =
+pub add_faults-returns-in_ok-cause-in-Leaf : goal.add_faults-returns-in_ok-cause-in-Leaf
+add_faults-returns-in_ok-cause-in-Leaf t c =
     let p = path_text c.args.path.now in
     let n = tree_view c.args.tree.now in
     subst (λ fs. OnOk c.add_at.result (Adds c.args.found.now.items c.add_at.new.found.items fs))
     (of_leaf c.args.place.now p c.in-Leaf.leaf n c.in-Leaf.is)
-    (c.add_at.ensures (leaf_test c.in-Leaf.leaf n) c.in_ok-cause.ensures)
+    (c.add_at.ensures (leaf_test c.in-Leaf.leaf n) c.in_ok-cause-in-Leaf.ensures)
 
 pub add_faults-returns-in-Some : goal.add_faults-returns-in-Some
 add_faults-returns-in-Some t c =
@@ -170,3 +173,31 @@ add_faults-returns-in-None-as_array t c =
     ∙ of_no_list c.args.place.now p c.in-List.other c.in-List.items c.in-List.across n c.in-List.is
     (sym c.in-None-as_array.ensures))
     c.add_faults-in-None-as_array.ensures
+
+pub add_field-returns-in_ok-add_faults-in-Some : goal.add_field-returns-in_ok-add_faults-in-Some
+add_field-returns-in_ok-add_faults-in-Some t c =
+    let p = path_text c.args.path.now in
+    let es = entries_view c.args.members.now.entries in
+    let n = tree_view c.in-Some.tree.now in
+    let s = place_view c.args.place.now in
+    let k = key_text c.args.key in
+    let old = c.args.found.now.items in
+    let new = c.add_faults.new.found.items in
+    let added : Adds old new (faults s (below p k) n) =
+    added_below (λ q. faults s q n) old new c.args.path.now c.deref.result.now (steps.Key c.text.result) k
+    (c.deref.ensures.value ∙ c.in_ok-path.ensures) c.text.ensures c.in_ok-add_faults-in-Some.ensures in
+    subst (Adds old new)
+    (field_there c.args.key (need_test c.args.need es) (faults s) p (below p k) n (get k es) (sym c.in-Some.ensures)
+    refl)
+    added
+
+pub add_field-returns-in-None : goal.add_field-returns-in-None
+add_field-returns-in-None t c =
+    let p = path_text c.args.path.now in
+    let es = entries_view c.args.members.now.entries in
+    let k = key_text c.args.key in
+    subst (λ fs. OnOk c.add_absent.result (Adds c.args.found.now.items c.add_absent.new.found.items fs))
+    (ap (λ b. cond b (at p (Some (missing k))) []) c.holds_in.ensures
+    ∙ field_without c.args.key (need_test c.args.need es) (faults (place_view c.args.place.now)) p (get k es)
+    c.in-None.ensures)
+    c.add_absent.ensures
