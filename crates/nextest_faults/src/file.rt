@@ -60,8 +60,8 @@ fn file(alloc: Global) -> Result<Place, AllocError>
     table(alloc, fields)
 }
 
-/// Returns all faults of the elements of a file, in the order of places: a load refuses the file for
-/// the first of them. The file is the tree of its text laid over the table of defaults, as a load
+/// Returns all faults of the elements of a file, in the order of places: a load refuses the file
+/// for the first of them. The file is the tree of its text laid over the table of defaults, as a load
 /// reads it.
 ///
 /// # Errors

@@ -1,5 +1,5 @@
-//! All faults of the elements of a file, each with the steps that lead to it. A load refuses a file for
-//! the first of them.
+//! All faults of the elements of a file, each with the steps that lead to it. A load refuses a file
+//! for the first of them.
 #![tactic(auto)]
 
 mod across;

@@ -38,15 +38,15 @@ pub(crate) fn must(key: Key, place: Place) -> Field<Place>
 pub(crate) fn table_or(
     alloc: Global,
     other: Place,
-    fields: Vec<Field<Place>>,
+    known: Vec<Field<Place>>,
 ) -> Result<Place, AllocError>
     ensures { IfOk result (λ place. place_view place
-        ≡ fields are_noted (place_view other) (fields_view fields.items) (λ es. None)) }
+        ≡ fields are_noted (place_view other) (fields_view known.items) (λ es. None)) }
 {
     Ok(Place::Table {
         others: Others::Noted,
         other: Box::new(alloc, other)?,
-        fields,
+        fields: known,
         across: Across::Nothing,
     })
 }

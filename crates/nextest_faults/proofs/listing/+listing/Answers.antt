@@ -185,7 +185,7 @@ add_field-returns-in_ok-add_faults-in-Some t c =
     let new = c.add_faults.new.found.items in
     let added : Adds old new (faults s (below p k) n) =
     added_below (λ q. faults s q n) old new c.args.path.now c.deref.result.now (steps.Key c.text.result) k
-    (c.deref.ensures.value ∙ c.in_ok-path.ensures) c.text.ensures c.in_ok-add_faults-in-Some.ensures in
+    (c.deref.ensures.value ∙ c.in_ok-path-in-Some.ensures) c.text.ensures c.in_ok-add_faults-in-Some.ensures in
     subst (Adds old new)
     (field_there c.args.key (need_test c.args.need es) (faults s) p (below p k) n (get k es) (sym c.in-Some.ensures)
     refl)
