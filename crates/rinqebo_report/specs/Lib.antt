@@ -8,6 +8,8 @@ pub mod Excerpts
 pub mod Pages
 pub mod Pieces
 pub mod PieceView
+pub mod Layout
+pub mod Headers
 pub mod Github
 pub mod Groups
 pub mod Rendered
