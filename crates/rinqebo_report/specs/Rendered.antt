@@ -11,12 +11,16 @@ use Rattle.rinqebo_report.specs.Groups.{grouped_content_runs}
 use Rattle.rinqebo_report.specs.Pages.{content_runs, concise_runs}
 use Rattle.rinqebo_report.specs.Pieces.{page_text}
 
+-- a report as a document of JSON, in a line
+abbrev pub json_text : Report → List ℕ
+json_text report = compact_text (document_data report) ++ 10 ∷ []
+
 -- a report in a format: only pages have colours, and only the pages of commands have columns
 abbrev pub rendered : Report → Format → Paper → List ℕ
 rendered report Text paper =
     page_text paper.colour (content_runs paper.columns report report.content)
 rendered report Grouped paper =
     page_text paper.colour (grouped_content_runs paper.columns report report.content)
-rendered report Json paper = compact_text (document_data report) ++ 10 ∷ []
+rendered report Json paper = json_text report
 rendered report Concise paper = page_text paper.colour (concise_runs report)
 rendered report (Github workspace) paper = github_text workspace.now report
