@@ -4,6 +4,8 @@ pub mod Prefixes
 pub mod Pages
 pub mod Shown
 pub mod Uncoloured
+pub mod Solid
+pub mod Lines
 pub mod ReadDurations
 pub mod Exact
 pub mod ExactDocuments

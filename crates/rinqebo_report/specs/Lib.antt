@@ -10,6 +10,7 @@ pub mod Pieces
 pub mod PieceView
 pub mod Layout
 pub mod Headers
+pub mod Columns
 pub mod Github
 pub mod Groups
 pub mod Rendered
