@@ -74,15 +74,15 @@ unfolding encode_utf8
 blank = (codes " ", refl, refl)
 
 hash_says : says (codes "# ") ≡ []
-unfolding encode_utf8, chars
+unfolding encode_utf8 chars
 hash_says = refl
 
 comma_says : says (codes ", ") ≡ []
-unfolding encode_utf8, chars
+unfolding encode_utf8 chars
 comma_says = refl
 
 blank_says : says (codes " ") ≡ []
-unfolding encode_utf8, chars
+unfolding encode_utf8 chars
 blank_says = refl
 
 mark_says : (mark : Mark) (text : List ℕ) → says (mark_text mark ++ text) ≡ says text

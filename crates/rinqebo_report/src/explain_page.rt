@@ -157,11 +157,7 @@ fn platform_part(alloc: Global, asked: &Asked, test: &TestRows) -> Result<String
 }
 
 /// The parts of a header behind the names of the test.
-fn request_parts(
-    alloc: Global,
-    asked: &Asked,
-    test: &TestRows,
-) -> Result<Vec<String>, AllocError>
+fn request_parts(alloc: Global, asked: &Asked, test: &TestRows) -> Result<Vec<String>, AllocError>
     ensures { IfOk result (λ parts. map string_bytes parts.items
         ≡ profiles_part asked.now ∷ mode_part asked.now ∷ platform_part asked.now test.now ∷ []) }
 {

@@ -12,7 +12,11 @@ fn has_room(alloc: Global, columns: usize, line: &str, part: &str) -> Result<boo
     ensures { IfOk result (λ has. has ≡ has_room columns line.now part.now) }
 {
     let longer = format!(in alloc; "{line} {part}")?;
-    fits(alloc, columns, &[Piece::Text(Style::Remark, longer.as_str())])
+    fits(
+        alloc,
+        columns,
+        &[Piece::Text(Style::Remark, longer.as_str())],
+    )
 }
 
 /// Puts a part behind a line of a header if there is room, and else writes the line and begins

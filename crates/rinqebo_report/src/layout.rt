@@ -57,11 +57,7 @@ pub(crate) fn width(text: &str) -> usize
 }
 
 /// Whether pieces take no more columns than these.
-pub(crate) fn fits(
-    alloc: Global,
-    columns: usize,
-    line: &[Piece<'_>],
-) -> Result<bool, AllocError>
+pub(crate) fn fits(alloc: Global, columns: usize, line: &[Piece<'_>]) -> Result<bool, AllocError>
     ensures { IfOk result (λ fits. fits ≡ fits columns (map piece_view line.now)) }
 {
     let mut text = String::new(alloc);
@@ -236,10 +232,7 @@ fn fits_below(
     fits(
         alloc,
         columns,
-        &[
-            Piece::Repeat(' ', remarks.indent),
-            Piece::Text(style, text),
-        ],
+        &[Piece::Repeat(' ', remarks.indent), Piece::Text(style, text)],
     )
 }
 

@@ -216,7 +216,14 @@ fn add_rule(
     let texts = all_origin_texts(alloc, root, sources, &rule.origin, &rule.others)?;
     add_verdict(alloc, out, paper, place, rule.verdict, texts)?;
     add_conditions(out, paper.colour, rule)?;
-    add_written(alloc, out, paper.colour, key, rule.verdict, rule.value.as_ref())
+    add_written(
+        alloc,
+        out,
+        paper.colour,
+        key,
+        rule.verdict,
+        rule.value.as_ref(),
+    )
 }
 
 /// Writes rules, one after another.
