@@ -80,12 +80,12 @@ IsScalarAsWritten found (scalars.Duration duration) = IsAsWritten found duration
 
 -- a member of a table is reported so, if it is a duration
 abbrev pub IsMemberAsWritten : Option Node → TableMember → Type 0
-IsMemberAsWritten node member =
-    IsScalarAsWritten (option_and_then (member_text (string_bytes member.key)) node) member.value
+IsMemberAsWritten found member =
+    IsScalarAsWritten (option_and_then (member_text (string_bytes member.key)) found) member.value
 
 -- The durations of a value are reported as a node writes them.
 abbrev pub IsValueAsWritten : Option Node → Value → Type 0
-IsValueAsWritten node (values.Scalar scalar) =
-    IsScalarAsWritten (option_and_then as_text node) scalar
-IsValueAsWritten node (values.Texts texts) = Unit {0}
-IsValueAsWritten node (values.Table members) = All (IsMemberAsWritten node) members.items
+IsValueAsWritten found (values.Scalar scalar) =
+    IsScalarAsWritten (option_and_then as_text found) scalar
+IsValueAsWritten found (values.Texts texts) = Unit {0}
+IsValueAsWritten found (values.Table members) = All (IsMemberAsWritten found) members.items

@@ -143,7 +143,7 @@ fn members_as_written(
 }
 
 /// A value with its durations as a node writes them.
-pub(crate) fn as_written(
+pub(crate) fn value_as_written(
     alloc: Global,
     value: Value,
     node: Option<&Tree>,

@@ -5,7 +5,7 @@ ghost use Rattle.rinqebo_rules.specs.AsWritten.{IsValueAsWritten};
 ghost use Rattle.rinqebo_rules.specs.SettingValues.{reported_value};
 ghost use Rattle.rinqebo_rules.specs.Told.{ReportedScalar, ReportedValue, scalar_view, field_view, value_view, reported_count, one, one_if, one_if_true, retry_fields, is_plain, reported_fixed, reported_retries, reported_slow, reported_leak, reported_threads};
 
-use crate::as_written::as_written;
+use crate::as_written::value_as_written;
 use nextest_config::{
     LeakTimeout, RetryPolicy, SlowTimeout, TestGroup, TestPriority, ThreadsRequired, Tree,
 };
@@ -253,7 +253,7 @@ pub fn reported_if_set(
         (option_map (λ tree. tree_view tree.now) node.entry))) }
 {
     match value {
-        Some(value) => Ok(Some(as_written(alloc, reported(alloc, value)?, node)?)),
+        Some(value) => Ok(Some(value_as_written(alloc, reported(alloc, value)?, node)?)),
         None => Ok(None),
     }
 }
