@@ -5,6 +5,8 @@ pub mod Pages
 pub mod Shown
 pub mod Uncoloured
 pub mod Solid
+pub mod Utf8Texts
+pub mod SolidPages
 pub mod Lines
 pub mod ReadDurations
 pub mod Exact

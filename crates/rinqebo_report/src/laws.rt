@@ -1,14 +1,17 @@
 //! Laws of pages.
 ghost use Rattle.std.specs.Prelude.{◌≡◌, ◌<◌, ◌^◌, ◌∷◌, ◌++◌, [], ℕ, AllByRecursion, List, Some, codes};
-ghost use Rattle.std.specs.Str.{IsUtf8};
 ghost use Rattle.rinqebo_report.specs.Columns.{solid_page, lines_of, IsOnLine, Fits};
 ghost use Rattle.rinqebo_report.specs.Durations.{duration_text, read_duration};
+ghost use Rattle.rinqebo_report.specs.Groups.{grouped_content_runs};
 ghost use Rattle.rinqebo_report.specs.Headers.{header_runs};
 ghost use Rattle.rinqebo_report.specs.Layout.{Said, below_line, mark_text, remarked_runs};
+ghost use Rattle.rinqebo_report.specs.Pages.{content_runs};
 ghost use Rattle.rinqebo_report.specs.Pieces.{Run, page_text, styled};
 ghost use Rattle.rinqebo_report.specs.Uncoloured.{uncoloured};
 ghost use Rattle.rinqebo_report.specs.declared.piece.Colour.{Colour};
 ghost use Rattle.rinqebo_report.specs.declared.piece.Style.TheVariants.{Remark};
+ghost use Rattle.rinqebo_report.specs.declared.report.Content.{Content};
+ghost use Rattle.rinqebo_report.specs.declared.report.Report.{Report};
 
 /// Without its escapes a page in colour is the plain page, whatever texts are on it.
 pub fn law_colours()
@@ -21,15 +24,15 @@ pub fn law_durations()
     ensures { (n : ℕ) → n < 2 ^ 128 → read_duration (duration_text n) ≡ Some n }
 {}
 
-/// A row, and a header, says the same for every number of columns: but for blanks, ends of lines,
-/// commas and number signs its text is the same.
+/// A page says the same for every number of columns: but for blanks, ends of lines, commas and
+/// number signs its text is the same.
 pub fn law_columns()
-    ensures rows { (columns others : ℕ) (front : List Run) (said : Said)
-        → AllByRecursion IsUtf8 said.texts → solid_page (remarked_runs columns front said)
-        ≡ solid_page (remarked_runs others front said) }
-    ensures headers { (columns others : ℕ) (first : List ℕ) (parts : List (List ℕ))
-        → IsUtf8 first → AllByRecursion IsUtf8 parts → solid_page (header_runs columns first parts)
-        ≡ solid_page (header_runs others first parts) }
+    ensures pages { (columns others : ℕ) (report : Report) (content : Content)
+        → solid_page (content_runs columns report content)
+        ≡ solid_page (content_runs others report content) }
+    ensures groups { (columns others : ℕ) (report : Report) (content : Content)
+        → solid_page (grouped_content_runs columns report content)
+        ≡ solid_page (grouped_content_runs others report content) }
 {}
 
 /// Each line of a row fits if the row without what is said of it does, and each text that says it

@@ -1,8 +1,8 @@
-use Rattle.rinqebo_report.proofs.Solid.{rows_say, headers_say}
+use Rattle.rinqebo_report.proofs.SolidPages.{groups_say, pages_say}
 use Rattle.rinqebo_report.proofs.laws.law_columns.Goals as goal
 
-pub returns-rows : goal.returns-rows
-returns-rows c = rows_say
+pub returns-pages : goal.returns-pages
+returns-pages c = pages_say
 
-pub returns-headers : goal.returns-headers
-returns-headers c = headers_say
+pub returns-groups : goal.returns-groups
+returns-groups c = groups_say
