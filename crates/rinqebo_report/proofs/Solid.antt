@@ -20,7 +20,7 @@ use Rattle.rinqebo_report.specs.declared.piece.Style.TheVariants as styles
 solid-append : (a b : List ℕ) → solid (a ++ b) ≡ solid a ++ solid b
 solid-append a b = filter-append (λ c. not (is_joint c)) a b
 
-page-append : (a b : List Run) → solid_page (a ++ b) ≡ solid_page a ++ solid_page b
+pub page-append : (a b : List Run) → solid_page (a ++ b) ≡ solid_page a ++ solid_page b
 page-append a b =
     ap solid (flat_map-append (painted colours.Plain) a b)
     ∙ solid-append (page_text colours.Plain a) (page_text colours.Plain b)
