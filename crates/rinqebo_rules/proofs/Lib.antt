@@ -20,3 +20,4 @@ pub mod Selected
 pub mod ScriptRules
 pub mod Selecting
 pub mod OpenFilters
+pub mod Moved
