@@ -8,6 +8,7 @@ pub mod Solid
 pub mod Utf8Texts
 pub mod SolidPages
 pub mod Lines
+pub mod FilledLines
 pub mod ReadDurations
 pub mod Exact
 pub mod ExactDocuments

@@ -122,7 +122,7 @@ below_utf8 : (root path : List ℕ) → IsUtf8 root → IsUtf8 path → IsUtf8 (
 below_utf8 root path r p =
     let slash : IsUtf8 (codes "/") = byte 47 (omega arith) in
     let rest_of : (found : Option (List ℕ)) → after_prefix root path ≡ found → (ends : Bool)
-        → IsUtf8 (unwrap_or (option_and_then (behind_root ends) found) path) =
+    → IsUtf8 (unwrap_or (option_and_then (behind_root ends) found) path) =
     λ found. elim found as (λ found. after_prefix root path ≡ found → (ends : Bool)
     → IsUtf8 (unwrap_or (option_and_then (behind_root ends) found) path)) [
       | None ↦ (λ e ends. p)
@@ -270,10 +270,13 @@ platform_utf8 asked test =
 builds_utf8 : (host : List ℕ) → IsUtf8 host → (target : Option (String Global))
     → AllByRecursion IsUtf8 (build_parts host (option_map string_bytes target))
 builds_utf8 host h None = (h, tt)
-builds_utf8 host h (Some target) =
-    (IsUtf8-append (codes "host ") _ (codes "host ", refl, refl) (IsUtf8-append host (codes ",") h (byte 44 (omega arith))),
-     (IsUtf8-append (codes "target ") (string_bytes target) (codes "target ", refl, refl) (IsUtf8-string_bytes target),
-     tt))
+builds_utf8 host h (Some target) = (
+  IsUtf8-append (codes "host ") _ (codes "host ", refl, refl) (IsUtf8-append host (codes ",") h (byte 44 (omega arith))),
+  (
+    IsUtf8-append (codes "target ") (string_bytes target) (codes "target ", refl, refl) (IsUtf8-string_bytes target),
+    tt,
+  ),
+)
 
 pub build_utf8 : (asked : Asked)
     → AllByRecursion IsUtf8 (build_parts (host_text asked) (option_map string_bytes asked.target))

@@ -115,6 +115,7 @@ impl Mark {
 
 impl Remarks {
     /// All that is said of a row.
+    #[tactic(auto, using(crate::proofs::Joined::joined_mapped))]
     fn text(&self, alloc: Global) -> Result<String, AllocError>
         ensures { IfOk result (λ text. string_bytes text ≡ said_text (said_view self.now)) }
     {
@@ -147,20 +148,20 @@ fn add_beside(
     )
 }
 
-/// Returns a row and what is said of it as one line, without colours.
-fn beside_text(
+/// Whether a row and a text beside it fit on one line.
+fn fits_beside(
     alloc: Global,
+    columns: usize,
     front: &[Piece<'_>],
     remarks: &Remarks,
     text: &str,
-) -> Result<String, AllocError>
-    ensures { IfOk result (λ line. string_bytes line
-        ≡ page_text Colour.Plain (map piece_view front.now ++ repeated 32 remarks.now.gap
-        ∷ styled (mark_style remarks.now.mark) text.now ∷ [])) }
+) -> Result<bool, AllocError>
+    ensures { IfOk result (λ fits. fits ≡ fits columns (map piece_view front.now
+        ++ repeated 32 remarks.now.gap ∷ styled (mark_style remarks.now.mark) text.now ∷ [])) }
 {
     let mut line = String::new(alloc);
     add_beside(&mut line, Colour::Plain, front, remarks, text)?;
-    Ok(line)
+    Ok(width(line.as_str()) <= columns)
 }
 
 /// Writes a text on a line below a row.
@@ -300,8 +301,7 @@ pub(crate) fn add_remarked(
         (said_view remarks.now))) }
 {
     let text = remarks.text(alloc)?;
-    let line = beside_text(alloc, front, remarks, text.as_str())?;
-    if width(line.as_str()) <= paper.columns {
+    if fits_beside(alloc, paper.columns, front, remarks, text.as_str())? {
         add_one_line(out, paper.colour, front, remarks, text.as_str())
     } else {
         add_lines(alloc, out, paper, front, remarks)
