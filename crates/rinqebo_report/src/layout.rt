@@ -58,7 +58,7 @@ pub(crate) fn width(text: &str) -> usize
 
 /// Whether pieces take no more columns than these.
 pub(crate) fn fits(alloc: Global, columns: usize, line: &[Piece<'_>]) -> Result<bool, AllocError>
-    ensures { IfOk result (λ fits. fits ≡ fits columns (map piece_view line.now)) }
+    ensures { IfOk result (λ is. is ≡ fits columns (map piece_view line.now)) }
 {
     let mut text = String::new(alloc);
     add_pieces(&mut text, Colour::Plain, line)?;
@@ -156,7 +156,7 @@ fn fits_beside(
     remarks: &Remarks,
     text: &str,
 ) -> Result<bool, AllocError>
-    ensures { IfOk result (λ fits. fits ≡ fits columns (map piece_view front.now
+    ensures { IfOk result (λ is. is ≡ fits columns (map piece_view front.now
         ++ repeated 32 remarks.now.gap ∷ styled (mark_style remarks.now.mark) text.now ∷ [])) }
 {
     let mut line = String::new(alloc);
@@ -226,7 +226,7 @@ fn fits_below(
     remarks: &Remarks,
     text: &str,
 ) -> Result<bool, AllocError>
-    ensures { IfOk result (λ fits. fits ≡ fits columns (repeated 32 remarks.now.indent
+    ensures { IfOk result (λ is. is ≡ fits columns (repeated 32 remarks.now.indent
         ∷ styled (mark_style remarks.now.mark) text.now ∷ [])) }
 {
     let style = remarks.mark.style();
