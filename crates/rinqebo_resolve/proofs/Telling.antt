@@ -27,6 +27,7 @@ zero_of : (asked : RequestedText) (q : Question) (session : Session) (report : R
     → AsksForAll asked q → AnswersQuestion q session report status → status ≡ 0
 zero_of asked (questions.Explain profile test settings) session report status asks answers = absurd asks
 zero_of asked (questions.Why profile test setting) session report status asks answers = absurd asks
+zero_of asked (questions.WhyRuns profile test) session report status asks answers = absurd asks
 zero_of asked (questions.List profile mode list shown) session report status asks answers = answers.0
 zero_of asked (questions.ShowConfig profile keys with_hidden) session report status asks answers = absurd asks
 zero_of asked (questions.Check deny_warnings) session report status asks answers = absurd asks
@@ -51,6 +52,7 @@ tested : {X : Type 0} (asked : RequestedText) (q : Question) (session : Session)
     → LacksTestOf session q → X
 tested asked (questions.Explain profile test settings) session asks lacks = absurd asks
 tested asked (questions.Why profile test setting) session asks lacks = absurd asks
+tested asked (questions.WhyRuns profile test) session asks lacks = absurd asks
 tested asked (questions.List profile mode list shown) session asks lacks = absurd lacks
 tested asked (questions.ShowConfig profile keys with_hidden) session asks lacks = absurd asks
 tested asked (questions.Check deny_warnings) session asks lacks = absurd asks

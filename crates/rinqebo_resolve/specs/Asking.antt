@@ -54,6 +54,7 @@ AreAll (These runs asked) = (runs ≡ true) × (asked.items ≡ settings)
 abbrev pub AsksForAll : RequestedText → Question → Type 0
 AsksForAll asked (questions.Explain profile test shown) = ⊥
 AsksForAll asked (questions.Why profile test setting) = ⊥
+AsksForAll asked (questions.WhyRuns profile test) = ⊥
 AsksForAll asked (questions.List profile mode list shown) =
     (profile.now ≡ asked.profile) × (mode ≡ asked.mode) × AreAll shown
 AsksForAll asked (questions.ShowConfig profile keys with_hidden) = ⊥

@@ -1,6 +1,7 @@
-use Rattle.std.proofs.Common.{◌∙◌, All, ap, map, subst}
+use Rattle.std.proofs.Common.{◌≡◌, ◌∙◌, All, List, ap, map, option_map, subst}
 use Rattle.std.proofs.lemmas.List.Elements.{All-push}
-use Rattle.rinqebo_rules.specs.Origins.{key_steps}
+use Rattle.rinqebo_request.specs.Keys.{key_name, key_table}
+use Rattle.rinqebo_rules.specs.Origins.{PathStep, key_steps}
 use Rattle.rinqebo_rules.specs.RuleViews.{setting_rule_view}
 use Rattle.rinqebo_rules.specs.SettingRules.{rules_for}
 use Rattle.rinqebo_run.proofs.Gathering.{reasons_here}
@@ -23,13 +24,17 @@ returns c =
     ) at (c.in_ok-reported.ensures.told c.asking_of-asking.result written judged) in
     let layers = c.args.session.now.layers.items in
     let before = c.in_ok-reported.reported.items in
-    let same = λ i. key_steps (c.of-key.ensures.table i) (c.of-key.ensures.key i) in
-    let written = subst (λ steps. All (IsRuleAsWritten layers steps) before) same
-    (subst (λ ls. All (IsRuleAsWritten ls _) before) c.deref.ensures.value c.in_ok-reported.ensures.written) in
+    let key = c.of-key.result in
+    let held : List PathStep = key_steps (option_map (λ table. table.now) key.table) key.key.now in
+    let steps : List PathStep = key_steps (key_table c.args.setting c.args.test.now.mode) (key_name c.args.setting) in
+    let same : held ≡ steps = λ i. key_steps (c.of-key.ensures.table i) (c.of-key.ensures.key i) in
+    let written : All (IsRuleAsWritten layers steps) before =
+    subst (λ ss. All (IsRuleAsWritten layers ss) before) same
+    (subst (λ ls. All (IsRuleAsWritten ls held) before) c.deref.ensures.value c.in_ok-reported.ensures.written) in
     reasons_here c.args.session.now.layers.items platforms c.args.test.now c.listed-listed.result.query c.args.setting _
     profile c.in_ok-reported.reported.items c.in_ok-fallback.fallback _ c.in_ok-on.ensures.default_filter
     (ap (λ t. t.test) c.listed-listed.ensures) told
     c.in_ok-fallback.ensures.verdict c.in_ok-fallback.ensures.value
     c.in_ok-push.ensures.items
     (rw c.in_ok-push.ensures.items
-    (All-push (IsRuleAsWritten layers _) before c.in_ok-fallback.fallback written c.in_ok-fallback.ensures.written))
+    (All-push (IsRuleAsWritten layers steps) before c.in_ok-fallback.fallback written c.in_ok-fallback.ensures.written))
