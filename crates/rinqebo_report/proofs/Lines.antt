@@ -1,6 +1,7 @@
 -- Lines of rows and headers fit where each of their parts does.
-use Rattle.std.proofs.Common.{◌≡◌, ℕ, Bool, true, false, cond, List, [], ◌∷◌, ◌++◌, ⊤, codes, flat_map, refl, sym, ap, ◌∙◌, subst, append_assoc, AllByRecursion}
+use Rattle.std.proofs.Common.{◌≡◌, ℕ, Bool, true, false, cond, List, [], ◌∷◌, ◌++◌, codes, flat_map, refl, sym, ap, ◌∙◌, subst, append_assoc}
 use Rattle.std.proofs.lemmas.List.{append-nil}
+use Rattle.std.specs.List.{AllByRecursion}
 use Rattle.rinqebo_report.specs.Columns.{lines_from, lines_of, IsOnLine, Fits}
 use Rattle.rinqebo_report.specs.Headers.{longer_line, has_room, filled_runs, header_runs}
 use Rattle.rinqebo_report.specs.Layout.{Said, fits, remark_line, mark_text, said_text, row_line, below_line, own_line_runs, below_runs, remarked_runs}

@@ -1,11 +1,12 @@
 -- Rows and headers say the same for every number of columns.
-use Rattle.std.proofs.Common.{◌≡◌, ℕ, zero, suc, Bool, true, false, cond, List, [], ◌∷◌, ◌++◌, codes, filter, flat_map, replicate, refl, sym, ap, ◌∙◌, append_assoc, AllByRecursion, not}
+use Rattle.std.proofs.Common.{◌≡◌, ℕ, zero, suc, Bool, true, false, cond, List, [], ◌∷◌, ◌++◌, codes, filter, flat_map, replicate, refl, sym, ap, ◌∙◌, append_assoc, not}
 use Rattle.std.proofs.lemmas.List.{append-nil}
 use Rattle.std.proofs.lemmas.List.Elements.{filter-append}
 use Rattle.std.proofs.lemmas.Grind.{flat_map-append}
 use Rattle.std.proofs.lemmas.Str.{chars-append, chars-nil, IsUtf8-append}
 use Rattle.std.specs.Char.{encode_utf8}
 use Rattle.std.specs.Str.{chars, IsUtf8}
+use Rattle.std.specs.List.{AllByRecursion}
 use Rattle.rinqebo_report.specs.Columns.{is_joint, solid, solid_page}
 use Rattle.rinqebo_report.specs.Headers.{longer_line, has_room, filled_runs, header_runs}
 use Rattle.rinqebo_report.specs.Joined.{joined}
@@ -26,7 +27,7 @@ page-append a b =
     ∙ solid-append (page_text colours.Plain a) (page_text colours.Plain b)
 
 -- what a text says as it is shown
-says : List ℕ → List ℕ
+abbrev says : List ℕ → List ℕ
 says text = solid (shown_text text)
 
 says-append : (a b : List ℕ) → IsUtf8 a → says (a ++ b) ≡ says a ++ says b
@@ -63,15 +64,15 @@ joint_says joint text h e = says-append joint text h ∙ ap (λ t. t ++ says tex
 
 hash : IsUtf8 (codes "# ")
 unfolding encode_utf8
-hash = (codes "# ", refl, refl)
+hash = (codes "# ", (refl, refl))
 
 comma : IsUtf8 (codes ", ")
 unfolding encode_utf8
-comma = (codes ", ", refl, refl)
+comma = (codes ", ", (refl, refl))
 
 blank : IsUtf8 (codes " ")
 unfolding encode_utf8
-blank = (codes " ", refl, refl)
+blank = (codes " ", (refl, refl))
 
 hash_says : says (codes "# ") ≡ []
 unfolding encode_utf8 chars

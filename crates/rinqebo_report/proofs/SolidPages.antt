@@ -1,7 +1,8 @@
 -- Pages say the same for every number of columns.
-use Rattle.std.proofs.Common.{◌≡◌, ◌∙◌, ◌+◌, ℕ, Bool, true, false, cond, List, [], ◌∷◌, ◌++◌, Option, None, Some, AllByRecursion, ap, codes, flat_map, length, option_map, refl, string_bytes, sym}
+use Rattle.std.proofs.Common.{◌≡◌, ◌∙◌, ◌+◌, ℕ, Bool, true, false, cond, List, [], ◌∷◌, ◌++◌, Option, None, Some, ap, codes, flat_map, length, option_map, refl, string_bytes, sym}
 use Rattle.std.proofs.lemmas.Str.{IsUtf8-string_bytes}
 use Rattle.std.specs.Str.{IsUtf8}
+use Rattle.std.specs.List.{AllByRecursion}
 use Rattle.rinqebo_report.proofs.Solid.{headers_say, page-append, rows_say}
 use Rattle.rinqebo_report.proofs.Utf8Texts.{build_utf8, mode_utf8, names_utf8, origins_utf8, platform_utf8, profiles_utf8}
 use Rattle.rinqebo_report.specs.declared.layout.KeyColumn.{KeyColumn}
@@ -55,7 +56,7 @@ runs_utf8 root r sources test =
     let others : List (List ℕ) = origin_texts root sources test.runs.origins.items in
     let P : Bool → Type 0 = λ b. AllByRecursion IsUtf8 (cond b (codes "ignored in LIST" ∷ []) others) in
     elim test.is_ignored as P [
-      | true ↦ ((codes "ignored in LIST", refl, refl), tt)
+      | true ↦ ((codes "ignored in LIST", (refl, refl)), tt)
       | false ↦ origins_utf8 root r sources test.runs.origins.items
     ]
 

@@ -1,5 +1,5 @@
 -- Origins and parts of headers are UTF-8.
-use Rattle.std.proofs.Common.{◌≡◌, ◌<◌, ◌≤◌, ◌+◌, ◌/◌, ◌%◌, ◌==◌, ◌||◌, ℕ, zero, suc, Bool, true, false, cond, List, [], ◌∷◌, ◌++◌, Option, None, Some, AllByRecursion, codes, decimal, drop, eqb, flat_map, get_or, length, option_and_then, option_map, refl, slice_get, String, string_bytes, subst, sym, take, unwrap_or, arith}
+use Rattle.std.proofs.Common.{◌≡◌, ◌<◌, ◌≤◌, ◌+◌, ◌/◌, ◌%◌, ◌==◌, ◌||◌, ℕ, zero, suc, Bool, true, false, cond, List, [], ◌∷◌, ◌++◌, Option, None, Some, codes, decimal, drop, eqb, flat_map, get_or, length, option_and_then, option_map, refl, slice_get, String, string_bytes, subst, sym, take, unwrap_or, arith}
 use Rattle.std.proofs.Math.Utf8.{scalar, scalars}
 use Rattle.std.proofs.lemmas.Bool.{and_parts}
 use Rattle.std.proofs.lemmas.Bool.Decides.{nat_tests}
@@ -9,6 +9,7 @@ use Rattle.std.specs.declared.alloc.Global.{Global}
 use Rattle.std.specs.Char.{encode_utf8, is_control}
 use Rattle.std.specs.Fmt.{digit_glyph, digits, digits_onto}
 use Rattle.std.specs.Str.{chars, IsUtf8}
+use Rattle.std.specs.List.{AllByRecursion}
 use Rattle.rinqebo_report.proofs.Prefixes.{after_is}
 use Rattle.rinqebo_report.specs.declared.origin.FileLines.{FileLines}
 use Rattle.rinqebo_report.specs.declared.origin.FilePlace.{FilePlace}
@@ -71,7 +72,7 @@ char_utf8 c s =
         | true ↦ (λ e f.
             let low : c < 160 = grind (arith, nat_tests) in
             let last : ℕ = digit_glyph false (c % 16) in
-            IsUtf8-append (codes "\\u00") _ (codes "\\u00", refl, refl)
+            IsUtf8-append (codes "\\u00") _ (codes "\\u00", (refl, refl))
             (IsUtf8-append (digit_glyph false (c / 16) ∷ []) (last ∷ []) (byte _ (glyph_low (c / 16) (omega arith)))
             (byte last (glyph_low (c % 16) (omega arith)))))
         | false ↦ (λ e f. IsUtf8-encode c s)
@@ -139,7 +140,7 @@ below_utf8 root path r p =
     ]
 
 path_utf8 : (root : List ℕ) → IsUtf8 root → (path : Option (String Global)) → IsUtf8 (path_text root path)
-path_utf8 root r None = (codes "default table", refl, refl)
+path_utf8 root r None = (codes "default table", (refl, refl))
 path_utf8 root r (Some path) = below_utf8 root (string_bytes path) r (IsUtf8-string_bytes path)
 
 position_utf8 : (position : Position) → IsUtf8 (position_text position)
@@ -166,7 +167,7 @@ range_utf8 (Some range) lines = position_utf8 range.start
 kind_utf8 : (kind : SourceKind) → IsUtf8 (tool_text (tool_of kind))
 kind_utf8 kinds.Default = IsUtf8-nil
 kind_utf8 (kinds.Tool name) =
-    IsUtf8-append (codes " (tool ") _ (codes " (tool ", refl, refl)
+    IsUtf8-append (codes " (tool ") _ (codes " (tool ", (refl, refl))
     (IsUtf8-append (string_bytes name) (codes ")") (IsUtf8-string_bytes name) (byte 41 (omega arith)))
 kind_utf8 kinds.Organisation = IsUtf8-nil
 kind_utf8 kinds.Explicit = IsUtf8-nil
@@ -186,21 +187,21 @@ place_utf8 root r sources place =
 
 part_utf8 : (part : Part) → IsUtf8 (part_text part)
 part_utf8 Fields = IsUtf8-nil
-part_utf8 (Override index) = IsUtf8-append (codes ".overrides.") _ (codes ".overrides.", refl, refl) (decimal_utf8 index)
-part_utf8 (Script index) = IsUtf8-append (codes ".scripts.") _ (codes ".scripts.", refl, refl) (decimal_utf8 index)
+part_utf8 (Override index) = IsUtf8-append (codes ".overrides.") _ (codes ".overrides.", (refl, refl)) (decimal_utf8 index)
+part_utf8 (Script index) = IsUtf8-append (codes ".scripts.") _ (codes ".scripts.", (refl, refl)) (decimal_utf8 index)
 
 written_utf8 : (root : List ℕ) → IsUtf8 root → (sources : List Source) (written : Written)
     → IsUtf8 (written_text root sources written)
 written_utf8 root r sources written =
     IsUtf8-append (place_text root sources written.place) _ (place_utf8 root r sources written.place)
-    (IsUtf8-append (codes " profile.") _ (codes " profile.", refl, refl)
+    (IsUtf8-append (codes " profile.") _ (codes " profile.", (refl, refl))
     (IsUtf8-append (key_text (string_bytes written.profile)) (part_text written.part)
     (key_utf8 (string_bytes written.profile) (IsUtf8-string_bytes written.profile)) (part_utf8 written.part)))
 
 origin_utf8 : (root : List ℕ) → IsUtf8 root → (sources : List Source) (origin : Origin)
     → IsUtf8 (origin_text root sources origin)
-origin_utf8 root r sources origins.BuiltIn = (codes "built in", refl, refl)
-origin_utf8 root r sources origins.DefaultTable = (codes "default table", refl, refl)
+origin_utf8 root r sources origins.BuiltIn = (codes "built in", (refl, refl))
+origin_utf8 root r sources origins.DefaultTable = (codes "default table", (refl, refl))
 origin_utf8 root r sources (origins.Written written) = written_utf8 root r sources written
 origin_utf8 root r sources (origins.File place) = place_utf8 root r sources place
 
@@ -224,14 +225,14 @@ joined_utf8 {X} s f h each (x ∷ xs) =
 
 pub profiles_utf8 : (asked : Asked) → IsUtf8 (profiles_part asked)
 profiles_utf8 asked =
-    IsUtf8-append (codes "profile ") _ (codes "profile ", refl, refl)
+    IsUtf8-append (codes "profile ") _ (codes "profile ", (refl, refl))
     (IsUtf8-append (joined (codes " < ") string_bytes asked.chain.items) (codes ",")
-    (joined_utf8 (codes " < ") string_bytes (codes " < ", refl, refl) (λ s. IsUtf8-string_bytes s) asked.chain.items)
+    (joined_utf8 (codes " < ") string_bytes (codes " < ", (refl, refl)) (λ s. IsUtf8-string_bytes s) asked.chain.items)
     (byte 44 (omega arith)))
 
 mode_word_utf8 : (mode : RunMode) → IsUtf8 (mode_word mode)
-mode_word_utf8 modes.Test = (codes "test", refl, refl)
-mode_word_utf8 modes.Benchmark = (codes "benchmark", refl, refl)
+mode_word_utf8 modes.Test = (codes "test", (refl, refl))
+mode_word_utf8 modes.Benchmark = (codes "benchmark", (refl, refl))
 
 pub mode_utf8 : (asked : Asked) → IsUtf8 (mode_part asked)
 mode_utf8 asked = IsUtf8-append (mode_word asked.mode) (codes ",") (mode_word_utf8 asked.mode) (byte 44 (omega arith))
@@ -246,11 +247,11 @@ host_utf8 : (asked : Asked) → IsUtf8 (host_text asked)
 host_utf8 asked =
     let P : Bool → Type 0 = λ b. IsUtf8 (cond b (codes " (assumed)") []) in
     IsUtf8-append (string_bytes asked.host) _ (IsUtf8-string_bytes asked.host)
-    (elim asked.assumes_host as P [ true ↦ (codes " (assumed)", refl, refl) | false ↦ IsUtf8-nil ])
+    (elim asked.assumes_host as P [ true ↦ (codes " (assumed)", (refl, refl)) | false ↦ IsUtf8-nil ])
 
 platform_word_utf8 : (platform : BuiltFor) → IsUtf8 (platform_word platform)
-platform_word_utf8 platforms.Host = (codes "host", refl, refl)
-platform_word_utf8 platforms.Target = (codes "target", refl, refl)
+platform_word_utf8 platforms.Host = (codes "host", (refl, refl))
+platform_word_utf8 platforms.Target = (codes "target", (refl, refl))
 
 target_utf8 : (host : List ℕ) → IsUtf8 host → (target : Option (String Global))
     → IsUtf8 (unwrap_or (option_map string_bytes target) host)
@@ -271,9 +272,9 @@ builds_utf8 : (host : List ℕ) → IsUtf8 host → (target : Option (String Glo
     → AllByRecursion IsUtf8 (build_parts host (option_map string_bytes target))
 builds_utf8 host h None = (h, tt)
 builds_utf8 host h (Some target) = (
-  IsUtf8-append (codes "host ") _ (codes "host ", refl, refl) (IsUtf8-append host (codes ",") h (byte 44 (omega arith))),
+  IsUtf8-append (codes "host ") _ (codes "host ", (refl, refl)) (IsUtf8-append host (codes ",") h (byte 44 (omega arith))),
   (
-    IsUtf8-append (codes "target ") (string_bytes target) (codes "target ", refl, refl) (IsUtf8-string_bytes target),
+    IsUtf8-append (codes "target ") (string_bytes target) (codes "target ", (refl, refl)) (IsUtf8-string_bytes target),
     tt,
   ),
 )

@@ -1,5 +1,5 @@
 -- What rows and headers keep whatever columns a page has, and which of their lines fit.
-use Rattle.std.specs.Prelude.{◌≡◌, ◌==◌, ◌||◌, ℕ, Bool, true, List, [], ◌∷◌, ◌++◌, ⊤, ⊥, filter, not}
+use Rattle.std.specs.Prelude.{◌≡◌, ◌==◌, ◌||◌, ℕ, Bool, true, List, [], ◌∷◌, ◌++◌, ⊤, filter, not}
 use Rattle.rinqebo_report.specs.declared.piece.Colour.TheVariants as colours
 use Rattle.rinqebo_report.specs.Layout.{fits}
 use Rattle.rinqebo_report.specs.Pieces.{Run, styled, repeated, numbered, ending, page_text}

@@ -455,6 +455,10 @@ concise_runs report =
     flat_map (concise_line_runs (string_bytes report.root) report.sources.items)
     report.findings.items
 
+-- the page of a check: the findings, how many there are, and which checks were not reached
+abbrev pub check_runs : Report → List Run
+check_runs report = findings_runs report ++ (plain (summary_text report) ∷ ending ∷ [])
+
 -- the page of what a command returns, whose lines have so many columns
 abbrev pub content_runs : ℕ → Report → Content → List Run
 content_runs columns report (contents.Explain asked test) =
@@ -467,5 +471,4 @@ content_runs columns report (contents.List asked tests unused scripts) =
     unused.items
 content_runs columns report (contents.ShowConfig asked entries) =
     config_runs columns (string_bytes report.root) report.sources.items entries.items
-content_runs columns report contents.Check =
-    findings_runs report ++ (plain (summary_text report) ∷ ending ∷ [])
+content_runs columns report contents.Check = check_runs report

@@ -1,8 +1,7 @@
 //! The page of a check: what is wrong, and how much.
 ghost use Rattle.std.specs.Prelude.{◌≡◌, ◌++◌, OnOk, IfOk, count_by, flat_map, string_bytes};
-ghost use Rattle.rinqebo_report.specs.Pages.{is_error, is_warning, unreached_text, counts_text, summary_text, content_runs};
+ghost use Rattle.rinqebo_report.specs.Pages.{is_error, is_warning, unreached_text, counts_text, summary_text, check_runs};
 ghost use Rattle.rinqebo_report.specs.Pieces.{page_text};
-ghost use Rattle.rinqebo_report.specs.declared.report.Content.{Content};
 
 use crate::finding::Finding;
 use crate::finding_page::add_findings;
@@ -98,7 +97,7 @@ pub(crate) fn add_check(
     report: &Report,
 ) -> Result<(), AllocError>
     ensures { OnOk result (string_bytes out.new ≡ string_bytes out.old
-        ++ page_text colour (content_runs report.now Content.Check)) }
+        ++ page_text colour (check_runs report.now)) }
 {
     add_findings(alloc, out, colour, report)?;
     let summary = summary_text(alloc, report)?;

@@ -1,5 +1,6 @@
 //! Laws of pages.
-ghost use Rattle.std.specs.Prelude.{◌≡◌, ◌<◌, ◌^◌, ◌∷◌, ◌++◌, [], ℕ, AllByRecursion, List, Some, codes};
+ghost use Rattle.std.specs.Prelude.{◌≡◌, ◌<◌, ◌^◌, ◌∷◌, ◌++◌, [], ℕ, List, Some, codes};
+ghost use Rattle.std.specs.List.{AllByRecursion};
 ghost use Rattle.rinqebo_report.specs.Columns.{solid_page, lines_of, IsOnLine, Fits};
 ghost use Rattle.rinqebo_report.specs.Durations.{duration_text, read_duration};
 ghost use Rattle.rinqebo_report.specs.Groups.{grouped_content_runs};

@@ -1,5 +1,5 @@
 //! The page of a key: the result of each rule, and what counts where none decides.
-ghost use Rattle.std.specs.Prelude.{◌≡◌, ◌++◌, [], ◌∷◌, ◌+◌, ◌^◌, ◌<◌, option_map, OnOk, string_bytes};
+ghost use Rattle.std.specs.Prelude.{◌≡◌, ◌++◌, [], ◌∷◌, ◌+◌, ◌^◌, ◌<◌, map, option_map, OnOk, string_bytes};
 ghost use Rattle.serde_json.specs.View.{members_view};
 ghost use Rattle.rinqebo_report.specs.Document.{with_ignored, with_why};
 ghost use Rattle.rinqebo_report.specs.Pages.{verdict_text, verdict_style, number_run, reported_answer, condition_runs, shows_value, value_runs, written_runs, verdict_runs, conditions_runs, rule_runs, rules_runs, ignored_runs, why_runs};
