@@ -1,6 +1,7 @@
 -- Pages say the same for every number of columns.
 use Rattle.std.proofs.Common.{◌≡◌, ◌∙◌, ◌+◌, ℕ, Bool, true, false, cond, List, [], ◌∷◌, ◌++◌, Option, None, Some, ap, codes, flat_map, length, option_map, refl, string_bytes, sym}
 use Rattle.std.proofs.lemmas.Str.{IsUtf8-string_bytes}
+use Rattle.std.specs.Char.{encode_utf8}
 use Rattle.std.specs.Str.{IsUtf8}
 use Rattle.std.specs.List.{AllByRecursion}
 use Rattle.rinqebo_report.proofs.Solid.{headers_say, page-append, rows_say}
@@ -52,6 +53,7 @@ row_says n m root r sources keys row =
 
 runs_utf8 : (root : List ℕ) → IsUtf8 root → (sources : List Source) (test : TestRows)
     → AllByRecursion IsUtf8 (runs_said root sources test)
+unfolding encode_utf8
 runs_utf8 root r sources test =
     let others : List (List ℕ) = origin_texts root sources test.runs.origins.items in
     let P : Bool → Type 0 = λ b. AllByRecursion IsUtf8 (cond b (codes "ignored in LIST" ∷ []) others) in

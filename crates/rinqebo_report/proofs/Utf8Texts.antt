@@ -61,6 +61,7 @@ decimal_utf8 n = digits_onto_utf8 64 n [] IsUtf8-nil
 
 -- a character within quotes
 char_utf8 : (c : ℕ) → scalar c ≡ true → IsUtf8 (toml_char c)
+unfolding encode_utf8
 char_utf8 c s =
     let escaped : List ℕ = 92 ∷ c ∷ [] in
     let control : List ℕ = codes "\\u00" ++ digit_glyph false (c / 16) ∷ digit_glyph false (c % 16) ∷ [] in
@@ -140,6 +141,7 @@ below_utf8 root path r p =
     ]
 
 path_utf8 : (root : List ℕ) → IsUtf8 root → (path : Option (String Global)) → IsUtf8 (path_text root path)
+unfolding encode_utf8
 path_utf8 root r None = (codes "default table", (refl, refl))
 path_utf8 root r (Some path) = below_utf8 root (string_bytes path) r (IsUtf8-string_bytes path)
 
@@ -165,6 +167,7 @@ range_utf8 None lines = lines_utf8 lines
 range_utf8 (Some range) lines = position_utf8 range.start
 
 kind_utf8 : (kind : SourceKind) → IsUtf8 (tool_text (tool_of kind))
+unfolding encode_utf8
 kind_utf8 kinds.Default = IsUtf8-nil
 kind_utf8 (kinds.Tool name) =
     IsUtf8-append (codes " (tool ") _ (codes " (tool ", (refl, refl))
@@ -186,12 +189,14 @@ place_utf8 root r sources place =
     (range_utf8 place.range place.lines) (tool_utf8 (slice_get sources place.source)))
 
 part_utf8 : (part : Part) → IsUtf8 (part_text part)
+unfolding encode_utf8
 part_utf8 Fields = IsUtf8-nil
 part_utf8 (Override index) = IsUtf8-append (codes ".overrides.") _ (codes ".overrides.", (refl, refl)) (decimal_utf8 index)
 part_utf8 (Script index) = IsUtf8-append (codes ".scripts.") _ (codes ".scripts.", (refl, refl)) (decimal_utf8 index)
 
 written_utf8 : (root : List ℕ) → IsUtf8 root → (sources : List Source) (written : Written)
     → IsUtf8 (written_text root sources written)
+unfolding encode_utf8
 written_utf8 root r sources written =
     IsUtf8-append (place_text root sources written.place) _ (place_utf8 root r sources written.place)
     (IsUtf8-append (codes " profile.") _ (codes " profile.", (refl, refl))
@@ -200,6 +205,7 @@ written_utf8 root r sources written =
 
 origin_utf8 : (root : List ℕ) → IsUtf8 root → (sources : List Source) (origin : Origin)
     → IsUtf8 (origin_text root sources origin)
+unfolding encode_utf8
 origin_utf8 root r sources origins.BuiltIn = (codes "built in", (refl, refl))
 origin_utf8 root r sources origins.DefaultTable = (codes "default table", (refl, refl))
 origin_utf8 root r sources (origins.Written written) = written_utf8 root r sources written
@@ -224,6 +230,7 @@ joined_utf8 {X} s f h each (x ∷ xs) =
     IsUtf8-append (f x) (flat_map (λ y. s ++ f y) xs) (each x) (others_utf8 s f h each xs)
 
 pub profiles_utf8 : (asked : Asked) → IsUtf8 (profiles_part asked)
+unfolding encode_utf8
 profiles_utf8 asked =
     IsUtf8-append (codes "profile ") _ (codes "profile ", (refl, refl))
     (IsUtf8-append (joined (codes " < ") string_bytes asked.chain.items) (codes ",")
@@ -231,6 +238,7 @@ profiles_utf8 asked =
     (byte 44 (omega arith)))
 
 mode_word_utf8 : (mode : RunMode) → IsUtf8 (mode_word mode)
+unfolding encode_utf8
 mode_word_utf8 modes.Test = (codes "test", (refl, refl))
 mode_word_utf8 modes.Benchmark = (codes "benchmark", (refl, refl))
 
@@ -244,12 +252,14 @@ names_utf8 test =
     (IsUtf8-append (string_bytes test.name) (codes ",") (IsUtf8-string_bytes test.name) (byte 44 (omega arith))))
 
 host_utf8 : (asked : Asked) → IsUtf8 (host_text asked)
+unfolding encode_utf8
 host_utf8 asked =
     let P : Bool → Type 0 = λ b. IsUtf8 (cond b (codes " (assumed)") []) in
     IsUtf8-append (string_bytes asked.host) _ (IsUtf8-string_bytes asked.host)
     (elim asked.assumes_host as P [ true ↦ (codes " (assumed)", (refl, refl)) | false ↦ IsUtf8-nil ])
 
 platform_word_utf8 : (platform : BuiltFor) → IsUtf8 (platform_word platform)
+unfolding encode_utf8
 platform_word_utf8 platforms.Host = (codes "host", (refl, refl))
 platform_word_utf8 platforms.Target = (codes "target", (refl, refl))
 
@@ -270,6 +280,7 @@ platform_utf8 asked test =
 
 builds_utf8 : (host : List ℕ) → IsUtf8 host → (target : Option (String Global))
     → AllByRecursion IsUtf8 (build_parts host (option_map string_bytes target))
+unfolding encode_utf8
 builds_utf8 host h None = (h, tt)
 builds_utf8 host h (Some target) = (
   IsUtf8-append (codes "host ") _ (codes "host ", (refl, refl)) (IsUtf8-append host (codes ",") h (byte 44 (omega arith))),
