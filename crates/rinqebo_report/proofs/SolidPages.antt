@@ -1,5 +1,5 @@
 -- Pages say the same for every number of columns.
-use Rattle.std.proofs.Common.{◌≡◌, ◌∙◌, ◌+◌, ℕ, Bool, true, false, cond, List, [], ◌∷◌, ◌++◌, Option, None, Some, ap, codes, flat_map, length, option_map, refl, string_bytes, sym}
+use Rattle.std.proofs.Common.{◌≡◌, ◌∙◌, ◌+◌, ◌-◌, ℕ, Bool, true, false, cond, List, [], ◌∷◌, ◌++◌, Option, None, Some, ap, codes, flat_map, length, option_map, refl, string_bytes, sym}
 use Rattle.std.proofs.lemmas.Str.{IsUtf8-string_bytes}
 use Rattle.std.specs.Char.{encode_utf8}
 use Rattle.std.specs.Str.{IsUtf8}
@@ -7,6 +7,8 @@ use Rattle.std.specs.List.{AllByRecursion}
 use Rattle.rinqebo_report.proofs.Solid.{headers_say, page-append, rows_say}
 use Rattle.rinqebo_report.proofs.Utf8Texts.{build_utf8, mode_utf8, names_utf8, origins_utf8, platform_utf8, profiles_utf8}
 use Rattle.rinqebo_report.specs.declared.layout.KeyColumn.{KeyColumn}
+use Rattle.rinqebo_report.specs.declared.layout.Mark.TheVariants.{Bare, Comment}
+use Rattle.rinqebo_report.specs.declared.piece.Style.TheVariants as styles
 use Rattle.rinqebo_report.specs.declared.origin.Origin.{Origin}
 use Rattle.rinqebo_report.specs.declared.origin.Source.{Source}
 use Rattle.rinqebo_report.specs.declared.report.Asked.{Asked}
@@ -17,12 +19,14 @@ use Rattle.rinqebo_report.specs.declared.report.Report.{Report}
 use Rattle.rinqebo_report.specs.declared.report.Rule.{Rule}
 use Rattle.rinqebo_report.specs.declared.report.SettingRow.{SettingRow}
 use Rattle.rinqebo_report.specs.declared.report.TestRows.{TestRows}
+use Rattle.rinqebo_report.specs.declared.report.Verdict.{Verdict}
 use Rattle.rinqebo_report.specs.Columns.{solid_page}
 use Rattle.rinqebo_report.specs.Groups.{groups_runs, grouped_content_runs}
-use Rattle.rinqebo_report.specs.Headers.{list_head_runs, test_header_runs}
+use Rattle.rinqebo_report.specs.Headers.{build_parts, host_text, list_head_runs, mode_part, names_part, platform_part, profiles_part, test_header_runs}
+use Rattle.rinqebo_report.specs.Layout.{Said, width}
 use Rattle.rinqebo_report.specs.OriginText.{origin_texts}
-use Rattle.rinqebo_report.specs.Pages.{key_column, entry_column, setting_runs, row_runs, runs_said, runs_row_runs, runs_shown, rows_shown, test_runs, test_line_runs, explain_runs, verdict_runs, conditions_runs, written_runs, rule_runs, rules_runs, ignored_runs, why_runs, listed_runs, count_runs, unused_runs, list_end_runs, list_runs, hidden_runs, entry_runs, config_runs, content_runs}
-use Rattle.rinqebo_report.specs.Pieces.{Run}
+use Rattle.rinqebo_report.specs.Pages.{plain, number_run, verdict_text, verdict_style, value_front, value_said, key_column, entry_column, setting_runs, row_runs, runs_said, runs_row_runs, runs_shown, rows_shown, test_runs, test_line_runs, explain_runs, verdict_runs, conditions_runs, written_runs, rule_runs, rules_runs, ignored_runs, why_runs, listed_runs, count_runs, unused_runs, list_end_runs, list_runs, hidden_runs, entry_runs, config_runs, content_runs}
+use Rattle.rinqebo_report.specs.Pieces.{Run, styled}
 use Rattle.rinqebo_report.specs.TomlText.{value_text}
 
 -- pieces that say the same, and then others that do
@@ -43,7 +47,8 @@ settings_say : (n m : ℕ) (keys : KeyColumn) (key : List ℕ) (value : Option (
     → AllByRecursion IsUtf8 texts
     → solid_page (setting_runs n keys key value texts) ≡ solid_page (setting_runs m keys key value texts)
 settings_say n m keys key None texts h = refl
-settings_say n m keys key (Some value) texts h = rows_say n m _ _ h
+settings_say n m keys key (Some value) texts h =
+    rows_say n m (value_front keys key value) (value_said keys value texts) h
 
 row_says : (n m : ℕ) (root : List ℕ) → IsUtf8 root → (sources : List Source) (keys : KeyColumn) (row : SettingRow)
     → solid_page (row_runs n root sources keys row) ≡ solid_page (row_runs m root sources keys row)
@@ -89,8 +94,37 @@ explain_says : (n m : ℕ) (root : List ℕ) → IsUtf8 root → (sources : List
     → solid_page (explain_runs n root sources asked test) ≡ solid_page (explain_runs m root sources asked test)
 explain_says n m root r sources asked test =
     both (test_header_runs n asked test) (test_header_runs m asked test) _ _
-    (headers_say n m _ _ (names_utf8 test) (profiles_utf8 asked, (mode_utf8 asked, (platform_utf8 asked test, tt))))
+    (headers_say n m (names_part test) (profiles_part asked ∷ mode_part asked ∷ platform_part asked test ∷ [])
+    (names_utf8 test) (profiles_utf8 asked, (mode_utf8 asked, (platform_utf8 asked test, tt))))
     (tests_say n m 0 root r sources test)
+
+verdict_says : (n m place : ℕ) (verdict : Verdict) (texts : List (List ℕ)) → AllByRecursion IsUtf8 texts
+    → solid_page (verdict_runs n place verdict texts) ≡ solid_page (verdict_runs m place verdict texts)
+verdict_says n m place verdict texts h =
+    let front : List Run = number_run verdict place ∷ plain (codes "  ")
+    ∷ styled (verdict_style verdict) (verdict_text verdict) ∷ [] in
+    let said : Said = record {
+      mark = Bare;
+      gap = (14 - width (verdict_text verdict)) + 2;
+      indent = 5;
+      texts = texts;
+    } in
+    rows_say n m front said h
+
+unused_says : (n m : ℕ) (root : List ℕ) → IsUtf8 root → (sources : List Source) (origin : Origin)
+    → solid_page (unused_runs n root sources origin) ≡ solid_page (unused_runs m root sources origin)
+unused_says n m root r sources origin =
+    let texts : List (List ℕ) = origin_texts root sources (origin ∷ []) in
+    let said : Said = record { mark = Bare; gap = 1; indent = 4; texts = texts } in
+    rows_say n m (plain (codes "unused:") ∷ []) said (origins_utf8 root r sources (origin ∷ []))
+
+hidden_says : (n m : ℕ) (key value : List ℕ) (texts : List (List ℕ)) → AllByRecursion IsUtf8 texts
+    → solid_page (hidden_runs n key value texts) ≡ solid_page (hidden_runs m key value texts)
+hidden_says n m key value texts h =
+    let front : List Run =
+    styled styles.Remark (codes "# hidden: " ++ (key ++ (codes " = " ++ value))) ∷ [] in
+    let said : Said = record { mark = Comment; gap = 2; indent = 4; texts = texts } in
+    rows_say n m front said h
 
 rule_says : (n m : ℕ) (root : List ℕ) → IsUtf8 root → (sources : List Source) (key : List ℕ) (place : ℕ) (rule : Rule)
     → solid_page (rule_runs n root sources key place rule) ≡ solid_page (rule_runs m root sources key place rule)
@@ -98,7 +132,7 @@ rule_says n m root r sources key place rule =
     let texts : List (List ℕ) = origin_texts root sources (rule.origin ∷ rule.others.items) in
     let rest : List Run = conditions_runs rule ++ written_runs key rule.verdict (option_map value_text rule.value) in
     both (verdict_runs n place rule.verdict texts) (verdict_runs m place rule.verdict texts) rest rest
-    (rows_say n m _ _ (origins_utf8 root r sources (rule.origin ∷ rule.others.items))) refl
+    (verdict_says n m place rule.verdict texts (origins_utf8 root r sources (rule.origin ∷ rule.others.items))) refl
 
 rules_say : (n m : ℕ) (root : List ℕ) → IsUtf8 root → (sources : List Source) (key : List ℕ) (place : ℕ)
     (rules : List Rule)
@@ -116,14 +150,17 @@ why_says n m root r sources key rules is_ignored =
     (ignored_runs is_ignored) (ignored_runs is_ignored) (rules_say n m root r sources key 0 rules) refl
 
 list_head_says : (n m : ℕ) (asked : Asked) → solid_page (list_head_runs n asked) ≡ solid_page (list_head_runs m asked)
-list_head_says n m asked = headers_say n m _ _ (profiles_utf8 asked) (mode_utf8 asked, build_utf8 asked)
+list_head_says n m asked =
+    headers_say n m (profiles_part asked)
+    (mode_part asked ∷ build_parts (host_text asked) (option_map string_bytes asked.target)) (profiles_utf8 asked)
+    (mode_utf8 asked, build_utf8 asked)
 
 list_end_says : (n m : ℕ) (root : List ℕ) → IsUtf8 root → (sources : List Source) (count : ℕ) (unused : List Origin)
     → solid_page (list_end_runs n root sources count unused) ≡ solid_page (list_end_runs m root sources count unused)
 list_end_says n m root r sources count unused =
-    behind (count_runs count) _ _
-    (each (unused_runs n root sources) (unused_runs m root sources)
-    (λ origin. rows_say n m _ _ (origins_utf8 root r sources (origin ∷ []))) unused)
+    behind (count_runs count) (flat_map (unused_runs n root sources) unused)
+    (flat_map (unused_runs m root sources) unused)
+    (each (unused_runs n root sources) (unused_runs m root sources) (unused_says n m root r sources) unused)
 
 listed_says : (n m : ℕ) (root : List ℕ) → IsUtf8 root → (sources : List Source) (test : TestRows)
     → solid_page (listed_runs n root sources test) ≡ solid_page (listed_runs m root sources test)
@@ -151,7 +188,10 @@ entry_says n m root r sources keys entry =
     let P : Bool → Type 0 = λ b.
     solid_page (cond b (hidden_runs n key value texts) (setting_runs n keys key (Some value) texts))
     ≡ solid_page (cond b (hidden_runs m key value texts) (setting_runs m keys key (Some value) texts)) in
-    elim entry.is_hidden as P [ true ↦ rows_say n m _ _ h | false ↦ rows_say n m _ _ h ]
+    elim entry.is_hidden as P [
+      | true ↦ hidden_says n m key value texts h
+      | false ↦ settings_say n m keys key (Some value) texts h
+    ]
 
 pub pages_say : (n m : ℕ) (report : Report) (content : Content)
     → solid_page (content_runs n report content) ≡ solid_page (content_runs m report content)
