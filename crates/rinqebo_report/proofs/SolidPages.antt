@@ -165,7 +165,8 @@ list_end_says n m root r sources count unused =
 listed_says : (n m : ℕ) (root : List ℕ) → IsUtf8 root → (sources : List Source) (test : TestRows)
     → solid_page (listed_runs n root sources test) ≡ solid_page (listed_runs m root sources test)
 listed_says n m root r sources test =
-    behind (test_line_runs (string_bytes test.binary) (string_bytes test.name)) _ _ (tests_say n m 4 root r sources test)
+    behind (test_line_runs (string_bytes test.binary) (string_bytes test.name)) (test_runs n 4 root sources test)
+    (test_runs m 4 root sources test) (tests_say n m 4 root r sources test)
 
 -- a list, whose tests are shown by pieces that say the same
 page_of_list : (n m : ℕ) (root : List ℕ) → IsUtf8 root → (sources : List Source) (asked : Asked) (count : ℕ)
@@ -204,7 +205,8 @@ pages_say n m report (contents.List asked tests unused scripts) =
     let root : List ℕ = string_bytes report.root in
     let r : IsUtf8 root = IsUtf8-string_bytes report.root in
     let sources : List Source = report.sources.items in
-    page_of_list n m root r sources asked (length tests.items) unused.items _ _
+    page_of_list n m root r sources asked (length tests.items) unused.items
+    (flat_map (listed_runs n root sources) tests.items) (flat_map (listed_runs m root sources) tests.items)
     (each (listed_runs n root sources) (listed_runs m root sources) (listed_says n m root r sources) tests.items)
 pages_say n m report (contents.ShowConfig asked entries) =
     let root : List ℕ = string_bytes report.root in
