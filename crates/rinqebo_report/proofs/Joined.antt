@@ -1,7 +1,8 @@
 -- A loop that writes texts with a separator between each two.
-use Rattle.std.proofs.Common.{◌≡◌, ◌<◌, ◌+◌, ℕ, List, [], ◌∷◌, ◌++◌, length, take, get_or, flat_map, refl, sym, ap, ◌∙◌, append_assoc}
+use Rattle.std.proofs.Common.{◌≡◌, ◌<◌, ◌+◌, ℕ, List, [], ◌∷◌, ◌++◌, length, take, get_or, flat_map, map, refl, sym, ap, ◌∙◌, append_assoc}
 use Rattle.std.proofs.lemmas.List.{append-nil}
 use Rattle.std.proofs.lemmas.Grind.{flat_map-append, take_at_read}
+use Rattle.std.proofs.lemmas.List.Folds.{flat_map-map}
 use Rattle.rinqebo_report.specs.Joined.{joined, separator_after}
 
 -- one more text is behind its separator
@@ -43,3 +44,9 @@ joined_more {X} s f xs i x lt is start old middle new separator h m n =
           ∙ ap (λ t. start ++ t) (sym joins),
       sym (ap (separator_after s) more ∙ separator_after-push s (take i xs) x),
     )
+
+-- texts that are made first, and joined then
+pub joined_mapped : {X : Type 0} (s : List ℕ) (f : X → List ℕ) (xs : List X)
+    → joined s f xs ≡ joined s (λ text. text) (map f xs)
+joined_mapped {X} s f [] = refl
+joined_mapped {X} s f (x ∷ xs) = ap (λ t. f x ++ t) (sym (flat_map-map (λ text. s ++ text) f xs))

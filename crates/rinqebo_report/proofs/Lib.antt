@@ -4,6 +4,11 @@ pub mod Prefixes
 pub mod Pages
 pub mod Shown
 pub mod Uncoloured
+pub mod Solid
+pub mod Utf8Texts
+pub mod SolidPages
+pub mod Lines
+pub mod FilledLines
 pub mod ReadDurations
 pub mod Exact
 pub mod ExactDocuments

@@ -9,39 +9,39 @@ use Rattle.rinqebo_report.specs.Pages.{rule_runs, rules_runs}
 use Rattle.rinqebo_report.specs.Pieces.{Run, painted, page_text}
 
 -- one more rule has the next number
-pub rules_runs-push : (root : List ℕ) (sources : List Source) (key : List ℕ) (n : ℕ) (rules : List Rule) (rule : Rule)
-    → rules_runs root sources key n (rules ++ rule ∷ [])
-    ≡ rules_runs root sources key n rules ++ rule_runs root sources key (n + length rules) rule
-rules_runs-push root sources key n [] rule =
+pub rules_runs-push : (columns : ℕ) (root : List ℕ) (sources : List Source) (key : List ℕ) (n : ℕ) (rules : List Rule) (rule : Rule)
+    → rules_runs columns root sources key n (rules ++ rule ∷ [])
+    ≡ rules_runs columns root sources key n rules ++ rule_runs columns root sources key (n + length rules) rule
+rules_runs-push columns root sources key n [] rule =
     let same : n ≡ n + 0 = omega arith in
-    append-nil (rule_runs root sources key n rule) ∙ ap (λ m. rule_runs root sources key m rule) same
-rules_runs-push root sources key n (first ∷ rules) rule =
+    append-nil (rule_runs columns root sources key n rule) ∙ ap (λ m. rule_runs columns root sources key m rule) same
+rules_runs-push columns root sources key n (first ∷ rules) rule =
     let same : (n + 1) + length rules ≡ n + length (first ∷ rules) = omega arith in
-    ap (λ rest. rule_runs root sources key n first ++ rest)
-    (rules_runs-push root sources key (n + 1) rules rule
-    ∙ ap (λ m. rules_runs root sources key (n + 1) rules ++ rule_runs root sources key m rule) same)
-    ∙ sym (append_assoc (rule_runs root sources key n first) (rules_runs root sources key (n + 1) rules)
-    (rule_runs root sources key (n + length (first ∷ rules)) rule))
+    ap (λ rest. rule_runs columns root sources key n first ++ rest)
+    (rules_runs-push columns root sources key (n + 1) rules rule
+    ∙ ap (λ m. rules_runs columns root sources key (n + 1) rules ++ rule_runs columns root sources key m rule) same)
+    ∙ sym (append_assoc (rule_runs columns root sources key n first) (rules_runs columns root sources key (n + 1) rules)
+    (rule_runs columns root sources key (n + length (first ∷ rules)) rule))
 
 -- what one rule more of a page has written
-pub rules_more : (tint : Colour) (root : List ℕ) (sources : List Source) (key : List ℕ) (rules : List Rule)
+pub rules_more : (tint : Colour) (columns : ℕ) (root : List ℕ) (sources : List Source) (key : List ℕ) (rules : List Rule)
     (i : ℕ) (rule : Rule)
     → i < length rules → rule ≡ get_or rules i rule
-    → (start old new : List ℕ) → old ≡ start ++ page_text tint (rules_runs root sources key 0 (take i rules))
-    → new ≡ old ++ page_text tint (rule_runs root sources key i rule)
-    → new ≡ start ++ page_text tint (rules_runs root sources key 0 (take (i + 1) rules))
-rules_more tint root sources key rules i rule lt is start old new h n =
+    → (start old new : List ℕ) → old ≡ start ++ page_text tint (rules_runs columns root sources key 0 (take i rules))
+    → new ≡ old ++ page_text tint (rule_runs columns root sources key i rule)
+    → new ≡ start ++ page_text tint (rules_runs columns root sources key 0 (take (i + 1) rules))
+rules_more tint columns root sources key rules i rule lt is start old new h n =
     let more : take (i + 1) rules ≡ take i rules ++ rule ∷ [] =
     (take_at_read rules i rule lt).1 ∙ ap (λ r. take i rules ++ r ∷ []) (sym is) in
     let number : 0 + length (take i rules) ≡ i = omega (arith, length-take i rules) in
-    let before : List Run = rules_runs root sources key 0 (take i rules) in
-    let runs : rules_runs root sources key 0 (take (i + 1) rules) ≡ before ++ rule_runs root sources key i rule =
-    ap (rules_runs root sources key 0) more
-    ∙ rules_runs-push root sources key 0 (take i rules) rule
-    ∙ ap (λ m. before ++ rule_runs root sources key m rule) number in
-    n ∙ ap (λ t. t ++ page_text tint (rule_runs root sources key i rule)) h
-    ∙ append_assoc start (page_text tint before) (page_text tint (rule_runs root sources key i rule))
-    ∙ ap (λ t. start ++ t) (sym (flat_map-append (painted tint) before (rule_runs root sources key i rule)))
+    let before : List Run = rules_runs columns root sources key 0 (take i rules) in
+    let runs : rules_runs columns root sources key 0 (take (i + 1) rules) ≡ before ++ rule_runs columns root sources key i rule =
+    ap (rules_runs columns root sources key 0) more
+    ∙ rules_runs-push columns root sources key 0 (take i rules) rule
+    ∙ ap (λ m. before ++ rule_runs columns root sources key m rule) number in
+    n ∙ ap (λ t. t ++ page_text tint (rule_runs columns root sources key i rule)) h
+    ∙ append_assoc start (page_text tint before) (page_text tint (rule_runs columns root sources key i rule))
+    ∙ ap (λ t. start ++ t) (sym (flat_map-append (painted tint) before (rule_runs columns root sources key i rule)))
     ∙ ap (λ rs. start ++ page_text tint rs) (sym runs)
 
 -- what one element more of a page has written

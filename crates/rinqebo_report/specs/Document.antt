@@ -12,7 +12,7 @@ use Rattle.rinqebo_report.specs.declared.report.Rule.{Rule}
 use Rattle.rinqebo_report.specs.declared.report.TestId.{TestId}
 use Rattle.rinqebo_report.specs.declared.report.TestRows.{TestRows}
 use Rattle.rinqebo_report.specs.Documents.{count_data, text_data, optional_text_data, list_data, origin_data, test_data, test_id_data, entry_data, rule_data, finding_data, source_data, unreached_data, wrapper_data}
-use Rattle.rinqebo_report.specs.Pages.{mode_word}
+use Rattle.rinqebo_report.specs.Headers.{mode_word}
 
 -- The members that every document has, with their keys in the order of bytes: they are those of
 -- `check`, and what other commands report is empty or null.

@@ -33,7 +33,8 @@ use Rattle.rinqebo_report.specs.declared.value.Scalar.TheVariants as scalars
 use Rattle.rinqebo_report.specs.declared.value.Value.{Value}
 use Rattle.rinqebo_report.specs.declared.value.Value.TheVariants as values
 use Rattle.rinqebo_report.specs.Durations.{duration_text}
-use Rattle.rinqebo_report.specs.Pages.{level_word, platform_word, verdict_text}
+use Rattle.rinqebo_report.specs.Headers.{platform_word}
+use Rattle.rinqebo_report.specs.Pages.{level_word, verdict_text}
 
 -- a number
 abbrev pub count_data : ℕ → Data

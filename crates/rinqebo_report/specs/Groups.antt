@@ -12,7 +12,8 @@ use Rattle.rinqebo_report.specs.declared.report.Content.TheVariants as contents
 use Rattle.rinqebo_report.specs.declared.report.Report.{Report}
 use Rattle.rinqebo_report.specs.declared.report.SettingRow.{SettingRow}
 use Rattle.rinqebo_report.specs.declared.report.TestRows.{TestRows}
-use Rattle.rinqebo_report.specs.Pages.{plain, absent_runs, rows_shown, test_line_runs, list_head_runs, list_end_runs, content_runs}
+use Rattle.rinqebo_report.specs.Headers.{list_head_runs}
+use Rattle.rinqebo_report.specs.Pages.{plain, absent_runs, rows_shown, test_line_runs, list_end_runs, content_runs}
 use Rattle.rinqebo_report.specs.Pieces.{Run, styled, ending, page_text}
 use Rattle.rinqebo_report.specs.TomlText.{canonical_text}
 
@@ -64,13 +65,15 @@ abbrev pub groups_runs : List TestRows → List Run
 groups_runs tests = flat_map (group_runs tests) (firsts tests)
 
 -- what it is about, tests in groups, how many tests there are, and the rules that hold for none
-abbrev pub grouped_runs : List ℕ → List Source → Asked → List TestRows → List Origin → List Run
-grouped_runs root sources asked tests unused =
-    list_head_runs asked
-    ++ (groups_runs tests ++ list_end_runs root sources (length tests) unused)
+abbrev pub grouped_runs :
+    ℕ → List ℕ → List Source → Asked → List TestRows → List Origin → List Run
+grouped_runs columns root sources asked tests unused =
+    list_head_runs columns asked
+    ++ (groups_runs tests ++ list_end_runs columns root sources (length tests) unused)
 
 -- the page of what a command returns, with the tests of a list in groups
-abbrev pub grouped_content_runs : Report → Content → List Run
-grouped_content_runs report (contents.List asked tests unused scripts) =
-    grouped_runs (string_bytes report.root) report.sources.items asked tests.items unused.items
-grouped_content_runs report content = content_runs report content
+abbrev pub grouped_content_runs : ℕ → Report → Content → List Run
+grouped_content_runs columns report (contents.List asked tests unused scripts) =
+    grouped_runs columns (string_bytes report.root) report.sources.items asked tests.items
+    unused.items
+grouped_content_runs columns report content = content_runs columns report content

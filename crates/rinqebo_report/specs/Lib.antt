@@ -8,6 +8,9 @@ pub mod Excerpts
 pub mod Pages
 pub mod Pieces
 pub mod PieceView
+pub mod Layout
+pub mod Headers
+pub mod Columns
 pub mod Github
 pub mod Groups
 pub mod Rendered

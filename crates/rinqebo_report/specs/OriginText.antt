@@ -1,5 +1,5 @@
 -- Origins as pages show them.
-use Rattle.std.specs.Prelude.{ℕ, ◌-◌, ◌==◌, Bool, true, false, List, [], ◌∷◌, ◌++◌, Option, None, Some, option_and_then, unwrap_or, slice_get, slice_index, length, codes, decimal, flat_map, String, string_bytes, if◌then◌else◌}
+use Rattle.std.specs.Prelude.{ℕ, ◌-◌, ◌==◌, Bool, true, false, List, [], ◌∷◌, ◌++◌, Option, None, Some, option_and_then, unwrap_or, slice_get, slice_index, length, codes, decimal, map, String, string_bytes, if◌then◌else◌}
 use Rattle.std.specs.declared.alloc.Global.{Global}
 use Rattle.rinqebo_report.specs.declared.origin.FileLines.{FileLines}
 use Rattle.rinqebo_report.specs.declared.origin.Origin.{Origin}
@@ -106,11 +106,6 @@ origin_text root sources origins.DefaultTable = codes "default table"
 origin_text root sources (origins.Written written) = written_text root sources written
 origin_text root sources (origins.File place) = place_text root sources place
 
--- another origin, behind a comma
-abbrev pub other_text : List ℕ → List Source → Origin → List ℕ
-other_text root sources origin = codes ", " ++ origin_text root sources origin
-
--- an origin and then others, with commas between them
-abbrev pub all_origins_text : List ℕ → List Source → Origin → List Origin → List ℕ
-all_origins_text root sources first others =
-    origin_text root sources first ++ flat_map (other_text root sources) others
+-- origins as texts
+abbrev pub origin_texts : List ℕ → List Source → List Origin → List (List ℕ)
+origin_texts root sources origins = map (origin_text root sources) origins

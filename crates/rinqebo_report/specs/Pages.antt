@@ -2,7 +2,6 @@
 use Rattle.std.specs.Prelude.{ℕ, ◌+◌, ◌-◌, ◌==◌, max, Bool, true, false, List, [], ◌∷◌, ◌++◌, Option, None, Some, is_some, option_map, length, fold, flat_map, unwrap_or, count_by, codes, decimal, take, String, string_bytes, if◌then◌else◌, not}
 use Rattle.std.specs.declared.alloc.Global.{Global}
 use Rattle.std.specs.Str.{chars}
-use Rattle.unicode_width.specs.Width.{str_width}
 use Rattle.rinqebo_report.specs.declared.finding.RefusedExpression.{RefusedExpression}
 use Rattle.rinqebo_report.specs.declared.finding.Finding.{Finding}
 use Rattle.rinqebo_report.specs.declared.finding.Level.{Level}
@@ -13,6 +12,8 @@ use Rattle.rinqebo_report.specs.declared.origin.Origin.{Origin}
 use Rattle.rinqebo_report.specs.declared.origin.FilePlace.{FilePlace}
 use Rattle.rinqebo_report.specs.declared.origin.Range.{Range}
 use Rattle.rinqebo_report.specs.declared.origin.Source.{Source}
+use Rattle.rinqebo_report.specs.declared.layout.KeyColumn.{KeyColumn}
+use Rattle.rinqebo_report.specs.declared.layout.Mark.TheVariants.{Comment, Bare}
 use Rattle.rinqebo_report.specs.declared.piece.Style.TheVariants as styles
 use Rattle.rinqebo_report.specs.declared.piece.Style.{Style}
 use Rattle.rinqebo_report.specs.declared.report.Asked.{Asked}
@@ -22,12 +23,8 @@ use Rattle.rinqebo_report.specs.declared.report.ConditionAnswer.TheVariants as a
 use Rattle.rinqebo_report.specs.declared.report.Content.{Content}
 use Rattle.rinqebo_report.specs.declared.report.Content.TheVariants as contents
 use Rattle.rinqebo_report.specs.declared.report.Entry.{Entry}
-use Rattle.rinqebo_report.specs.declared.report.BuiltFor.{BuiltFor}
-use Rattle.rinqebo_report.specs.declared.report.BuiltFor.TheVariants as platforms
 use Rattle.rinqebo_report.specs.declared.report.Report.{Report}
 use Rattle.rinqebo_report.specs.declared.report.Rule.{Rule}
-use Rattle.rinqebo_report.specs.declared.report.RunMode.{RunMode}
-use Rattle.rinqebo_report.specs.declared.report.RunMode.TheVariants as modes
 use Rattle.rinqebo_report.specs.declared.report.SettingRow.{SettingRow}
 use Rattle.rinqebo_report.specs.declared.report.TestRows.{TestRows}
 use Rattle.rinqebo_report.specs.declared.report.Unreached.{Unreached}
@@ -36,17 +33,15 @@ use Rattle.rinqebo_report.specs.declared.report.Verdict.TheVariants as verdicts
 use Rattle.rinqebo_report.specs.Advice.{message_with_advice}
 use Rattle.rinqebo_report.specs.Excerpts.{has_some, margin_runs, number_width, excerpt_runs, remarks_runs}
 use Rattle.rinqebo_report.specs.Joined.{joined}
-use Rattle.rinqebo_report.specs.OriginText.{all_origins_text, origin_text, path_at, position_text}
+use Rattle.rinqebo_report.specs.Headers.{test_header_runs, list_head_runs}
+use Rattle.rinqebo_report.specs.Layout.{Said, width, remark_line, remarked_runs}
+use Rattle.rinqebo_report.specs.OriginText.{origin_text, origin_texts, path_at, position_text}
 use Rattle.rinqebo_report.specs.Pieces.{Run, styled, repeated, numbered, ending, shown_char}
 use Rattle.rinqebo_report.specs.TomlText.{value_text}
 
 -- a text like others
 abbrev pub plain : List ℕ → Run
 plain text = styled styles.Plain text
-
--- the number of columns that a text takes in a terminal
-abbrev pub width : List ℕ → ℕ
-width text = str_width false (chars text)
 
 -- how wide the key of a row is: a row without a value counts for nothing
 abbrev pub key_width : SettingRow → ℕ
@@ -72,89 +67,63 @@ rows_shown runs g test = runs_shown runs test ++ flat_map g test.settings.items
 
 -- that a setting has no value
 abbrev pub absent_runs : List ℕ → List Run
-absent_runs key = styled styles.Remark (codes "# " ++ (key ++ codes ": none")) ∷ ending ∷ []
+absent_runs key = remark_line (codes "# " ++ (key ++ codes ": none"))
+
+-- the column of the keys of a test's rows, behind so many blanks
+abbrev pub key_column : ℕ → TestRows → KeyColumn
+key_column indent test = record { indent = indent; width = widest_shown test }
+
+-- a row without what is said of it: the key, an equals sign, and the value
+abbrev pub value_front : KeyColumn → List ℕ → List ℕ → List Run
+value_front keys key value =
+    repeated 32 keys.indent ∷ styled styles.Key key ∷ repeated 32 (keys.width - width key)
+    ∷ plain (codes " = ") ∷ plain value ∷ []
+
+-- what is said of a row with this value: behind the column of the values, or four blanks further
+-- than the row
+abbrev pub value_said : KeyColumn → List ℕ → List (List ℕ) → Said
+value_said keys value texts = record {
+  mark = Comment;
+  gap = (12 - width value) + 2;
+  indent = keys.indent + 4;
+  texts = texts;
+}
 
 -- a row of a setting: the key, an equals sign, the value, and where it comes from
-abbrev pub setting_runs : ℕ → List ℕ → Option (List ℕ) → List ℕ → List Run
-setting_runs w key (Some value) remark =
-    styled styles.Key key ∷ repeated 32 (w - width key) ∷ plain (codes " = ")
-    ∷ plain value ∷ repeated 32 (12 - width value) ∷ plain (codes "  ")
-    ∷ styled styles.Remark remark ∷ ending ∷ []
-setting_runs w key None remark = absent_runs key
-
--- the origins of a row, behind a mark
-abbrev pub remark_of : List ℕ → List Source → SettingRow → List ℕ
-remark_of root sources row =
-    codes "# " ++ joined (codes ", ") (origin_text root sources) row.origins.items
+abbrev pub setting_runs :
+    ℕ → KeyColumn → List ℕ → Option (List ℕ) → List (List ℕ) → List Run
+setting_runs columns keys key (Some value) texts =
+    remarked_runs columns (value_front keys key value) (value_said keys value texts)
+setting_runs columns keys key None texts = repeated 32 keys.indent ∷ absent_runs key
 
 -- a row of a test
-abbrev pub row_runs : List ℕ → List Source → ℕ → SettingRow → List Run
-row_runs root sources w row =
-    setting_runs w (string_bytes row.key) (option_map value_text row.value)
-    (remark_of root sources row)
+abbrev pub row_runs : ℕ → List ℕ → List Source → KeyColumn → SettingRow → List Run
+row_runs columns root sources keys row =
+    setting_runs columns keys (string_bytes row.key) (option_map value_text row.value)
+    (origin_texts root sources row.origins.items)
 
--- what is said beside whether a test runs: the origins, or that a list says that it is ignored
-abbrev pub runs_remark : List ℕ → List Source → TestRows → List ℕ
-runs_remark root sources test =
-    if test.is_ignored then codes "# ignored in LIST" else remark_of root sources test.runs
+-- what is said of whether a test runs: the origins, or that a list says that it is ignored
+abbrev pub runs_said : List ℕ → List Source → TestRows → List (List ℕ)
+runs_said root sources test =
+    if test.is_ignored then codes "ignored in LIST" ∷ []
+    else origin_texts root sources test.runs.origins.items
 
 -- the row of whether a test runs
-abbrev pub runs_row_runs : List ℕ → List Source → ℕ → TestRows → List Run
-runs_row_runs root sources w test =
-    setting_runs w (string_bytes test.runs.key) (option_map value_text test.runs.value)
-    (runs_remark root sources test)
+abbrev pub runs_row_runs : ℕ → List ℕ → List Source → KeyColumn → TestRows → List Run
+runs_row_runs columns root sources keys test =
+    setting_runs columns keys (string_bytes test.runs.key) (option_map value_text test.runs.value)
+    (runs_said root sources test)
 
--- the word of a mode
-abbrev pub mode_word : RunMode → List ℕ
-mode_word modes.Test = codes "test"
-mode_word modes.Benchmark = codes "benchmark"
-
--- the word of a platform
-abbrev pub platform_word : BuiltFor → List ℕ
-platform_word platforms.Host = codes "host"
-platform_word platforms.Target = codes "target"
-
--- the triple of the host, and that it is only assumed
-abbrev pub host_text : Asked → List ℕ
-host_text asked =
-    string_bytes asked.host ++ (if asked.assumes_host then codes " (assumed)" else [])
-
--- the triple of a platform: without a target, what is built for it runs on the host
-abbrev pub triple_of : Asked → BuiltFor → List ℕ
-triple_of asked platforms.Host = host_text asked
-triple_of asked platforms.Target =
-    unwrap_or (option_map string_bytes asked.target) (host_text asked)
-
--- the profiles, the nearest first, and the mode
-abbrev pub profiles_text : Asked → List ℕ
-profiles_text asked =
-    codes "profile " ++ (joined (codes " < ") string_bytes asked.chain.items
-    ++ (codes ", " ++ mode_word asked.mode))
-
--- the triples of a build: that of the host alone where there is no target
-abbrev pub build_text : List ℕ → Option (List ℕ) → List ℕ
-build_text host None = host
-build_text host (Some target) = codes "host " ++ (host ++ (codes ", target " ++ target))
-
--- what a page is about: the test, the profiles, the mode, and what it runs on
-abbrev pub header_text : Asked → TestRows → List ℕ
-header_text asked test =
-    codes "# " ++ (string_bytes test.binary ++ (codes " " ++ (string_bytes test.name
-    ++ (codes ", " ++ (profiles_text asked ++ (codes ", " ++ (platform_word test.platform
-    ++ (codes " " ++ triple_of asked test.platform))))))))
-
--- what a list is about: the profiles, the mode, and what the tests run on
-abbrev pub list_header_text : Asked → List ℕ
-list_header_text asked =
-    codes "# " ++ (profiles_text asked
-    ++ (codes ", " ++ build_text (host_text asked) (option_map string_bytes asked.target)))
+-- the rows of a test, behind so many blanks
+abbrev pub test_runs : ℕ → ℕ → List ℕ → List Source → TestRows → List Run
+test_runs columns indent root sources test =
+    rows_shown (runs_row_runs columns root sources (key_column indent test) test)
+    (row_runs columns root sources (key_column indent test)) test
 
 -- a test: whether it runs, and its settings
-abbrev pub explain_runs : List ℕ → List Source → Asked → TestRows → List Run
-explain_runs root sources asked test =
-    styled styles.Remark (header_text asked test) ∷ ending
-    ∷ rows_shown (runs_row_runs root sources (widest_shown test) test)
-    (row_runs root sources (widest_shown test)) test
+abbrev pub explain_runs : ℕ → List ℕ → List Source → Asked → TestRows → List Run
+explain_runs columns root sources asked test =
+    test_header_runs columns asked test ++ test_runs columns 0 root sources test
 
 -- the words of a verdict
 abbrev pub verdict_text : Verdict → List ℕ
@@ -211,13 +180,18 @@ abbrev pub written_runs : List ℕ → Verdict → Option (List ℕ) → List Ru
 written_runs key verdict None = []
 written_runs key verdict (Some value) = if shows_value verdict then value_runs key value else []
 
--- the first line of a rule: its number, the verdict, and its origin
-abbrev pub verdict_runs : ℕ → Verdict → List ℕ → List Run
-verdict_runs n verdict origin =
-    number_run verdict n ∷ plain (codes "  ")
-    ∷ styled (verdict_style verdict) (verdict_text verdict)
-    ∷ repeated 32 (14 - width (verdict_text verdict)) ∷ plain (codes "  ") ∷ plain origin
-    ∷ ending ∷ []
+-- a rule: its number, the verdict, and its origins
+abbrev pub verdict_runs : ℕ → ℕ → Verdict → List (List ℕ) → List Run
+verdict_runs columns n verdict texts =
+    remarked_runs columns
+    (number_run verdict n ∷ plain (codes "  ")
+    ∷ styled (verdict_style verdict) (verdict_text verdict) ∷ [])
+    (record {
+      mark = Bare;
+      gap = (14 - width (verdict_text verdict)) + 2;
+      indent = 5;
+      texts = texts;
+    })
 
 -- the conditions of a rule
 abbrev pub conditions_runs : Rule → List Run
@@ -226,72 +200,67 @@ conditions_runs rule =
     ++ (condition_runs (codes "target") rule.target ++ condition_runs (codes "filter") rule.filter)
 
 -- a rule: the verdict, and then what says so
-abbrev pub rule_runs : List ℕ → List Source → List ℕ → ℕ → Rule → List Run
-rule_runs root sources key n rule =
-    verdict_runs n rule.verdict
-    (all_origins_text root sources rule.origin rule.others.items)
+abbrev pub rule_runs : ℕ → List ℕ → List Source → List ℕ → ℕ → Rule → List Run
+rule_runs columns root sources key n rule =
+    verdict_runs columns n rule.verdict
+    (origin_texts root sources (rule.origin ∷ rule.others.items))
     ++ (conditions_runs rule
     ++ written_runs key rule.verdict (option_map value_text rule.value))
 
 -- rules from a number on
-abbrev pub rules_runs : List ℕ → List Source → List ℕ → ℕ → List Rule → List Run
-rules_runs root sources key n [] = []
-rules_runs root sources key n (rule ∷ rules) =
-    rule_runs root sources key n rule ++ rules_runs root sources key (n + 1) rules
+abbrev pub rules_runs : ℕ → List ℕ → List Source → List ℕ → ℕ → List Rule → List Run
+rules_runs columns root sources key n [] = []
+rules_runs columns root sources key n (rule ∷ rules) =
+    rule_runs columns root sources key n rule
+    ++ rules_runs columns root sources key (n + 1) rules
 
 -- that a test does not run, since a list says that it is ignored
 abbrev pub ignored_runs : Bool → List Run
 ignored_runs is_ignored =
-    if is_ignored then styled styles.Remark (codes "# runs = false: ignored in LIST") ∷ ending ∷ []
-    else []
+    if is_ignored then remark_line (codes "# runs = false: ignored in LIST") else []
 
 -- rules, and whether what they decide is that a test runs which a list says to be ignored
-abbrev pub why_runs : List ℕ → List Source → List ℕ → List Rule → Bool → List Run
-why_runs root sources key rules is_ignored =
-    rules_runs root sources key 0 rules ++ ignored_runs is_ignored
+abbrev pub why_runs : ℕ → List ℕ → List Source → List ℕ → List Rule → Bool → List Run
+why_runs columns root sources key rules is_ignored =
+    rules_runs columns root sources key 0 rules ++ ignored_runs is_ignored
 
 -- the names of a test
 abbrev pub test_line_runs : List ℕ → List ℕ → List Run
 test_line_runs binary name = plain binary ∷ plain (codes " ") ∷ plain name ∷ ending ∷ []
 
--- a row of a test in a list
-abbrev pub indented_runs : List ℕ → List Source → ℕ → SettingRow → List Run
-indented_runs root sources w row = plain (codes "    ") ∷ row_runs root sources w row
-
 -- a test in a list
-abbrev pub listed_runs : List ℕ → List Source → TestRows → List Run
-listed_runs root sources test =
+abbrev pub listed_runs : ℕ → List ℕ → List Source → TestRows → List Run
+listed_runs columns root sources test =
     test_line_runs (string_bytes test.binary) (string_bytes test.name)
-    ++ rows_shown (plain (codes "    ") ∷ runs_row_runs root sources (widest_shown test) test)
-    (indented_runs root sources (widest_shown test)) test
+    ++ test_runs columns 4 root sources test
 
 -- how many tests there are
 abbrev pub count_runs : ℕ → List Run
 count_runs n = plain (codes "tests: ") ∷ numbered n ∷ ending ∷ []
 
--- a rule that holds for no test
-abbrev pub unused_line_runs : List ℕ → List Run
-unused_line_runs origin = plain (codes "unused: ") ∷ plain origin ∷ ending ∷ []
+-- a rule that holds for no test, and its origin
+abbrev pub unused_line_runs : ℕ → List (List ℕ) → List Run
+unused_line_runs columns texts =
+    remarked_runs columns (plain (codes "unused:") ∷ [])
+    (record { mark = Bare; gap = 1; indent = 4; texts = texts })
 
--- the origin of a rule that holds for no test
-abbrev pub unused_runs : List ℕ → List Source → Origin → List Run
-unused_runs root sources origin = unused_line_runs (origin_text root sources origin)
-
--- what a list is about, in a line
-abbrev pub list_head_runs : Asked → List Run
-list_head_runs asked = styled styles.Remark (list_header_text asked) ∷ ending ∷ []
+-- a rule of this origin, which holds for no test
+abbrev pub unused_runs : ℕ → List ℕ → List Source → Origin → List Run
+unused_runs columns root sources origin =
+    unused_line_runs columns (origin_texts root sources (origin ∷ []))
 
 -- how many tests a list has, and the rules that hold for none of them
-abbrev pub list_end_runs : List ℕ → List Source → ℕ → List Origin → List Run
-list_end_runs root sources n unused =
-    count_runs n ++ flat_map (unused_runs root sources) unused
+abbrev pub list_end_runs : ℕ → List ℕ → List Source → ℕ → List Origin → List Run
+list_end_runs columns root sources n unused =
+    count_runs n ++ flat_map (unused_runs columns root sources) unused
 
 -- what it is about, the tests, how many there are, and the rules that hold for none
-abbrev pub list_runs : List ℕ → List Source → Asked → List TestRows → List Origin → List Run
-list_runs root sources asked tests unused =
-    list_head_runs asked
-    ++ (flat_map (listed_runs root sources) tests
-    ++ list_end_runs root sources (length tests) unused)
+abbrev pub list_runs :
+    ℕ → List ℕ → List Source → Asked → List TestRows → List Origin → List Run
+list_runs columns root sources asked tests unused =
+    list_head_runs columns asked
+    ++ (flat_map (listed_runs columns root sources) tests
+    ++ list_end_runs columns root sources (length tests) unused)
 
 -- how wide the key of a leaf is: one that is hidden counts for nothing
 abbrev pub entry_width : Entry → ℕ
@@ -302,25 +271,29 @@ abbrev pub widest_entry : List Entry → ℕ
 widest_entry entries = fold (λ w entry. max w (entry_width entry)) 0 entries
 
 -- a leaf that another one hides
-abbrev pub hidden_runs : List ℕ → List ℕ → List ℕ → List Run
-hidden_runs key value remark =
-    styled styles.Remark (codes "# hidden: "
-    ++ (key ++ (codes " = " ++ (value ++ (codes "  " ++ remark)))))
-    ∷ ending ∷ []
+abbrev pub hidden_runs : ℕ → List ℕ → List ℕ → List (List ℕ) → List Run
+hidden_runs columns key value texts =
+    remarked_runs columns
+    (styled styles.Remark (codes "# hidden: " ++ (key ++ (codes " = " ++ value))) ∷ [])
+    (record { mark = Comment; gap = 2; indent = 4; texts = texts })
+
+-- the column of the keys of leaves
+abbrev pub entry_column : List Entry → KeyColumn
+entry_column entries = record { indent = 0; width = widest_entry entries }
 
 -- a leaf
-abbrev pub entry_runs : List ℕ → List Source → ℕ → Entry → List Run
-entry_runs root sources w entry =
+abbrev pub entry_runs : ℕ → List ℕ → List Source → KeyColumn → Entry → List Run
+entry_runs columns root sources keys entry =
     if entry.is_hidden
-    then hidden_runs (string_bytes entry.key) (value_text entry.value)
-    (codes "# " ++ origin_text root sources entry.origin)
-    else setting_runs w (string_bytes entry.key) (Some (value_text entry.value))
-    (codes "# " ++ origin_text root sources entry.origin)
+    then hidden_runs columns (string_bytes entry.key) (value_text entry.value)
+    (origin_texts root sources (entry.origin ∷ []))
+    else setting_runs columns keys (string_bytes entry.key) (Some (value_text entry.value))
+    (origin_texts root sources (entry.origin ∷ []))
 
 -- leaves of a configuration
-abbrev pub config_runs : List ℕ → List Source → List Entry → List Run
-config_runs root sources entries =
-    flat_map (entry_runs root sources (widest_entry entries)) entries
+abbrev pub config_runs : ℕ → List ℕ → List Source → List Entry → List Run
+config_runs columns root sources entries =
+    flat_map (entry_runs columns root sources (entry_column entries)) entries
 
 -- the word of a level
 abbrev pub level_word : Level → List ℕ
@@ -482,16 +455,20 @@ concise_runs report =
     flat_map (concise_line_runs (string_bytes report.root) report.sources.items)
     report.findings.items
 
--- the page of what a command returns
-abbrev pub content_runs : Report → Content → List Run
-content_runs report (contents.Explain asked test) =
-    explain_runs (string_bytes report.root) report.sources.items asked test
-content_runs report (contents.Why asked test key rules is_ignored) =
-    why_runs (string_bytes report.root) report.sources.items (string_bytes key) rules.items
-    is_ignored
-content_runs report (contents.List asked tests unused scripts) =
-    list_runs (string_bytes report.root) report.sources.items asked tests.items unused.items
-content_runs report (contents.ShowConfig asked entries) =
-    config_runs (string_bytes report.root) report.sources.items entries.items
-content_runs report contents.Check =
-    findings_runs report ++ (plain (summary_text report) ∷ ending ∷ [])
+-- the page of a check: the findings, how many there are, and which checks were not reached
+abbrev pub check_runs : Report → List Run
+check_runs report = findings_runs report ++ (plain (summary_text report) ∷ ending ∷ [])
+
+-- the page of what a command returns, whose lines have so many columns
+abbrev pub content_runs : ℕ → Report → Content → List Run
+content_runs columns report (contents.Explain asked test) =
+    explain_runs columns (string_bytes report.root) report.sources.items asked test
+content_runs columns report (contents.Why asked test key rules is_ignored) =
+    why_runs columns (string_bytes report.root) report.sources.items (string_bytes key)
+    rules.items is_ignored
+content_runs columns report (contents.List asked tests unused scripts) =
+    list_runs columns (string_bytes report.root) report.sources.items asked tests.items
+    unused.items
+content_runs columns report (contents.ShowConfig asked entries) =
+    config_runs columns (string_bytes report.root) report.sources.items entries.items
+content_runs columns report contents.Check = check_runs report

@@ -1,12 +1,11 @@
 //! The page of a check: what is wrong, and how much.
-ghost use Rattle.std.specs.Prelude.{◌≡◌, ◌++◌, OnOk, IfOk, codes, count_by, flat_map, string_bytes};
-ghost use Rattle.rinqebo_report.specs.Joined.{joined};
-ghost use Rattle.rinqebo_report.specs.Pages.{is_error, is_warning, unreached_text, counts_text, summary_text, content_runs};
+ghost use Rattle.std.specs.Prelude.{◌≡◌, ◌++◌, OnOk, IfOk, count_by, flat_map, string_bytes};
+ghost use Rattle.rinqebo_report.specs.Pages.{is_error, is_warning, unreached_text, counts_text, summary_text, check_runs};
 ghost use Rattle.rinqebo_report.specs.Pieces.{page_text};
-ghost use Rattle.rinqebo_report.specs.declared.report.Content.{Content};
 
 use crate::finding::Finding;
 use crate::finding_page::add_findings;
+use crate::layout::add_joined;
 use crate::origin::Source;
 use crate::origin_text::path_at;
 use crate::piece::{Colour, Piece, Style, add_pieces};
@@ -39,20 +38,6 @@ fn warnings_of(findings: &[Finding]) -> usize
     warnings
 }
 
-/// Writes names of checks.
-fn add_checks(out: &mut String, checks: &[String]) -> Result<(), AllocError>
-    ensures { OnOk result (string_bytes out.new
-        ≡ string_bytes out.old ++ joined (codes ", ") string_bytes checks.now) }
-{
-    let mut separator = "";
-    for check in checks {
-        out.push_str(separator)?;
-        out.push_str(check.as_str())?;
-        separator = ", ";
-    }
-    Ok(())
-}
-
 /// Writes the checks of a source that were not reached.
 fn add_unreached(
     out: &mut String,
@@ -66,7 +51,7 @@ fn add_unreached(
     out.push_str("; not reached in ")?;
     out.push_str(path_at(root, sources, unreached.source))?;
     out.push_str(": ")?;
-    add_checks(out, &unreached.checks)
+    add_joined(out, &unreached.checks)
 }
 
 /// Writes the checks of sources that were not reached.
@@ -112,7 +97,7 @@ pub(crate) fn add_check(
     report: &Report,
 ) -> Result<(), AllocError>
     ensures { OnOk result (string_bytes out.new ≡ string_bytes out.old
-        ++ page_text colour (content_runs report.now Content.Check)) }
+        ++ page_text colour (check_runs report.now)) }
 {
     add_findings(alloc, out, colour, report)?;
     let summary = summary_text(alloc, report)?;

@@ -1,17 +1,17 @@
 //! The page of a configuration: each leaf with its value and where it comes from.
-ghost use Rattle.std.specs.Prelude.{◌≡◌, ◌++◌, List, OnOk, IfOk, Some, codes, flat_map, string_bytes};
+ghost use Rattle.std.specs.Prelude.{◌≡◌, ◌++◌, List, OnOk, map, string_bytes};
 ghost use Rattle.serde_json.specs.View.{members_view};
 ghost use Rattle.rinqebo_report.specs.Document.{with_config};
-ghost use Rattle.rinqebo_report.specs.OriginText.{origin_text};
-ghost use Rattle.rinqebo_report.specs.Pages.{entry_width, widest_entry, setting_runs, hidden_runs, entry_runs, config_runs};
+ghost use Rattle.rinqebo_report.specs.Pages.{entry_width, widest_entry, entry_column, hidden_runs, entry_runs, config_runs};
 ghost use Rattle.rinqebo_report.specs.Pieces.{page_text};
 
-use crate::explain_page::{add_valued, width};
+use crate::explain_page::add_valued;
 use crate::json_parts::entries_json;
 use crate::json_requested::put_requested;
-use crate::origin::{Origin, Source};
-use crate::origin_text::origin_text;
-use crate::piece::{Colour, Piece, Style, add_pieces};
+use crate::layout::{KeyColumn, Mark, Paper, Remarks, add_remarked, width};
+use crate::origin::Source;
+use crate::origin_text::all_origin_texts;
+use crate::piece::{Piece, Style};
 use crate::report::{Asked, Entry};
 use crate::toml_text::value_text;
 use serde_json::{Map, Value, put};
@@ -39,60 +39,60 @@ fn widest_entry(entries: &[Entry]) -> usize
     most
 }
 
-/// A mark and an origin.
-fn remark_text(
-    alloc: Global,
-    root: &str,
-    sources: &[Source],
-    origin: &Origin,
-) -> Result<String, AllocError>
-    ensures { IfOk result (λ text. string_bytes text
-        ≡ codes "# " ++ origin_text root.now sources.now origin.now) }
+/// The column of the keys of leaves.
+fn entry_column(entries: &[Entry]) -> KeyColumn
+    ensures { result ≡ entry_column entries.now }
 {
-    let origin = origin_text(alloc, root, sources, origin)?;
-    format!(in alloc; "# {origin}")
+    KeyColumn {
+        indent: 0,
+        width: widest_entry(entries),
+    }
 }
 
 /// Writes a leaf that another one hides.
 fn add_hidden(
     alloc: Global,
     out: &mut String,
-    colour: Colour,
+    paper: Paper,
     key: &str,
     value: &str,
-    remark: &str,
+    texts: Vec<String>,
 ) -> Result<(), AllocError>
-    ensures { OnOk result (string_bytes out.new ≡ string_bytes out.old
-        ++ page_text colour (hidden_runs key.now value.now remark.now)) }
+    ensures { OnOk result (string_bytes out.new ≡ string_bytes out.old ++ page_text paper.colour
+        (hidden_runs paper.columns key.now value.now (map string_bytes texts.items))) }
 {
-    let text = format!(in alloc; "# hidden: {key} = {value}  {remark}")?;
-    add_pieces(
-        out,
-        colour,
-        &[Piece::Text(Style::Remark, text.as_str()), Piece::End],
-    )
+    let text = format!(in alloc; "# hidden: {key} = {value}")?;
+    let remarks = Remarks {
+        mark: Mark::Comment,
+        gap: 2,
+        indent: 4,
+        texts,
+    };
+    let front = [Piece::Text(Style::Remark, text.as_str())];
+    add_remarked(alloc, out, paper, &front, &remarks)
 }
 
 /// Writes a leaf.
 fn add_entry(
     alloc: Global,
     out: &mut String,
-    colour: Colour,
+    paper: Paper,
     root: &str,
     sources: &[Source],
-    widest: usize,
+    keys: KeyColumn,
     entry: &Entry,
 ) -> Result<(), AllocError>
     ensures { OnOk result (string_bytes out.new ≡ string_bytes out.old
-        ++ page_text colour (entry_runs root.now sources.now widest entry.now)) }
+        ++ page_text paper.colour
+        (entry_runs paper.columns root.now sources.now keys entry.now)) }
 {
     let key = entry.key.as_str();
     let value = value_text(alloc, &entry.value)?;
-    let remark = remark_text(alloc, root, sources, &entry.origin)?;
+    let texts = all_origin_texts(alloc, root, sources, &entry.origin, &[])?;
     if entry.is_hidden {
-        add_hidden(alloc, out, colour, key, value.as_str(), remark.as_str())
+        add_hidden(alloc, out, paper, key, value.as_str(), texts)
     } else {
-        add_valued(out, colour, widest, key, value.as_str(), remark.as_str())
+        add_valued(alloc, out, paper, keys, key, value.as_str(), texts)
     }
 }
 
@@ -100,17 +100,17 @@ fn add_entry(
 pub(crate) fn add_config(
     alloc: Global,
     out: &mut String,
-    colour: Colour,
+    paper: Paper,
     root: &str,
     sources: &[Source],
     entries: &[Entry],
 ) -> Result<(), AllocError>
-    ensures { OnOk result (string_bytes out.new ≡ string_bytes out.old
-        ++ page_text colour (config_runs root.now sources.now entries.now)) }
+    ensures { OnOk result (string_bytes out.new ≡ string_bytes out.old ++ page_text paper.colour
+        (config_runs paper.columns root.now sources.now entries.now)) }
 {
-    let widest = widest_entry(entries);
+    let keys = entry_column(entries);
     for entry in entries {
-        add_entry(alloc, out, colour, root, sources, widest, entry)?;
+        add_entry(alloc, out, paper, root, sources, keys, entry)?;
     }
     Ok(())
 }

@@ -4,9 +4,9 @@ ghost use Rattle.std.specs.Str.{chars};
 ghost use Rattle.rinqebo_report.specs.Excerpts.{line_char, line_text, front_width, sign_char, least_width, part_runs, margin_runs, digit_count, number_width, numbered_runs, signs_runs, line_runs, is_beside, shows_beside, has_some, beside_runs, label_runs, excerpt_runs, noted_runs, remark_runs, parts_remarks, parting_runs, help_runs, remarks_runs};
 ghost use Rattle.rinqebo_report.specs.Pieces.{ending, page_text};
 
-use crate::explain_page::width;
 use crate::finding::{Finding, HelpPlace, LinePart, Sign, SourceLine};
-use crate::piece::{Colour, Piece, Style, add_char, add_pieces};
+use crate::layout::width;
+use crate::piece::{Colour, Piece, Style, add_char, add_end, add_pieces};
 use std::alloc::{AllocError, Global};
 
 /// Writes a character of a line: a tab as four spaces.
@@ -179,13 +179,6 @@ fn add_signs(
 {
     add_margin(out, colour, margin, " | ")?;
     add_parts(alloc, out, colour, line.text.as_str(), &line.parts)
-}
-
-/// Writes the end of a row.
-pub(crate) fn add_end(out: &mut String, colour: Colour) -> Result<(), AllocError>
-    ensures { OnOk result (string_bytes out.new ≡ string_bytes out.old ++ page_text colour (ending ∷ [])) }
-{
-    add_pieces(out, colour, &[Piece::End])
 }
 
 /// Writes a line and the signs below it, on rows of their own.

@@ -1,31 +1,26 @@
 //! The page of a test: whether it runs, and its settings, with their values and origins.
-ghost use Rattle.std.specs.Prelude.{◌≡◌, ◌++◌, Some, OnOk, IfOk, codes, string_bytes};
+ghost use Rattle.std.specs.Prelude.{◌≡◌, [], ◌∷◌, ◌++◌, Some, OnOk, IfOk, codes, map, string_bytes};
 ghost use Rattle.serde_json.specs.View.{members_view};
 ghost use Rattle.rinqebo_report.specs.Document.{with_explain};
+ghost use Rattle.rinqebo_report.specs.Headers.{mode_word, platform_word, host_text, triple_of, profiles_part, mode_part, names_part, platform_part, test_header_runs};
 ghost use Rattle.rinqebo_report.specs.Joined.{joined};
-ghost use Rattle.rinqebo_report.specs.Pages.{width, key_width, widest, widest_shown, runs_shown, rows_shown, runs_remark, runs_row_runs, mode_word, platform_word, host_text, triple_of, profiles_text, header_text, absent_runs, setting_runs, row_runs, explain_runs};
-ghost use Rattle.rinqebo_report.specs.Pieces.{page_text};
+ghost use Rattle.rinqebo_report.specs.Pages.{key_width, widest, widest_shown, runs_shown, runs_said, runs_row_runs, absent_runs, key_column, setting_runs, row_runs, test_runs, explain_runs};
+ghost use Rattle.rinqebo_report.specs.Pieces.{page_text, repeated};
 
+use crate::header::add_header;
 use crate::json_parts::test_json;
 use crate::json_requested::put_requested;
+use crate::layout::{KeyColumn, Mark, Paper, Remarks, add_remark, add_remarked, width};
 use crate::origin::Source;
-use crate::origin_text::origins_text;
+use crate::origin_text::origin_texts;
 use crate::piece::{Colour, Piece, Style, add_pieces};
 use crate::report::{Asked, BuiltFor, RunMode, SettingRow, TestRows};
 use crate::toml_text::value_text;
 use serde_json::{Map, Value, json, put};
 use std::alloc::{AllocError, Global};
-use unicode_width::UnicodeWidthStr;
 
 /// The least number of columns that a value takes.
 const VALUE_WIDTH: usize = 12;
-
-/// The number of columns that a text takes in a terminal.
-pub(crate) fn width(text: &str) -> usize
-    ensures { result ≡ width text.now }
-{
-    UnicodeWidthStr::width(text)
-}
 
 /// How wide the key of a row is: a row without a value counts for nothing.
 fn key_width(row: &SettingRow) -> usize
@@ -123,59 +118,104 @@ fn add_chain(out: &mut String, chain: &[String]) -> Result<(), AllocError>
     Ok(())
 }
 
-/// Writes the profiles, the nearest first, and the mode.
-pub(crate) fn add_profiles(out: &mut String, asked: &Asked) -> Result<(), AllocError>
-    ensures { OnOk result (string_bytes out.new
-        ≡ string_bytes out.old ++ profiles_text asked.now) }
+/// The profiles, the nearest first: a part of a header.
+pub(crate) fn profiles_part(alloc: Global, asked: &Asked) -> Result<String, AllocError>
+    ensures { IfOk result (λ part. string_bytes part ≡ profiles_part asked.now) }
 {
-    out.push_str("profile ")?;
-    add_chain(out, &asked.chain)?;
-    out.push_str(", ")?;
-    out.push_str(asked.mode.word())
+    let mut part = String::from_str(alloc, "profile ")?;
+    add_chain(&mut part, &asked.chain)?;
+    part.push_str(",")?;
+    Ok(part)
 }
 
-/// The request, in one line.
-fn header_text(alloc: Global, asked: &Asked, test: &TestRows) -> Result<String, AllocError>
-    ensures { IfOk result (λ text. string_bytes text ≡ header_text asked.now test.now) }
+/// The mode: a part of a header.
+pub(crate) fn mode_part(alloc: Global, asked: &Asked) -> Result<String, AllocError>
+    ensures { IfOk result (λ part. string_bytes part ≡ mode_part asked.now) }
 {
-    let mut text = String::from_str(alloc, "# ")?;
-    text.push_str(test.binary.as_str())?;
-    text.push_str(" ")?;
-    text.push_str(test.name.as_str())?;
-    text.push_str(", ")?;
-    add_profiles(&mut text, asked)?;
-    text.push_str(", ")?;
-    text.push_str(test.platform.word())?;
-    text.push_str(" ")?;
-    add_triple(&mut text, asked, test.platform)?;
-    Ok(text)
+    let mut part = String::from_str(alloc, asked.mode.word())?;
+    part.push_str(",")?;
+    Ok(part)
+}
+
+/// The names of a test: a part of a header.
+fn names_part(alloc: Global, test: &TestRows) -> Result<String, AllocError>
+    ensures { IfOk result (λ part. string_bytes part ≡ names_part test.now) }
+{
+    let binary = test.binary.as_str();
+    let name = test.name.as_str();
+    format!(in alloc; "{binary} {name},")
+}
+
+/// What a test runs on: the last part of a header.
+fn platform_part(alloc: Global, asked: &Asked, test: &TestRows) -> Result<String, AllocError>
+    ensures { IfOk result (λ part. string_bytes part ≡ platform_part asked.now test.now) }
+{
+    let mut part = String::from_str(alloc, test.platform.word())?;
+    part.push_str(" ")?;
+    add_triple(&mut part, asked, test.platform)?;
+    Ok(part)
+}
+
+/// The parts of a header behind the names of the test.
+fn request_parts(alloc: Global, asked: &Asked, test: &TestRows) -> Result<Vec<String>, AllocError>
+    ensures { IfOk result (λ parts. map string_bytes parts.items
+        ≡ profiles_part asked.now ∷ mode_part asked.now ∷ platform_part asked.now test.now ∷ []) }
+{
+    let profiles = profiles_part(alloc, asked)?;
+    let mode = mode_part(alloc, asked)?;
+    let platform = platform_part(alloc, asked, test)?;
+    Ok(vec![in alloc; profiles, mode, platform]?)
+}
+
+/// Writes what a page is about: the test, the profiles, the mode, and what it runs on.
+fn add_test_header(
+    alloc: Global,
+    out: &mut String,
+    paper: Paper,
+    asked: &Asked,
+    test: &TestRows,
+) -> Result<(), AllocError>
+    ensures { OnOk result (string_bytes out.new ≡ string_bytes out.old
+        ++ page_text paper.colour (test_header_runs paper.columns asked.now test.now)) }
+{
+    let names = names_part(alloc, test)?;
+    let others = request_parts(alloc, asked, test)?;
+    add_header(alloc, out, paper, names.as_str(), &others)
 }
 
 /// Writes the row of a setting that has a value.
 pub(crate) fn add_valued<'x>(
+    alloc: Global,
     out: &mut String,
-    colour: Colour,
-    widest: usize,
+    paper: Paper,
+    keys: KeyColumn,
     key: &'x str,
     value: &'x str,
-    remark: &'x str,
+    texts: Vec<String>,
 ) -> Result<(), AllocError>
     ensures { OnOk result (string_bytes out.new ≡ string_bytes out.old
-        ++ page_text colour (setting_runs widest key.now (Some value.now) remark.now)) }
+        ++ page_text paper.colour (setting_runs paper.columns keys key.now (Some value.now)
+        (map string_bytes texts.items))) }
 {
-    add_pieces(
+    let indent = usize::from(keys.indent);
+    let remarks = Remarks {
+        mark: Mark::Comment,
+        gap: VALUE_WIDTH.saturating_sub(width(value)) + 2,
+        indent: indent + 4,
+        texts,
+    };
+    add_remarked(
+        alloc,
         out,
-        colour,
+        paper,
         &[
+            Piece::Repeat(' ', indent),
             Piece::Text(Style::Key, key),
-            Piece::Repeat(' ', widest.saturating_sub(width(key))),
+            Piece::Repeat(' ', keys.width.saturating_sub(width(key))),
             Piece::Text(Style::Plain, " = "),
             Piece::Text(Style::Plain, value),
-            Piece::Repeat(' ', VALUE_WIDTH.saturating_sub(width(value))),
-            Piece::Text(Style::Plain, "  "),
-            Piece::Text(Style::Remark, remark),
-            Piece::End,
         ],
+        &remarks,
     )
 }
 
@@ -190,75 +230,89 @@ pub(crate) fn add_absent(
         ++ page_text colour (absent_runs key.now)) }
 {
     let text = format!(in alloc; "# {key}: none")?;
-    add_pieces(
-        out,
-        colour,
-        &[Piece::Text(Style::Remark, text.as_str()), Piece::End],
-    )
+    add_remark(out, colour, text.as_str())
+}
+
+/// Writes the row of a setting that has no value.
+fn add_unvalued(
+    alloc: Global,
+    out: &mut String,
+    paper: Paper,
+    keys: KeyColumn,
+    key: &str,
+) -> Result<(), AllocError>
+    ensures { OnOk result (string_bytes out.new ≡ string_bytes out.old
+        ++ page_text paper.colour (repeated 32 keys.indent ∷ absent_runs key.now)) }
+{
+    let indent = usize::from(keys.indent);
+    add_pieces(out, paper.colour, &[Piece::Repeat(' ', indent)])?;
+    add_absent(alloc, out, paper.colour, key)
 }
 
 /// Writes the row of a setting.
-pub(crate) fn add_row(
+fn add_row(
     alloc: Global,
     out: &mut String,
-    colour: Colour,
+    paper: Paper,
     root: &str,
     sources: &[Source],
-    widest: usize,
+    keys: KeyColumn,
     row: &SettingRow,
 ) -> Result<(), AllocError>
     ensures { OnOk result (string_bytes out.new ≡ string_bytes out.old
-        ++ page_text colour (row_runs root.now sources.now widest row.now)) }
+        ++ page_text paper.colour
+        (row_runs paper.columns root.now sources.now keys row.now)) }
 {
     let key = row.key.as_str();
     match &row.value {
         Some(value) => {
             let value = value_text(alloc, value)?;
-            let remark = origins_text(alloc, root, sources, &row.origins)?;
-            add_valued(out, colour, widest, key, value.as_str(), remark.as_str())
+            let texts = origin_texts(alloc, root, sources, &row.origins)?;
+            add_valued(alloc, out, paper, keys, key, value.as_str(), texts)
         }
-        None => add_absent(alloc, out, colour, key),
+        None => add_unvalued(alloc, out, paper, keys, key),
     }
 }
 
-/// What is said beside whether a test runs: the origins, or that a list says that it is ignored.
-fn runs_remark(
+/// What is said of whether a test runs: the origins, or that a list says that it is ignored.
+fn runs_said(
     alloc: Global,
     root: &str,
     sources: &[Source],
     test: &TestRows,
-) -> Result<String, AllocError>
-    ensures { IfOk result (λ text.
-        string_bytes text ≡ runs_remark root.now sources.now test.now) }
+) -> Result<Vec<String>, AllocError>
+    ensures { IfOk result (λ texts. map string_bytes texts.items
+        ≡ runs_said root.now sources.now test.now) }
 {
     if test.is_ignored {
-        String::from_str(alloc, "# ignored in LIST")
+        Ok(vec![in alloc; String::from_str(alloc, "ignored in LIST")?]?)
     } else {
-        origins_text(alloc, root, sources, &test.runs.origins)
+        origin_texts(alloc, root, sources, &test.runs.origins)
     }
 }
 
 /// Writes the row of whether a test runs.
-pub(crate) fn add_runs_row(
+fn add_runs_row(
     alloc: Global,
     out: &mut String,
-    colour: Colour,
+    paper: Paper,
     root: &str,
     sources: &[Source],
-    widest: usize,
+    keys: KeyColumn,
     test: &TestRows,
 ) -> Result<(), AllocError>
     ensures { OnOk result (string_bytes out.new ≡ string_bytes out.old
-        ++ page_text colour (runs_row_runs root.now sources.now widest test.now)) }
+        ++ page_text paper.colour
+        (runs_row_runs paper.columns root.now sources.now keys test.now)) }
 {
     let key = test.runs.key.as_str();
     match &test.runs.value {
         Some(value) => {
             let value = value_text(alloc, value)?;
-            let remark = runs_remark(alloc, root, sources, test)?;
-            add_valued(out, colour, widest, key, value.as_str(), remark.as_str())
+            let texts = runs_said(alloc, root, sources, test)?;
+            add_valued(alloc, out, paper, keys, key, value.as_str(), texts)
         }
-        None => add_absent(alloc, out, colour, key),
+        None => add_unvalued(alloc, out, paper, keys, key),
     }
 }
 
@@ -266,41 +320,51 @@ pub(crate) fn add_runs_row(
 fn add_runs(
     alloc: Global,
     out: &mut String,
-    colour: Colour,
+    paper: Paper,
     root: &str,
     sources: &[Source],
-    widest: usize,
+    keys: KeyColumn,
     test: &TestRows,
 ) -> Result<(), AllocError>
     ensures { OnOk result (string_bytes out.new ≡ string_bytes out.old
-        ++ page_text colour (runs_shown (runs_row_runs root.now sources.now widest test.now)
-        test.now)) }
+        ++ page_text paper.colour (runs_shown
+        (runs_row_runs paper.columns root.now sources.now keys test.now) test.now)) }
 {
     if test.shows_runs {
-        add_runs_row(alloc, out, colour, root, sources, widest, test)
+        add_runs_row(alloc, out, paper, root, sources, keys, test)
     } else {
         Ok(())
     }
 }
 
-/// Writes the rows of a test.
-fn add_rows(
+/// The column of the keys of a test's rows, behind so many blanks.
+fn key_column(indent: u8, test: &TestRows) -> KeyColumn
+    ensures { result ≡ key_column indent test.now }
+{
+    KeyColumn {
+        indent,
+        width: widest_shown(test),
+    }
+}
+
+/// Writes the rows of a test, behind so many blanks.
+pub(crate) fn add_rows(
     alloc: Global,
     out: &mut String,
-    colour: Colour,
+    paper: Paper,
+    indent: u8,
     root: &str,
     sources: &[Source],
     test: &TestRows,
 ) -> Result<(), AllocError>
     ensures { OnOk result (string_bytes out.new ≡ string_bytes out.old
-        ++ page_text colour (rows_shown
-        (runs_row_runs root.now sources.now (widest_shown test.now) test.now)
-        (row_runs root.now sources.now (widest_shown test.now)) test.now)) }
+        ++ page_text paper.colour
+        (test_runs paper.columns indent root.now sources.now test.now)) }
 {
-    let widest = widest_shown(test);
-    add_runs(alloc, out, colour, root, sources, widest, test)?;
+    let keys = key_column(indent, test);
+    add_runs(alloc, out, paper, root, sources, keys, test)?;
     for row in &test.settings {
-        add_row(alloc, out, colour, root, sources, widest, row)?;
+        add_row(alloc, out, paper, root, sources, keys, row)?;
     }
     Ok(())
 }
@@ -309,22 +373,17 @@ fn add_rows(
 pub(crate) fn add_explain(
     alloc: Global,
     out: &mut String,
-    colour: Colour,
+    paper: Paper,
     root: &str,
     sources: &[Source],
     asked: &Asked,
     test: &TestRows,
 ) -> Result<(), AllocError>
-    ensures { OnOk result (string_bytes out.new ≡ string_bytes out.old
-        ++ page_text colour (explain_runs root.now sources.now asked.now test.now)) }
+    ensures { OnOk result (string_bytes out.new ≡ string_bytes out.old ++ page_text paper.colour
+        (explain_runs paper.columns root.now sources.now asked.now test.now)) }
 {
-    let header = header_text(alloc, asked, test)?;
-    add_pieces(
-        out,
-        colour,
-        &[Piece::Text(Style::Remark, header.as_str()), Piece::End],
-    )?;
-    add_rows(alloc, out, colour, root, sources, test)
+    add_test_header(alloc, out, paper, asked, test)?;
+    add_rows(alloc, out, paper, 0, root, sources, test)
 }
 
 /// Puts among members those of the page of a test.

@@ -4,12 +4,12 @@ ghost use Rattle.rinqebo_report.specs.OriginText.{path_at};
 ghost use Rattle.rinqebo_report.specs.Pages.{level_word, level_style, line_text, spot_text, finding_place, level_text, head_line_runs, head_runs, concise_line_runs, shown_width, caret_runs, expression_runs, apart_runs, arrow_runs, title_line_runs, title_runs, framed_runs, finding_runs, is_refusal, further_runs, findings_runs, concise_runs};
 ghost use Rattle.rinqebo_report.specs.Pieces.{page_text};
 
-use crate::excerpt::{add_end, add_excerpt, add_margin, add_remarks, has_lines, number_width};
-use crate::explain_page::width;
+use crate::excerpt::{add_excerpt, add_margin, add_remarks, has_lines, number_width};
 use crate::finding::{CharSpan, Finding, Level, RefusedExpression};
+use crate::layout::width;
 use crate::origin::{FileLines, FilePlace, Range, Source};
 use crate::origin_text::{add_position, path_at};
-use crate::piece::{Colour, Piece, Style, add_char, add_pieces};
+use crate::piece::{Colour, Piece, Style, add_char, add_end, add_pieces};
 use crate::report::Report;
 use std::alloc::{AllocError, Global};
 use std::fmt::Write;

@@ -12,6 +12,7 @@ use crate::finding_page::{add_concise, add_findings};
 use crate::github::github_text;
 use crate::group_page::add_grouped;
 use crate::json_document::render_json;
+use crate::layout::Paper;
 use crate::list_page::add_list;
 use crate::piece::Colour;
 use crate::report::{Content, Report};
@@ -38,17 +39,17 @@ pub enum Format<'a> {
 fn add_content(
     alloc: Global,
     out: &mut String,
-    colour: Colour,
+    paper: Paper,
     report: &Report,
 ) -> Result<(), AllocError>
-    ensures { OnOk result (string_bytes out.new ≡ string_bytes out.old
-        ++ page_text colour (content_runs report.now report.now.content)) }
+    ensures { OnOk result (string_bytes out.new ≡ string_bytes out.old ++ page_text paper.colour
+        (content_runs paper.columns report.now report.now.content)) }
 {
     let root = report.root.as_str();
     let sources = report.sources.as_slice();
     match &report.content {
         Content::Explain { asked, test } => {
-            add_explain(alloc, out, colour, root, sources, asked, test)
+            add_explain(alloc, out, paper, root, sources, asked, test)
         }
         Content::Why {
             key,
@@ -57,28 +58,28 @@ fn add_content(
             ..
         } => {
             let key = key.as_str();
-            add_why(alloc, out, colour, root, sources, key, rules, *is_ignored)
+            add_why(alloc, out, paper, root, sources, key, rules, *is_ignored)
         }
         Content::List {
             asked,
             tests,
             unused,
             ..
-        } => add_list(alloc, out, colour, root, sources, asked, tests, unused),
+        } => add_list(alloc, out, paper, root, sources, asked, tests, unused),
         Content::ShowConfig { entries, .. } => {
-            add_config(alloc, out, colour, root, sources, entries)
+            add_config(alloc, out, paper, root, sources, entries)
         }
-        Content::Check => add_check(alloc, out, colour, report),
+        Content::Check => add_check(alloc, out, paper.colour, report),
     }
 }
 
 /// The page of a command's result.
-fn content_text(alloc: Global, report: &Report, colour: Colour) -> Result<String, AllocError>
-    ensures { IfOk result (λ text. string_bytes text
-        ≡ page_text colour (content_runs report.now report.now.content)) }
+fn content_text(alloc: Global, report: &Report, paper: Paper) -> Result<String, AllocError>
+    ensures { IfOk result (λ text. string_bytes text ≡ page_text paper.colour
+        (content_runs paper.columns report.now report.now.content)) }
 {
     let mut text = String::new(alloc);
-    add_content(alloc, &mut text, colour, report)?;
+    add_content(alloc, &mut text, paper, report)?;
     Ok(text)
 }
 
@@ -86,11 +87,11 @@ fn content_text(alloc: Global, report: &Report, colour: Colour) -> Result<String
 fn add_grouped_content(
     alloc: Global,
     out: &mut String,
-    colour: Colour,
+    paper: Paper,
     report: &Report,
 ) -> Result<(), AllocError>
-    ensures { OnOk result (string_bytes out.new ≡ string_bytes out.old
-        ++ page_text colour (grouped_content_runs report.now report.now.content)) }
+    ensures { OnOk result (string_bytes out.new ≡ string_bytes out.old ++ page_text paper.colour
+        (grouped_content_runs paper.columns report.now report.now.content)) }
 {
     match &report.content {
         Content::List {
@@ -101,22 +102,22 @@ fn add_grouped_content(
         } => {
             let root = report.root.as_str();
             let sources = report.sources.as_slice();
-            add_grouped(alloc, out, colour, root, sources, asked, tests, unused)
+            add_grouped(alloc, out, paper, root, sources, asked, tests, unused)
         }
         Content::Explain { .. }
         | Content::Why { .. }
         | Content::ShowConfig { .. }
-        | Content::Check => add_content(alloc, out, colour, report),
+        | Content::Check => add_content(alloc, out, paper, report),
     }
 }
 
 /// The page of a command's result, with the tests of a list in groups.
-fn grouped_text(alloc: Global, report: &Report, colour: Colour) -> Result<String, AllocError>
-    ensures { IfOk result (λ text. string_bytes text
-        ≡ page_text colour (grouped_content_runs report.now report.now.content)) }
+fn grouped_text(alloc: Global, report: &Report, paper: Paper) -> Result<String, AllocError>
+    ensures { IfOk result (λ text. string_bytes text ≡ page_text paper.colour
+        (grouped_content_runs paper.columns report.now report.now.content)) }
 {
     let mut text = String::new(alloc);
-    add_grouped_content(alloc, &mut text, colour, report)?;
+    add_grouped_content(alloc, &mut text, paper, report)?;
     Ok(text)
 }
 
@@ -139,20 +140,21 @@ pub fn render_findings(alloc: Global, report: &Report, colour: Colour) -> Result
     Ok(text)
 }
 
-/// A report in a format, with colours or without. Only pages have colours.
+/// A report in a format, on paper. Only pages have colours, and only the pages of commands have
+/// columns.
 pub fn render(
     alloc: Global,
     report: &Report,
     format: Format<'_>,
-    colour: Colour,
+    paper: Paper,
 ) -> Result<String, AllocError>
-    ensures { IfOk result (λ text. string_bytes text ≡ rendered report.now format.entry colour) }
+    ensures { IfOk result (λ text. string_bytes text ≡ rendered report.now format.entry paper) }
 {
     match format {
-        Format::Text => content_text(alloc, report, colour),
-        Format::Grouped => grouped_text(alloc, report, colour),
+        Format::Text => content_text(alloc, report, paper),
+        Format::Grouped => grouped_text(alloc, report, paper),
         Format::Json => render_json(alloc, report),
-        Format::Concise => concise_text(alloc, report, colour),
+        Format::Concise => concise_text(alloc, report, paper.colour),
         Format::Github(workspace) => github_text(alloc, workspace, report),
     }
 }

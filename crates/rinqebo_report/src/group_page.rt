@@ -6,6 +6,7 @@ ghost use Rattle.rinqebo_report.specs.Pages.{runs_shown};
 ghost use Rattle.rinqebo_report.specs.Pieces.{page_text};
 
 use crate::explain_page::add_absent;
+use crate::layout::Paper;
 use crate::list_page::{add_list_end, add_list_head, add_test_line};
 use crate::origin::{Origin, Source};
 use crate::piece::{Colour, Piece, Style, add_pieces};
@@ -197,18 +198,18 @@ fn add_groups(
 pub(crate) fn add_grouped(
     alloc: Global,
     out: &mut String,
-    colour: Colour,
+    paper: Paper,
     root: &str,
     sources: &[Source],
     asked: &Asked,
     tests: &[TestRows],
     unused: &[Origin],
 ) -> Result<(), AllocError>
-    ensures { OnOk result (string_bytes out.new ≡ string_bytes out.old
-        ++ page_text colour (grouped_runs root.now sources.now asked.now tests.now unused.now)) }
+    ensures { OnOk result (string_bytes out.new ≡ string_bytes out.old ++ page_text paper.colour
+        (grouped_runs paper.columns root.now sources.now asked.now tests.now unused.now)) }
 {
-    add_list_head(alloc, out, colour, asked)?;
-    add_groups(alloc, out, colour, tests)?;
+    add_list_head(alloc, out, paper, asked)?;
+    add_groups(alloc, out, paper.colour, tests)?;
     let count = tests.len() as u64;
-    add_list_end(alloc, out, colour, root, sources, count, unused)
+    add_list_end(alloc, out, paper, root, sources, count, unused)
 }

@@ -14,12 +14,14 @@ mod finding_page;
 mod format;
 mod github;
 mod group_page;
+mod header;
 mod hint;
 mod json_document;
 mod json_findings;
 mod json_parts;
 mod json_requested;
 mod laws;
+mod layout;
 mod list_page;
 mod origin;
 mod origin_text;
@@ -42,6 +44,7 @@ pub use json_parts::{
 };
 pub use json_requested::put_text;
 pub use laws::{law_colours, law_durations};
+pub use layout::Paper;
 pub use list_page::{render_list_end, render_list_head, render_listed};
 pub use origin::{
     FileLines, FilePlace, Origin, Part, Position, Range, Source, SourceKind, Written,

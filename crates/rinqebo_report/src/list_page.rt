@@ -1,64 +1,64 @@
 //! The page of a list: the request, each test and what is set for it, and the rules that hold for
 //! none.
-ghost use Rattle.std.specs.Prelude.{◌≡◌, ◌++◌, ◌∷◌, IfOk, OnOk, codes, flat_map, option_map, string_bytes};
+ghost use Rattle.std.specs.Prelude.{◌≡◌, ◌++◌, ◌∷◌, IfOk, OnOk, flat_map, map, option_map, string_bytes};
 ghost use Rattle.serde_json.specs.View.{members_view};
 ghost use Rattle.rinqebo_report.specs.Document.{with_list};
-ghost use Rattle.rinqebo_report.specs.Pages.{plain, widest_shown, runs_shown, runs_row_runs, host_text, build_text, list_header_text, test_line_runs, indented_runs, listed_runs, unused_line_runs, unused_runs, count_runs, list_head_runs, list_end_runs, list_runs};
+ghost use Rattle.rinqebo_report.specs.Headers.{host_text, mode_part, build_parts, list_head_runs};
+ghost use Rattle.rinqebo_report.specs.Pages.{test_line_runs, listed_runs, unused_line_runs, unused_runs, count_runs, list_end_runs, list_runs};
 ghost use Rattle.rinqebo_report.specs.Pieces.{page_text};
 
-use crate::explain_page::{add_host, add_profiles, add_row, add_runs_row, widest_shown};
+use crate::explain_page::{add_host, add_rows, mode_part, profiles_part};
+use crate::header::add_header;
 use crate::json_parts::{origins_json, tests_json, texts_json, wrappers_json};
 use crate::json_requested::put_requested;
+use crate::layout::{Mark, Paper, Remarks, add_remarked};
 use crate::origin::{Origin, Source};
-use crate::origin_text::origin_text;
+use crate::origin_text::all_origin_texts;
 use crate::piece::{Colour, Piece, Style, add_pieces};
-use crate::report::{Asked, ListScripts, Report, SettingRow, TestRows};
+use crate::report::{Asked, ListScripts, Report, TestRows};
 use serde_json::{Map, Value, put};
 use std::alloc::{AllocError, Global};
 
-/// Writes the triples of a build: that of the host alone where there is no target.
-fn add_build(out: &mut String, asked: &Asked) -> Result<(), AllocError>
-    ensures { OnOk result (string_bytes out.new ≡ string_bytes out.old
-        ++ build_text (host_text asked.now) (option_map string_bytes asked.now.target)) }
+/// The triple of the host, and that it is only assumed.
+fn host_text(alloc: Global, asked: &Asked) -> Result<String, AllocError>
+    ensures { IfOk result (λ text. string_bytes text ≡ host_text asked.now) }
 {
-    match &asked.target {
-        Some(target) => {
-            out.push_str("host ")?;
-            add_host(out, asked)?;
-            out.push_str(", target ")?;
-            out.push_str(target.as_str())
-        }
-        None => add_host(out, asked),
-    }
-}
-
-/// The request of a list: the profiles, the mode, and what the tests run on.
-fn list_header_text(alloc: Global, asked: &Asked) -> Result<String, AllocError>
-    ensures { IfOk result (λ text. string_bytes text ≡ list_header_text asked.now) }
-{
-    let mut text = String::from_str(alloc, "# ")?;
-    add_profiles(&mut text, asked)?;
-    text.push_str(", ")?;
-    add_build(&mut text, asked)?;
+    let mut text = String::new(alloc);
+    add_host(&mut text, asked)?;
     Ok(text)
 }
 
-/// Writes the request of a list, in a line.
+/// The parts of the header of a list behind the profiles: the mode, and the triples of the build,
+/// that of the host alone where there is no target.
+fn build_parts(alloc: Global, asked: &Asked) -> Result<Vec<String>, AllocError>
+    ensures { IfOk result (λ parts. map string_bytes parts.items ≡ mode_part asked.now
+        ∷ build_parts (host_text asked.now) (option_map string_bytes asked.now.target)) }
+{
+    let mode = mode_part(alloc, asked)?;
+    let host = host_text(alloc, asked)?;
+    match &asked.target {
+        Some(target) => {
+            let host = format!(in alloc; "host {host},")?;
+            let target = format!(in alloc; "target {target}")?;
+            Ok(vec![in alloc; mode, host, target]?)
+        }
+        None => Ok(vec![in alloc; mode, host]?),
+    }
+}
+
+/// Writes what a list is about: the profiles, the mode, and what the tests run on.
 pub(crate) fn add_list_head(
     alloc: Global,
     out: &mut String,
-    colour: Colour,
+    paper: Paper,
     asked: &Asked,
 ) -> Result<(), AllocError>
     ensures { OnOk result (string_bytes out.new ≡ string_bytes out.old
-        ++ page_text colour (list_head_runs asked.now)) }
+        ++ page_text paper.colour (list_head_runs paper.columns asked.now)) }
 {
-    let header = list_header_text(alloc, asked)?;
-    add_pieces(
-        out,
-        colour,
-        &[Piece::Text(Style::Remark, header.as_str()), Piece::End],
-    )
+    let profiles = profiles_part(alloc, asked)?;
+    let others = build_parts(alloc, asked)?;
+    add_header(alloc, out, paper, profiles.as_str(), &others)
 }
 
 /// Writes the names of a test.
@@ -83,96 +83,57 @@ pub(crate) fn add_test_line<'x>(
     )
 }
 
-/// Writes a row behind four spaces.
-fn add_indented(
-    alloc: Global,
-    out: &mut String,
-    colour: Colour,
-    root: &str,
-    sources: &[Source],
-    widest: usize,
-    row: &SettingRow,
-) -> Result<(), AllocError>
-    ensures { OnOk result (string_bytes out.new ≡ string_bytes out.old
-        ++ page_text colour (indented_runs root.now sources.now widest row.now)) }
-{
-    add_pieces(out, colour, &[Piece::Text(Style::Plain, "    ")])?;
-    add_row(alloc, out, colour, root, sources, widest, row)
-}
-
-/// Writes whether a test runs behind four spaces, if it is shown.
-fn add_indented_runs(
-    alloc: Global,
-    out: &mut String,
-    colour: Colour,
-    root: &str,
-    sources: &[Source],
-    widest: usize,
-    test: &TestRows,
-) -> Result<(), AllocError>
-    ensures { OnOk result (string_bytes out.new ≡ string_bytes out.old
-        ++ page_text colour (runs_shown
-        (plain (codes "    ") ∷ runs_row_runs root.now sources.now widest test.now) test.now)) }
-{
-    if !test.shows_runs {
-        return Ok(());
-    }
-    add_pieces(out, colour, &[Piece::Text(Style::Plain, "    ")])?;
-    add_runs_row(alloc, out, colour, root, sources, widest, test)
-}
-
 /// Writes a test and its rows.
 fn add_listed(
     alloc: Global,
     out: &mut String,
-    colour: Colour,
+    paper: Paper,
     root: &str,
     sources: &[Source],
     test: &TestRows,
 ) -> Result<(), AllocError>
-    ensures { OnOk result (string_bytes out.new ≡ string_bytes out.old
-        ++ page_text colour (listed_runs root.now sources.now test.now)) }
+    ensures { OnOk result (string_bytes out.new ≡ string_bytes out.old ++ page_text paper.colour
+        (listed_runs paper.columns root.now sources.now test.now)) }
 {
-    add_test_line(out, colour, test.binary.as_str(), test.name.as_str())?;
-    let widest = widest_shown(test);
-    add_indented_runs(alloc, out, colour, root, sources, widest, test)?;
-    for row in &test.settings {
-        add_indented(alloc, out, colour, root, sources, widest, row)?;
-    }
-    Ok(())
+    add_test_line(out, paper.colour, test.binary.as_str(), test.name.as_str())?;
+    add_rows(alloc, out, paper, 4, root, sources, test)
 }
 
-/// Writes a rule that holds for no test.
-fn add_unused_line(out: &mut String, colour: Colour, origin: &str) -> Result<(), AllocError>
-    ensures { OnOk result (string_bytes out.new ≡ string_bytes out.old
-        ++ page_text colour (unused_line_runs origin.now)) }
+/// Writes a rule that holds for no test, and its origin.
+fn add_unused_line(
+    alloc: Global,
+    out: &mut String,
+    paper: Paper,
+    texts: Vec<String>,
+) -> Result<(), AllocError>
+    ensures { OnOk result (string_bytes out.new ≡ string_bytes out.old ++ page_text paper.colour
+        (unused_line_runs paper.columns (map string_bytes texts.items))) }
 {
-    add_pieces(
-        out,
-        colour,
-        &[
-            Piece::Text(Style::Plain, "unused: "),
-            Piece::Text(Style::Plain, origin),
-            Piece::End,
-        ],
-    )
+    let remarks = Remarks {
+        mark: Mark::Bare,
+        gap: 1,
+        indent: 4,
+        texts,
+    };
+    let front = [Piece::Text(Style::Plain, "unused:")];
+    add_remarked(alloc, out, paper, &front, &remarks)
 }
 
 /// Writes the rules that hold for no test.
 pub(crate) fn add_unused(
     alloc: Global,
     out: &mut String,
-    colour: Colour,
+    paper: Paper,
     root: &str,
     sources: &[Source],
     unused: &[Origin],
 ) -> Result<(), AllocError>
-    ensures { OnOk result (string_bytes out.new ≡ string_bytes out.old
-        ++ page_text colour (flat_map (unused_runs root.now sources.now) unused.now)) }
+    ensures { OnOk result (string_bytes out.new ≡ string_bytes out.old ++ page_text paper.colour
+        (flat_map (unused_runs paper.columns root.now sources.now) unused.now)) }
 {
     for origin in unused {
-        let text = origin_text(alloc, root, sources, origin)?;
-        add_unused_line(out, colour, text.as_str())?;
+        let texts = all_origin_texts(alloc, root, sources, origin, &[])?;
+        add_unused_line(alloc, out, paper, texts)?;
     }
     Ok(())
 }
@@ -197,33 +158,33 @@ pub(crate) fn add_count(out: &mut String, colour: Colour, count: u64) -> Result<
 pub(crate) fn add_list_end(
     alloc: Global,
     out: &mut String,
-    colour: Colour,
+    paper: Paper,
     root: &str,
     sources: &[Source],
     count: u64,
     unused: &[Origin],
 ) -> Result<(), AllocError>
-    ensures { OnOk result (string_bytes out.new ≡ string_bytes out.old
-        ++ page_text colour (list_end_runs root.now sources.now count unused.now)) }
+    ensures { OnOk result (string_bytes out.new ≡ string_bytes out.old ++ page_text paper.colour
+        (list_end_runs paper.columns root.now sources.now count unused.now)) }
 {
-    add_count(out, colour, count)?;
-    add_unused(alloc, out, colour, root, sources, unused)
+    add_count(out, paper.colour, count)?;
+    add_unused(alloc, out, paper, root, sources, unused)
 }
 
 /// Writes tests and their rows.
 fn add_tests(
     alloc: Global,
     out: &mut String,
-    colour: Colour,
+    paper: Paper,
     root: &str,
     sources: &[Source],
     tests: &[TestRows],
 ) -> Result<(), AllocError>
-    ensures { OnOk result (string_bytes out.new ≡ string_bytes out.old
-        ++ page_text colour (flat_map (listed_runs root.now sources.now) tests.now)) }
+    ensures { OnOk result (string_bytes out.new ≡ string_bytes out.old ++ page_text paper.colour
+        (flat_map (listed_runs paper.columns root.now sources.now) tests.now)) }
 {
     for test in tests {
-        add_listed(alloc, out, colour, root, sources, test)?;
+        add_listed(alloc, out, paper, root, sources, test)?;
     }
     Ok(())
 }
@@ -232,29 +193,29 @@ fn add_tests(
 pub(crate) fn add_list(
     alloc: Global,
     out: &mut String,
-    colour: Colour,
+    paper: Paper,
     root: &str,
     sources: &[Source],
     asked: &Asked,
     tests: &[TestRows],
     unused: &[Origin],
 ) -> Result<(), AllocError>
-    ensures { OnOk result (string_bytes out.new ≡ string_bytes out.old
-        ++ page_text colour (list_runs root.now sources.now asked.now tests.now unused.now)) }
+    ensures { OnOk result (string_bytes out.new ≡ string_bytes out.old ++ page_text paper.colour
+        (list_runs paper.columns root.now sources.now asked.now tests.now unused.now)) }
 {
-    add_list_head(alloc, out, colour, asked)?;
-    add_tests(alloc, out, colour, root, sources, tests)?;
+    add_list_head(alloc, out, paper, asked)?;
+    add_tests(alloc, out, paper, root, sources, tests)?;
     let count = tests.len() as u64;
-    add_list_end(alloc, out, colour, root, sources, count, unused)
+    add_list_end(alloc, out, paper, root, sources, count, unused)
 }
 
-/// What the page of a list shows before its tests: the request, in a line.
-pub fn render_list_head(alloc: Global, asked: &Asked, colour: Colour) -> Result<String, AllocError>
+/// What the page of a list shows before its tests: what the list is about.
+pub fn render_list_head(alloc: Global, asked: &Asked, paper: Paper) -> Result<String, AllocError>
     ensures { IfOk result (λ text. string_bytes text
-        ≡ page_text colour (list_head_runs asked.now)) }
+        ≡ page_text paper.colour (list_head_runs paper.columns asked.now)) }
 {
     let mut text = String::new(alloc);
-    add_list_head(alloc, &mut text, colour, asked)?;
+    add_list_head(alloc, &mut text, paper, asked)?;
     Ok(text)
 }
 
@@ -263,15 +224,15 @@ pub fn render_list_head(alloc: Global, asked: &Asked, colour: Colour) -> Result<
 pub fn render_listed(
     alloc: Global,
     report: &Report,
-    colour: Colour,
+    paper: Paper,
     test: &TestRows,
 ) -> Result<String, AllocError>
-    ensures { IfOk result (λ text. string_bytes text ≡ page_text colour
-        (listed_runs (string_bytes report.now.root) report.now.sources.items test.now)) }
+    ensures { IfOk result (λ text. string_bytes text ≡ page_text paper.colour (listed_runs
+        paper.columns (string_bytes report.now.root) report.now.sources.items test.now)) }
 {
     let (root, sources) = (report.root.as_str(), report.sources.as_slice());
     let mut text = String::new(alloc);
-    add_listed(alloc, &mut text, colour, root, sources, test)?;
+    add_listed(alloc, &mut text, paper, root, sources, test)?;
     Ok(text)
 }
 
@@ -280,16 +241,16 @@ pub fn render_listed(
 pub fn render_list_end(
     alloc: Global,
     report: &Report,
-    colour: Colour,
+    paper: Paper,
     count: u64,
     unused: &[Origin],
 ) -> Result<String, AllocError>
-    ensures { IfOk result (λ text. string_bytes text ≡ page_text colour (list_end_runs
-        (string_bytes report.now.root) report.now.sources.items count unused.now)) }
+    ensures { IfOk result (λ text. string_bytes text ≡ page_text paper.colour (list_end_runs
+        paper.columns (string_bytes report.now.root) report.now.sources.items count unused.now)) }
 {
     let (root, sources) = (report.root.as_str(), report.sources.as_slice());
     let mut text = String::new(alloc);
-    add_list_end(alloc, &mut text, colour, root, sources, count, unused)?;
+    add_list_end(alloc, &mut text, paper, root, sources, count, unused)?;
     Ok(text)
 }
 

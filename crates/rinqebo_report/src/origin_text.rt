@@ -1,7 +1,7 @@
 //! Origins as pages show them.
-ghost use Rattle.std.specs.Prelude.{◌≡◌, ◌++◌, MatchOption, None, Some, option_map, OnOk, IfOk, codes, string_bytes};
+ghost use Rattle.std.specs.Prelude.{◌≡◌, ◌∷◌, ◌++◌, MatchOption, None, Some, option_map, OnOk, IfOk, codes, map, string_bytes};
 ghost use Rattle.rinqebo_report.specs.Joined.{joined};
-ghost use Rattle.rinqebo_report.specs.OriginText.{after_prefix, ends_with_slash, below, path_at, lines_text, position_text, range_text, tool_at, tool_text, place_text, part_text, written_text, origin_text, all_origins_text};
+ghost use Rattle.rinqebo_report.specs.OriginText.{after_prefix, ends_with_slash, below, path_at, lines_text, position_text, range_text, tool_at, tool_text, place_text, part_text, written_text, origin_text, origin_texts};
 
 use crate::origin::{
     FileLines, FilePlace, Origin, Part, Position, Range, Source, SourceKind, Written,
@@ -192,23 +192,53 @@ pub(crate) fn origin_text(
     Ok(text)
 }
 
-/// Returns an origin and then others, with commas between them.
-pub(crate) fn all_origins_text(
+/// Puts the texts of origins behind other texts.
+fn push_origins(
+    alloc: Global,
+    texts: &mut Vec<String>,
+    root: &str,
+    sources: &[Source],
+    origins: &[Origin],
+) -> Result<(), AllocError>
+    ensures { OnOk result (map string_bytes texts.new.items ≡ map string_bytes texts.old.items
+        ++ origin_texts root.now sources.now origins.now) }
+{
+    for origin in origins {
+        texts.push(origin_text(alloc, root, sources, origin)?)?;
+    }
+    Ok(())
+}
+
+/// Origins as texts.
+pub(crate) fn origin_texts(
+    alloc: Global,
+    root: &str,
+    sources: &[Source],
+    origins: &[Origin],
+) -> Result<Vec<String>, AllocError>
+    ensures { IfOk result (λ texts. map string_bytes texts.items
+        ≡ origin_texts root.now sources.now origins.now) }
+{
+    let mut texts = Vec::new(alloc);
+    push_origins(alloc, &mut texts, root, sources, origins)?;
+    Ok(texts)
+}
+
+/// An origin and then others as texts.
+pub(crate) fn all_origin_texts(
     alloc: Global,
     root: &str,
     sources: &[Source],
     first: &Origin,
     others: &[Origin],
-) -> Result<String, AllocError>
-    ensures { IfOk result (λ text.
-        string_bytes text ≡ all_origins_text root.now sources.now first.now others.now) }
+) -> Result<Vec<String>, AllocError>
+    ensures { IfOk result (λ texts. map string_bytes texts.items
+        ≡ origin_texts root.now sources.now (first.now ∷ others.now)) }
 {
-    let mut text = origin_text(alloc, root, sources, first)?;
-    for origin in others {
-        text.push_str(", ")?;
-        add_origin(&mut text, root, sources, origin)?;
-    }
-    Ok(text)
+    let mut texts = Vec::new(alloc);
+    texts.push(origin_text(alloc, root, sources, first)?)?;
+    push_origins(alloc, &mut texts, root, sources, others)?;
+    Ok(texts)
 }
 
 /// Writes origins, with commas between them.
@@ -228,19 +258,4 @@ pub fn add_origins(
         separator = ", ";
     }
     Ok(())
-}
-
-/// A mark and origins, with commas between them.
-pub(crate) fn origins_text(
-    alloc: Global,
-    root: &str,
-    sources: &[Source],
-    origins: &[Origin],
-) -> Result<String, AllocError>
-    ensures { IfOk result (λ text. string_bytes text ≡ codes "# "
-        ++ joined (codes ", ") (origin_text root.now sources.now) origins.now) }
-{
-    let mut text = String::from_str(alloc, "# ")?;
-    add_origins(&mut text, root, sources, origins)?;
-    Ok(text)
 }

@@ -1,7 +1,7 @@
 //! Pieces of a page, and how they are painted.
-ghost use Rattle.std.specs.Prelude.{◌≡◌, ◌++◌, OnOk, map, flat_map, replicate, string_bytes};
+ghost use Rattle.std.specs.Prelude.{◌≡◌, [], ◌∷◌, ◌++◌, OnOk, map, flat_map, replicate, string_bytes};
 ghost use Rattle.std.specs.Str.{chars};
-ghost use Rattle.rinqebo_report.specs.Pieces.{shown_char, shown_text, escape_of, style_code, painted_text, painted, page_text};
+ghost use Rattle.rinqebo_report.specs.Pieces.{shown_char, shown_text, escape_of, style_code, painted_text, painted, page_text, ending};
 ghost use Rattle.rinqebo_report.specs.PieceView.{piece_view};
 
 use std::alloc::AllocError;
@@ -135,4 +135,12 @@ pub fn add_pieces(out: &mut String, colour: Colour, pieces: &[Piece<'_>]) -> Res
         add_piece(out, colour, piece)?;
     }
     Ok(())
+}
+
+/// Writes the end of a line.
+pub(crate) fn add_end(out: &mut String, colour: Colour) -> Result<(), AllocError>
+    ensures { OnOk result (string_bytes out.new
+        ≡ string_bytes out.old ++ page_text colour (ending ∷ [])) }
+{
+    add_pieces(out, colour, &[Piece::End])
 }

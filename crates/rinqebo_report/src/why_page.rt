@@ -1,18 +1,17 @@
 //! The page of a key: the result of each rule, and what counts where none decides.
-ghost use Rattle.std.specs.Prelude.{◌≡◌, ◌++◌, [], ◌∷◌, ◌+◌, ◌^◌, ◌<◌, option_map, OnOk, string_bytes};
+ghost use Rattle.std.specs.Prelude.{◌≡◌, ◌++◌, [], ◌∷◌, ◌+◌, ◌^◌, ◌<◌, map, option_map, OnOk, string_bytes};
 ghost use Rattle.serde_json.specs.View.{members_view};
 ghost use Rattle.rinqebo_report.specs.Document.{with_ignored, with_why};
 ghost use Rattle.rinqebo_report.specs.Pages.{verdict_text, verdict_style, number_run, reported_answer, condition_runs, shows_value, value_runs, written_runs, verdict_runs, conditions_runs, rule_runs, rules_runs, ignored_runs, why_runs};
-ghost use Rattle.rinqebo_report.specs.Pieces.{ending, page_text, styled};
+ghost use Rattle.rinqebo_report.specs.Pieces.{page_text};
 ghost use Rattle.rinqebo_report.specs.PieceView.{piece_view};
 ghost use Rattle.rinqebo_report.specs.TomlText.{value_text};
-ghost use Rattle.rinqebo_report.specs.declared.piece.Style.TheVariants as styles;
 
-use crate::explain_page::width;
 use crate::json_parts::{rules_json, test_id_json};
 use crate::json_requested::{put_requested, put_text};
+use crate::layout::{Mark, Paper, Remarks, add_remark, add_remarked, width};
 use crate::origin::Source;
-use crate::origin_text::all_origins_text;
+use crate::origin_text::all_origin_texts;
 use crate::piece::{Colour, Piece, Style, add_pieces};
 use crate::report::{Asked, Condition, ConditionAnswer, Rule, TestId, Verdict};
 use crate::toml_text::value_text;
@@ -166,31 +165,36 @@ fn add_written(
     add_value_line(out, colour, key, value.as_str())
 }
 
-/// Writes the first line of a rule.
+/// Writes the number of a rule, its verdict and its origins.
 fn add_verdict(
+    alloc: Global,
     out: &mut String,
-    colour: Colour,
+    paper: Paper,
     place: u64,
     verdict: Verdict,
-    origin: &str,
+    texts: Vec<String>,
 ) -> Result<(), AllocError>
     requires { place + 1 < 2 ^ 64 }
-    ensures { OnOk result (string_bytes out.new ≡ string_bytes out.old
-        ++ page_text colour (verdict_runs place verdict origin.now)) }
+    ensures { OnOk result (string_bytes out.new ≡ string_bytes out.old ++ page_text paper.colour
+        (verdict_runs paper.columns place verdict (map string_bytes texts.items))) }
 {
     let text = verdict.text();
-    add_pieces(
+    let remarks = Remarks {
+        mark: Mark::Bare,
+        gap: VERDICT_WIDTH.saturating_sub(width(text)) + 2,
+        indent: 5,
+        texts,
+    };
+    add_remarked(
+        alloc,
         out,
-        colour,
+        paper,
         &[
             verdict.number(place),
             Piece::Text(Style::Plain, "  "),
             Piece::Text(verdict.style(), text),
-            Piece::Repeat(' ', VERDICT_WIDTH.saturating_sub(width(text))),
-            Piece::Text(Style::Plain, "  "),
-            Piece::Text(Style::Plain, origin),
-            Piece::End,
         ],
+        &remarks,
     )
 }
 
@@ -198,7 +202,7 @@ fn add_verdict(
 fn add_rule(
     alloc: Global,
     out: &mut String,
-    colour: Colour,
+    paper: Paper,
     root: &str,
     sources: &[Source],
     key: &str,
@@ -206,40 +210,39 @@ fn add_rule(
     rule: &Rule,
 ) -> Result<(), AllocError>
     requires { place + 1 < 2 ^ 64 }
-    ensures { OnOk result (string_bytes out.new ≡ string_bytes out.old
-        ++ page_text colour (rule_runs root.now sources.now key.now place rule.now)) }
+    ensures { OnOk result (string_bytes out.new ≡ string_bytes out.old ++ page_text paper.colour
+        (rule_runs paper.columns root.now sources.now key.now place rule.now)) }
 {
-    let origin = all_origins_text(alloc, root, sources, &rule.origin, &rule.others)?;
-    add_verdict(out, colour, place, rule.verdict, origin.as_str())?;
-    add_conditions(out, colour, rule)?;
-    add_written(alloc, out, colour, key, rule.verdict, rule.value.as_ref())
+    let texts = all_origin_texts(alloc, root, sources, &rule.origin, &rule.others)?;
+    add_verdict(alloc, out, paper, place, rule.verdict, texts)?;
+    add_conditions(out, paper.colour, rule)?;
+    add_written(
+        alloc,
+        out,
+        paper.colour,
+        key,
+        rule.verdict,
+        rule.value.as_ref(),
+    )
 }
 
 /// Writes rules, one after another.
 fn add_rules(
     alloc: Global,
     out: &mut String,
-    colour: Colour,
+    paper: Paper,
     root: &str,
     sources: &[Source],
     key: &str,
     rules: &[Rule],
 ) -> Result<(), AllocError>
-    ensures { OnOk result (string_bytes out.new ≡ string_bytes out.old
-        ++ page_text colour (rules_runs root.now sources.now key.now 0 rules.now)) }
+    ensures { OnOk result (string_bytes out.new ≡ string_bytes out.old ++ page_text paper.colour
+        (rules_runs paper.columns root.now sources.now key.now 0 rules.now)) }
 {
     for (place, rule) in rules.iter().enumerate() {
-        add_rule(alloc, out, colour, root, sources, key, place as u64, rule)?;
+        add_rule(alloc, out, paper, root, sources, key, place as u64, rule)?;
     }
     Ok(())
-}
-
-/// Writes a remark, in a line.
-fn add_remark<'x>(out: &mut String, colour: Colour, text: &'x str) -> Result<(), AllocError>
-    ensures { OnOk result (string_bytes out.new ≡ string_bytes out.old
-        ++ page_text colour (styled styles.Remark text.now ∷ ending ∷ [])) }
-{
-    add_pieces(out, colour, &[Piece::Text(Style::Remark, text), Piece::End])
 }
 
 /// Writes that a test does not run, where a list says that it is ignored.
@@ -258,18 +261,18 @@ fn add_ignored(out: &mut String, colour: Colour, is_ignored: bool) -> Result<(),
 pub(crate) fn add_why(
     alloc: Global,
     out: &mut String,
-    colour: Colour,
+    paper: Paper,
     root: &str,
     sources: &[Source],
     key: &str,
     rules: &[Rule],
     is_ignored: bool,
 ) -> Result<(), AllocError>
-    ensures { OnOk result (string_bytes out.new ≡ string_bytes out.old
-        ++ page_text colour (why_runs root.now sources.now key.now rules.now is_ignored)) }
+    ensures { OnOk result (string_bytes out.new ≡ string_bytes out.old ++ page_text paper.colour
+        (why_runs paper.columns root.now sources.now key.now rules.now is_ignored)) }
 {
-    add_rules(alloc, out, colour, root, sources, key, rules)?;
-    add_ignored(out, colour, is_ignored)
+    add_rules(alloc, out, paper, root, sources, key, rules)?;
+    add_ignored(out, paper.colour, is_ignored)
 }
 
 /// Puts among members that a list says that a test is ignored.

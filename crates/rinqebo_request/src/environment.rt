@@ -28,6 +28,8 @@ pub struct Environment {
     pub colour: Option<String>,
     /// `NO_COLOR`. Where it has a text, a terminal gets no colours by itself.
     pub no_colour: Option<String>,
+    /// `COLUMNS`, how many columns the lines of a page have.
+    pub columns: Option<String>,
     /// `GITHUB_WORKSPACE`, the folder that paths in commands of GitHub's workflows begin from.
     pub workflow_folder: Option<String>,
     /// `NEXTEST_EXPERIMENTAL_SETUP_SCRIPTS`. By `1` it switches setup scripts on.

@@ -2,7 +2,7 @@
 use crate::named::ProfileSource;
 use nextest_config::{BuildPlatform, ConfigExperimental, NextestRunMode, Setting, ToolName};
 use rinqebo_codes::Code;
-use rinqebo_report::{Colour, Format};
+use rinqebo_report::{Format, Paper};
 use std::collections::BTreeSet;
 
 /// The list of tests that a command reads.
@@ -199,8 +199,8 @@ pub struct Request<'a> {
     pub features: BTreeSet<ConfigExperimental>,
     /// How the output is written.
     pub format: Format<'a>,
-    /// Whether the output has colours.
-    pub colour: Colour,
+    /// What the output is written on: whether it has colours, and how many columns its lines have.
+    pub paper: Paper,
     /// Whether standard error shows how far a list is: where it is a terminal, and standard output
     /// is none.
     pub shows_progress: bool,

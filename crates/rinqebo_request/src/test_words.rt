@@ -4,7 +4,7 @@ use crate::keys::RUNS;
 use crate::request::{ListFile, Question, Request, RequestedTest};
 use crate::rows::{explained_rows, one_setting};
 use crate::words::{
-    ParseStop, colour, engines, features, files, format, mode, named_file, profile, profile_source,
+    ParseStop, engines, features, files, format, mode, named_file, paper, profile, profile_source,
     target_engines, usage,
 };
 use clap::ArgMatches;
@@ -119,7 +119,7 @@ pub fn explain_request<'a>(
         engines,
         features: features(alloc, matches, environment)?,
         format: format(matches, environment),
-        colour: colour(matches, environment),
+        paper: paper(matches, environment),
         shows_progress: false,
     })
 }

@@ -1,4 +1,6 @@
 //! Reads the words of the command line.
+ghost use Rattle.std.specs.Prelude.{◌≤◌};
+
 use crate::environment::{Environment, set};
 use crate::features::{FEATURES, feature_of};
 use crate::hints::name_hint;
@@ -13,9 +15,15 @@ use clap::ArgMatches;
 use clap::error::ErrorKind;
 use nextest_config::{ConfigExperimental, InvalidIdentifier, NextestRunMode, ToolName};
 use rinqebo_codes::{CODES, Code, find_code};
-use rinqebo_report::{Colour, Format};
+use rinqebo_report::{Colour, Format, Paper};
 use std::alloc::{AllocError, Global};
 use std::collections::BTreeSet;
+
+/// How many columns the lines of a page have where no variable says it.
+const COLUMNS: usize = 80;
+
+/// How many columns the lines of a page have at least.
+const LEAST_COLUMNS: usize = 20;
 
 /// Why words are no request.
 #[derive(Debug, Drop)]
@@ -206,7 +214,7 @@ pub fn format<'a>(matches: &ArgMatches<'a>, environment: &'a Environment) -> For
 }
 
 /// Whether the output has colours.
-pub fn colour(matches: &ArgMatches<'_>, environment: &Environment) -> Colour {
+fn colour(matches: &ArgMatches<'_>, environment: &Environment) -> Colour {
     let when = matches
         .get_str("color")
         .or(set(&environment.colour))
@@ -220,6 +228,28 @@ pub fn colour(matches: &ArgMatches<'_>, environment: &Environment) -> Colour {
         Colour::Coloured
     } else {
         Colour::Plain
+    }
+}
+
+/// How many columns the lines of a page have: what `COLUMNS` says, if it is a number that is large
+/// enough.
+fn columns(environment: &Environment) -> usize
+    ensures { 20 ≤ result }
+{
+    let Some(text) = set(&environment.columns) else {
+        return COLUMNS;
+    };
+    match text.parse::<usize>() {
+        Ok(columns) if columns >= LEAST_COLUMNS => columns,
+        _ => COLUMNS,
+    }
+}
+
+/// What the output is written on.
+pub fn paper(matches: &ArgMatches<'_>, environment: &Environment) -> Paper {
+    Paper {
+        colour: colour(matches, environment),
+        columns: columns(environment),
     }
 }
 
@@ -294,7 +324,7 @@ fn list_request<'a>(
         engines: engines(matches, environment),
         features: features(alloc, matches, environment)?,
         format: list_format(matches, environment),
-        colour: colour(matches, environment),
+        paper: paper(matches, environment),
         shows_progress: environment.is_error_terminal && !environment.is_terminal,
     })
 }
@@ -321,7 +351,7 @@ fn show_request<'a>(
         engines: target_engines(alloc, matches, environment)?,
         features: features(alloc, matches, environment)?,
         format: format(matches, environment),
-        colour: colour(matches, environment),
+        paper: paper(matches, environment),
         shows_progress: false,
     })
 }
@@ -387,7 +417,7 @@ fn check_request<'a>(
         engines: file_engines(matches),
         features: features(alloc, matches, environment)?,
         format: format(matches, environment),
-        colour: colour(matches, environment),
+        paper: paper(matches, environment),
         shows_progress: false,
     })
 }

@@ -3,9 +3,7 @@ use Rattle.std.proofs.Common.{◌≡◌, ◌∙◌, ◌⊎◌, ◌<◌, ◌≤�
 use Rattle.std.proofs.Math.Seq.{take-append_seam}
 use Rattle.std.proofs.lemmas.Bool.{cases_lt}
 use Rattle.rinqebo_files.specs.declared.files.Gathered.{Gathered}
-use Rattle.rinqebo_report.specs.Rendered.{rendered}
-use Rattle.rinqebo_report.specs.declared.format.Format.TheVariants.{Json}
-use Rattle.rinqebo_report.specs.declared.piece.Colour.TheVariants.{Plain}
+use Rattle.rinqebo_report.specs.Rendered.{json_text}
 use Rattle.rinqebo_report.specs.declared.report.Report.{Report}
 use Rattle.rinqebo_request.specs.declared.request.Question.{Question}
 use Rattle.rinqebo_request.specs.declared.request.Question.TheVariants as questions
@@ -37,7 +35,7 @@ zero_of asked (questions.Check deny_warnings) session report status asks answers
 -- the document of an answer
 answered : (asked : RequestedText) (request : Request) (gathered : Gathered) (report : Report) (status : ℕ)
     (text : List ℕ) → IsRequestFor asked request → IsAnswer request gathered report status
-    → text ≡ rendered report Json Plain → IsAnswerOf asked gathered text
+    → text ≡ json_text report → IsAnswerOf asked gathered text
 answered asked request gathered report status text is_request is_answer document =
     let zero = zero_of asked request.question is_answer.session report status is_request.question
     is_answer.answers in

@@ -2,9 +2,7 @@
 use Rattle.std.specs.Prelude.{◌≡◌, ◌⊎◌, ◌<◌, ◌≤◌, ◌++◌, ℕ, List, [], None, Some, Result, Ok, Err, drop, length, string_bytes}
 use Rattle.std.specs.Str.{IsUtf8}
 use Rattle.rinqebo_files.specs.declared.files.Gathered.{Gathered}
-use Rattle.rinqebo_report.specs.Rendered.{rendered}
-use Rattle.rinqebo_report.specs.declared.format.Format.TheVariants.{Json}
-use Rattle.rinqebo_report.specs.declared.piece.Colour.TheVariants.{Plain}
+use Rattle.rinqebo_report.specs.Rendered.{json_text}
 use Rattle.rinqebo_report.specs.declared.report.Report.{Report}
 use Rattle.rinqebo_request.specs.declared.request.Request.{Request}
 use Rattle.rinqebo_run.specs.Answered.{IsAnswer}
@@ -25,7 +23,7 @@ pub record TellsOf (asked : RequestedText) (gathered : Gathered)
   pub is_request : IsRequestFor asked request
   pub report : Report
   pub holds : Holds request gathered report
-  pub document : text ≡ rendered report Json Plain
+  pub document : text ≡ json_text report
 
 -- a text is the document of the answer
 abbrev pub IsAnswerOf : RequestedText → Gathered → List ℕ → Type 0
@@ -64,9 +62,9 @@ pub record IsEndingOf (run : RunText) (ending : Ending) : Type 0 where
 abbrev pub TellsFailure : Failure → Ending → Type 0
 TellsFailure (failures.Engines fault) (ends.NoEngines reason) = Unit {0}
 TellsFailure (failures.Refused report) (ends.Refused text) =
-    string_bytes text ≡ rendered report Json Plain
+    string_bytes text ≡ json_text report
 TellsFailure (failures.NoProfile report) (ends.NoProfile text) =
-    string_bytes text ≡ rendered report Json Plain
+    string_bytes text ≡ json_text report
 TellsFailure (failures.NoTest report) (ends.NoEngines reason) = Unit {0}
 TellsFailure (failures.SeveralTests report) (ends.NoEngines reason) = Unit {0}
 TellsFailure failure ending = ⊥
@@ -74,7 +72,7 @@ TellsFailure failure ending = ⊥
 -- an ending tells what the program answers: its report in JSON, or why there is none
 abbrev pub TellsOutcome : Result Answer Failure → Ending → Type 0
 TellsOutcome (Ok answer) (ends.Answered text) =
-    string_bytes text ≡ rendered answer.report Json Plain
+    string_bytes text ≡ json_text answer.report
 TellsOutcome (Ok answer) ending = ⊥
 TellsOutcome (Err failure) ending = TellsFailure failure ending
 

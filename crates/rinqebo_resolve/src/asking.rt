@@ -8,7 +8,7 @@ ghost use Rattle.rinqebo_resolve.specs.Asking.{AreEnginesFor, AreFilesOf, AsksFo
 use nextest_config::{NextestRunMode, Setting};
 use rinqebo_files::Gathered;
 use rinqebo_forms::{LoadRequest, Machine, RunRequest, Switches};
-use rinqebo_report::{Colour, Format};
+use rinqebo_report::{Colour, Format, Paper};
 use rinqebo_request::{
     ConfigFile, EngineOptions, FileOptions, ListFile, ProfileSource, Question, Request,
     RequestedSettings,
@@ -102,7 +102,10 @@ impl Asked {
             engines: self.engines(),
             features: features_of(alloc, self.features)?,
             format: Format::Json,
-            colour: Colour::Plain,
+            paper: Paper {
+                colour: Colour::Plain,
+                columns: 80,
+            },
             shows_progress: false,
         })
     }

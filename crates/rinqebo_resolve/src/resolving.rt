@@ -1,9 +1,7 @@
 //! A request for a whole run, resolved.
 ghost use Rattle.std.specs.Prelude.{◌≡◌, IfOk, string_bytes, take};
 ghost use Rattle.rinqebo_forms.specs.Runs.{run_view};
-ghost use Rattle.rinqebo_report.specs.Rendered.{rendered};
-ghost use Rattle.rinqebo_report.specs.declared.format.Format.TheVariants.{Json};
-ghost use Rattle.rinqebo_report.specs.declared.piece.Colour.TheVariants.{Plain};
+ghost use Rattle.rinqebo_report.specs.Rendered.{json_text};
 ghost use Rattle.rinqebo_session.specs.declared.status.TheConstants.{DONE};
 ghost use Rattle.rinqebo_resolve.specs.Asking.{requested_view};
 ghost use Rattle.rinqebo_resolve.specs.Endings.{IsAnswerTo, IsSilent, IsEndingFor, IsEndingIn, IsEndingOf, IsResolved, TellsFailure, TellsOutcome};
@@ -13,16 +11,16 @@ use crate::ending::Ending;
 use rinqebo_files::Gathered;
 use rinqebo_forms::{RequestFault, RunRequest};
 use rinqebo_load::{Failure, InputFault, OpenFilter};
-use rinqebo_report::{Colour, Format, Report, render};
+use rinqebo_report::{Report, render_json};
 use rinqebo_rules::NoProgress;
 use rinqebo_run::{Answer, answer_of};
 use std::alloc::{AllocError, Global};
 
 /// The document of a report.
 fn document_of(alloc: Global, report: &Report) -> Result<String, AllocError>
-    ensures { IfOk result (λ text. string_bytes text ≡ rendered report.now Json Plain) }
+    ensures { IfOk result (λ text. string_bytes text ≡ json_text report.now) }
 {
-    render(alloc, report, Format::Json, Colour::Plain)
+    render_json(alloc, report)
 }
 
 /// Why there are no engines. A request in JSON has members and no options, so that no option is named.

@@ -68,7 +68,7 @@ no_document failure n none (inr cut) ends = not_cut_off n cut ends
 module _ (failure : Failure) (request : Request) (report : Report) (n s : ℕ) (old new : Option (List ℕ))
     (json : request.format ≡ formats.Json) (reported : IsReportOfFailure failure report)
     (same : s ≡ failure_status failure) where
-  document : n ≡ s → Appends old new (rendered report request.format request.colour)
+  document : n ≡ s → Appends old new (rendered report request.format request.paper)
       → TellsFailure failure request n old new
   document is page = record {
     is_json = json;
@@ -86,7 +86,7 @@ module _ (failure : Failure) (request : Request) (report : Report) (n s : ℕ) (
 
   -- what goes out of the document of a failure
   pub document_quiet : (n ≡ s) ⊎ (n ≡ 5) ⊎ (n ≡ 6) → (n ≡ s) ⊎ (n ≡ 6) ⊎ (new ≡ old)
-      → (n ≡ 5) ⊎ (n ≡ 6) ⊎ Appends old new (rendered report request.format request.colour)
+      → (n ≡ 5) ⊎ (n ≡ 6) ⊎ Appends old new (rendered report request.format request.paper)
       → (n ≡ 6) ⊎ (new ≡ old) ⊎ TellsFailure failure request n old new
   document_quiet ends quiet (inl five) = silent five quiet
   document_quiet ends quiet (inr (inl six)) = inl six
@@ -96,7 +96,7 @@ module _ (failure : Failure) (request : Request) (report : Report) (n s : ℕ) (
 
   -- the document of a failure goes out
   pub document_reported : (n ≡ s) ⊎ (n ≡ 5) ⊎ (n ≡ 6)
-      → (n ≡ 5) ⊎ (n ≡ 6) ⊎ Appends old new (rendered report request.format request.colour)
+      → (n ≡ 5) ⊎ (n ≡ 6) ⊎ Appends old new (rendered report request.format request.paper)
       → (n ≡ 3) ⊎ (n ≡ 4) → TellsFailure failure request n old new
   document_reported ends (inl five) told = not_cut_off n (inl five) told
   document_reported ends (inr (inl six)) told = not_cut_off n (inr six) told

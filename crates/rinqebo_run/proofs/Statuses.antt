@@ -108,7 +108,7 @@ reported_page q n (inr (inr page)) is = page
 -- a run with an answer tells it
 pub tells : (request : Request) (gathered : Gathered) (report : Report) (n m : ℕ) (old new : Option (List ℕ))
     → IsAnswer request gathered report m → n ≡ m
-    → Appends old new (rendered report request.format request.colour) → Tells request gathered n old new
+    → Appends old new (rendered report request.format request.paper) → Tells request gathered n old new
 tells request gathered report n m old new answer same page = record {
   report = report;
   is_answer = subst (IsAnswer request gathered report) (sym same) answer;

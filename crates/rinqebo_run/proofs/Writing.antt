@@ -23,12 +23,13 @@ use Rattle.nextest_tables.specs.Written.{Name}
 use Rattle.rinqebo_files.specs.declared.files.Gathered.{Gathered}
 use Rattle.rinqebo_rules.specs.TestOrigins.{Basis}
 use Rattle.rinqebo_rules.specs.Rows.{AreTestsReported, IsTestReported}
-use Rattle.rinqebo_report.specs.Pages.{content_runs, list_end_runs, list_head_runs, list_runs, listed_runs}
+use Rattle.rinqebo_report.specs.Headers.{list_head_runs}
+use Rattle.rinqebo_report.specs.Pages.{content_runs, list_end_runs, list_runs, listed_runs}
 use Rattle.rinqebo_report.specs.Pieces.{painted, page_text}
 use Rattle.rinqebo_report.specs.Rendered.{rendered}
 use Rattle.rinqebo_report.specs.declared.format.Format.TheVariants as formats
 use Rattle.rinqebo_report.specs.declared.origin.Origin.{Origin}
-use Rattle.rinqebo_report.specs.declared.piece.Colour.{Colour}
+use Rattle.rinqebo_report.specs.declared.layout.Paper.{Paper}
 use Rattle.rinqebo_report.specs.declared.report.Asked.{Asked}
 use Rattle.rinqebo_report.specs.declared.report.Content.{Content}
 use Rattle.rinqebo_report.specs.declared.report.Content.TheVariants as contents
@@ -76,58 +77,58 @@ passed_stop P (Ok answer) fault same is = tt
 passed_stop P (Err told) fault same is = subst P (sym same) is
 
 -- the lines of tests, and those of one more
-pub tests_text-push : (head : Report) (tint : Colour) (tests : List TestRows) (rows : TestRows)
-    → tests_text head tint (tests ++ rows ∷ [])
-    ≡ tests_text head tint tests ++ page_text tint (listed_runs (string_bytes head.root) head.sources.items rows)
-tests_text-push head tint tests rows =
-    let lines = listed_runs (string_bytes head.root) head.sources.items in
-    ap (page_text tint)
+pub tests_text-push : (head : Report) (paper : Paper) (tests : List TestRows) (rows : TestRows)
+    → tests_text head paper (tests ++ rows ∷ [])
+    ≡ tests_text head paper tests ++ page_text paper.colour (listed_runs paper.columns (string_bytes head.root) head.sources.items rows)
+tests_text-push head paper tests rows =
+    let lines = listed_runs paper.columns (string_bytes head.root) head.sources.items in
+    ap (page_text paper.colour)
     (flat_map-append lines tests (rows ∷ []) ∙ ap (λ rs. flat_map lines tests ++ rs) (append-nil (lines rows)))
-    ∙ flat_map-append (painted tint) (flat_map lines tests) (lines rows)
+    ∙ flat_map-append (painted paper.colour) (flat_map lines tests) (lines rows)
 
 -- one more test went out
-pub one_more : (head : Report) (tint : Colour) (tests more : List TestRows) (rows : TestRows) (lines : List ℕ)
+pub one_more : (head : Report) (paper : Paper) (tests more : List TestRows) (rows : TestRows) (lines : List ℕ)
     (old mid new : Option (List ℕ)) → more ≡ tests ++ rows ∷ []
-    → lines ≡ page_text tint (listed_runs (string_bytes head.root) head.sources.items rows)
-    → Appends old mid (tests_text head tint tests) → Appends mid new lines
-    → Appends old new (tests_text head tint more)
-one_more head tint tests more rows lines old mid new are shown before after =
+    → lines ≡ page_text paper.colour (listed_runs paper.columns (string_bytes head.root) head.sources.items rows)
+    → Appends old mid (tests_text head paper tests) → Appends mid new lines
+    → Appends old new (tests_text head paper more)
+one_more head paper tests more rows lines old mid new are shown before after =
     subst (Appends old new)
-    (ap (λ text. tests_text head tint tests ++ text) shown ∙ sym (tests_text-push head tint tests rows)
-    ∙ ap (tests_text head tint) (sym are))
-    (Appends-trans old mid new (tests_text head tint tests) lines before after)
+    (ap (λ text. tests_text head paper tests ++ text) shown ∙ sym (tests_text-push head paper tests rows)
+    ∙ ap (tests_text head paper) (sym are))
+    (Appends-trans old mid new (tests_text head paper tests) lines before after)
 
 -- what is asked went out, then the tests, and then what stands behind them
-pub whole_page : (head : Report) (tint : Colour) (asked : Asked) (tests : List TestRows) (unused : List Origin)
+pub whole_page : (head : Report) (paper : Paper) (asked : Asked) (tests : List TestRows) (unused : List Origin)
     (count : ℕ) (old first mid new : Option (List ℕ)) → count ≡ length tests
-    → Appends old first (page_text tint (list_head_runs asked))
-    → Appends first mid (tests_text head tint tests)
-    → Appends mid new (page_text tint (list_end_runs (string_bytes head.root) head.sources.items count unused))
-    → Appends old new (page_text tint (list_runs (string_bytes head.root) head.sources.items asked tests unused))
-whole_page head tint asked tests unused count old first mid new all header before after =
+    → Appends old first (page_text paper.colour (list_head_runs paper.columns asked))
+    → Appends first mid (tests_text head paper tests)
+    → Appends mid new (page_text paper.colour (list_end_runs paper.columns (string_bytes head.root) head.sources.items count unused))
+    → Appends old new (page_text paper.colour (list_runs paper.columns (string_bytes head.root) head.sources.items asked tests unused))
+whole_page head paper asked tests unused count old first mid new all header before after =
     let root = string_bytes head.root in
     let sources = head.sources.items in
-    let lines = flat_map (listed_runs root sources) tests in
-    let ending : ℕ → List ℕ = λ n. page_text tint (list_end_runs root sources n unused) in
-    let opening = page_text tint (list_head_runs asked) in
+    let lines = flat_map (listed_runs paper.columns root sources) tests in
+    let ending : ℕ → List ℕ = λ n. page_text paper.colour (list_end_runs paper.columns root sources n unused) in
+    let opening = page_text paper.colour (list_head_runs paper.columns asked) in
     subst (Appends old new)
-    (ap (λ n. opening ++ (tests_text head tint tests ++ ending n)) all
+    (ap (λ n. opening ++ (tests_text head paper tests ++ ending n)) all
     ∙ ap (λ text. opening ++ text)
-    (sym (flat_map-append (painted tint) lines (list_end_runs root sources (length tests) unused)))
-    ∙ sym (flat_map-append (painted tint) (list_head_runs asked)
-    (lines ++ list_end_runs root sources (length tests) unused)))
-    (Appends-trans old first new opening (tests_text head tint tests ++ ending count) header
-    (Appends-trans first mid new (tests_text head tint tests) (ending count) before after))
+    (sym (flat_map-append (painted paper.colour) lines (list_end_runs paper.columns root sources (length tests) unused)))
+    ∙ sym (flat_map-append (painted paper.colour) (list_head_runs paper.columns asked)
+    (lines ++ list_end_runs paper.columns root sources (length tests) unused)))
+    (Appends-trans old first new opening (tests_text head paper tests ++ ending count) header
+    (Appends-trans first mid new (tests_text head paper tests) (ending count) before after))
 
 -- the tests so far went out
 pub first_so_far : (basis : Basis) (mode : NextestRunMode) (profile : EvaluatableModel Filter) (asked : RequestedSettings)
-    (head : Report) (tint : Colour) (listed : List ListedTest) (i : ℕ) (tests : List TestRows)
+    (head : Report) (paper : Paper) (listed : List ListedTest) (i : ℕ) (tests : List TestRows)
     (old new : Option (List ℕ))
     → AllZip (λ test. IsTestReported basis (query_in filter_holds profile (list_test_view test).test) mode profile asked
     (list_test_view test)) (take i listed) tests
-    → Appends old new (tests_text head tint tests)
-    → AreFirstWritten basis filter_holds mode profile asked (map list_test_view listed) head tint old new
-first_so_far basis mode profile asked head tint listed i tests old new told page =
+    → Appends old new (tests_text head paper tests)
+    → AreFirstWritten basis filter_holds mode profile asked (map list_test_view listed) head paper old new
+first_so_far basis mode profile asked head paper listed i tests old new told page =
     let Told : ListTest → TestRows → Type 0 =
     λ t. IsTestReported basis (query_in filter_holds profile t.test) mode profile asked t in
     record {
@@ -140,10 +141,10 @@ first_so_far basis mode profile asked head tint listed i tests old new told page
 
 -- all tests went out
 pub all_first : (basis : Basis) (mode : NextestRunMode) (profile : EvaluatableModel Filter) (asked : RequestedSettings)
-    (head : Report) (tint : Colour) (list : List ListTest) (tests : List TestRows) (old new : Option (List ℕ))
-    → AreTestsReported basis filter_holds mode profile asked list tests → Appends old new (tests_text head tint tests)
-    → AreFirstWritten basis filter_holds mode profile asked list head tint old new
-all_first basis mode profile asked head tint list tests old new told page = record {
+    (head : Report) (paper : Paper) (list : List ListTest) (tests : List TestRows) (old new : Option (List ℕ))
+    → AreTestsReported basis filter_holds mode profile asked list tests → Appends old new (tests_text head paper tests)
+    → AreFirstWritten basis filter_holds mode profile asked list head paper old new
+all_first basis mode profile asked head paper list tests old new told page = record {
   count = length list;
   tests = tests;
   are_reported = subst (λ first. AreTestsReported basis filter_holds mode profile asked first tests)
@@ -153,9 +154,9 @@ all_first basis mode profile asked head tint list tests old new told page = reco
 
 -- no test went out yet
 pub none_first : (basis : Basis) (mode : NextestRunMode) (profile : EvaluatableModel Filter) (asked : RequestedSettings)
-    (head : Report) (tint : Colour) (list : List ListTest) (old new : Option (List ℕ)) → old ≡ new
-    → AreFirstWritten basis filter_holds mode profile asked list head tint old new
-none_first basis mode profile asked head tint list old new same = record {
+    (head : Report) (paper : Paper) (list : List ListTest) (old new : Option (List ℕ)) → old ≡ new
+    → AreFirstWritten basis filter_holds mode profile asked list head paper old new
+none_first basis mode profile asked head paper list old new same = record {
   count = 0;
   tests = [];
   are_reported = tt;
@@ -165,15 +166,15 @@ none_first basis mode profile asked head tint list old new same = record {
 -- what is asked and the first tests went out by a configuration that was loaded
 pub first_here : (session : Session) (loaded : Loaded (Filterset FieldMatcher) TargetSpec) (name : Name)
     (mode : NextestRunMode) (asked : RequestedSettings) (on : EvaluatableModel (Filterset FieldMatcher))
-    (names chain headed : List Name) (header : Asked) (head : Report) (tint : Colour)
+    (names chain headed : List Name) (header : Asked) (head : Report) (paper : Paper)
     (old mid new : Option (List ℕ))
     → IsProfileOn is_met_by session.engines.platforms (read_by session loaded) name on
     → IsChainAndDefault (parents_in (config_parents loaded.config)) name names → chain ≡ names → headed ≡ names
-    → IsRequestedOf session name mode headed header → Appends old mid (page_text tint (list_head_runs header))
+    → IsRequestedOf session name mode headed header → Appends old mid (page_text paper.colour (list_head_runs paper.columns header))
     → AreFirstWritten (basis_of session chain) (readings session.engines.filters).matches_test mode
-    (profile_meaning (marks_view names_of) on) asked (list_tests (list_view session.tests)) head tint mid new
-    → AreFirstBy session loaded name mode asked tint old new
-first_here session loaded name mode asked on names chain headed header head tint old mid new is ends same same_header
+    (profile_meaning (marks_view names_of) on) asked (list_tests (list_view session.tests)) head paper mid new
+    → AreFirstBy session loaded name mode asked paper old new
+first_here session loaded name mode asked on names chain headed header head paper old mid new is ends same same_header
     is_asked opening first = record {
       head = head;
       profile = profile_meaning (marks_view names_of) on;
@@ -188,17 +189,17 @@ first_here session loaded name mode asked on names chain headed header head tint
       are_reported = subst (λ ns. AreTestsReported (basis_of session ns) (readings session.engines.filters).matches_test mode
           (profile_meaning (marks_view names_of) on) asked (take first.count (list_tests (list_view session.tests)))
           first.tests) same first.are_reported;
-      page = Appends-trans old mid new (page_text tint (list_head_runs header)) (tests_text head tint first.tests) opening
+      page = Appends-trans old mid new (page_text paper.colour (list_head_runs paper.columns header)) (tests_text head paper first.tests) opening
           first.page;
     }
 
 -- the page of a list was begun by what was loaded
-pub begins_list : (session : Session) (profile : Name) (mode : NextestRunMode) (asked : RequestedSettings) (tint : Colour)
+pub begins_list : (session : Session) (profile : Name) (mode : NextestRunMode) (asked : RequestedSettings) (paper : Paper)
     (loaded : Loaded (Filterset FieldMatcher) TargetSpec) (old new : Option (List ℕ)) → AreAccepted session
     → IsLoadedFrom (readings session.engines.filters) (files_view session.gathered.now) loaded
-    → IsIn (names_in loaded.config.profiles) profile → AreFirstBy session loaded profile mode asked tint old new
-    → BeginsList session profile mode asked tint old new
-begins_list session profile mode asked tint loaded old new accepted from there first =
+    → IsIn (names_in loaded.config.profiles) profile → AreFirstBy session loaded profile mode asked paper old new
+    → BeginsList session profile mode asked paper old new
+begins_list session profile mode asked paper loaded old new accepted from there first =
     let engines = readings session.engines.filters in
     let First : ConfigModel Filter Spec → Type 0 =
     λ config. AreFirstOf engines.meets engines.matches_test session.engines.platforms
@@ -207,7 +208,7 @@ begins_list session profile mode asked tint loaded old new accepted from there f
       config = config;
       scripts = loaded.scripts;
     }) profile mode (IsRequestedOf session profile mode) asked session.layers.items
-    (list_tests (list_view session.tests)) tint old new in
+    (list_tests (list_view session.tests)) paper old new in
     record {
       acceptance = accepted;
       scripts = loaded.scripts;
@@ -217,31 +218,31 @@ begins_list session profile mode asked tint loaded old new accepted from there f
     }
 
 -- the page of a list does not speak of what else its report has
-page_of_list : (head : Report) (tint : Colour) (content : Content)
+page_of_list : (head : Report) (paper : Paper) (content : Content)
     (P : List TestRows → List Origin → ListScripts → Type 0) (old new : Option (List ℕ)) → IfListed content P
-    → Appends old new (page_text tint (content_runs head content))
-    → Appends old new (rendered (record head { content = content }) formats.Text tint)
-page_of_list head tint (contents.List asked tests unused scripts) P old new listed page = page
-page_of_list head tint _ P old new listed page = absurd listed
+    → Appends old new (page_text paper.colour (content_runs paper.columns head content))
+    → Appends old new (rendered (record head { content = content }) formats.Text paper)
+page_of_list head paper (contents.List asked tests unused scripts) P old new listed page = page
+page_of_list head paper _ P old new listed page = absurd listed
 
 -- the page of a list went out by what was loaded
-pub writes_list : (session : Session) (profile : Name) (mode : NextestRunMode) (asked : RequestedSettings) (tint : Colour)
+pub writes_list : (session : Session) (profile : Name) (mode : NextestRunMode) (asked : RequestedSettings) (paper : Paper)
     (head : Report) (content : Content) (loaded : Loaded (Filterset FieldMatcher) TargetSpec)
     (old new : Option (List ℕ)) → AreAccepted session
     → IsLoadedFrom (readings session.engines.filters) (files_view session.gathered.now) loaded
     → IsIn (names_in loaded.config.profiles) profile → IsReportOf session head
     → IfListed content (listed_by session loaded profile mode asked)
     → IsRequestedIn session (parents_in (config_parents loaded.config)) profile mode content
-    → IsLookedUp session profile → Appends old new (page_text tint (content_runs head content))
-    → WritesList session profile mode asked tint old new
-writes_list session profile mode asked tint head content loaded old new accepted from there about listed requested looked
+    → IsLookedUp session profile → Appends old new (page_text paper.colour (content_runs paper.columns head content))
+    → WritesList session profile mode asked paper old new
+writes_list session profile mode asked paper head content loaded old new accepted from there about listed requested looked
     page = record {
       report = record head { content = content };
       about = record { root = about.root; sources = about.sources };
       tells = tells_tests session profile mode asked (record head { content = content }) content loaded accepted from there
           refl listed requested;
       looked_up = looked;
-      page = page_of_list head tint content (listed_by session loaded profile mode asked) old new listed page;
+      page = page_of_list head paper content (listed_by session loaded profile mode asked) old new listed page;
     }
 
 -- why a list was not written whole, in other words
@@ -280,15 +281,15 @@ looked_list (questions.List profile mode file settings) list session asks looked
     subst (λ p. IsLookedUp session p) asks.0 looked
 looked_list _ list session asks looked = absurd asks
 
-begins_page : (q : Question) (list : RequestedList) (session : Session) (tint : Colour) (old new : Option (List ℕ))
+begins_page : (q : Question) (list : RequestedList) (session : Session) (paper : Paper) (old new : Option (List ℕ))
     → AsksList q list
-    → BeginsList session list.profile.now list.mode list.settings.now tint old new
-    → BeginsPage q session tint old new
-begins_page (questions.List profile mode file settings) list session tint old new asks begins =
-    subst (λ p. BeginsList session p mode settings tint old new) asks.0
-    (subst (λ m. BeginsList session list.profile.now m settings tint old new) asks.1
-    (subst (λ s. BeginsList session list.profile.now list.mode s tint old new) asks.2 begins))
-begins_page _ list session tint old new asks begins = absurd asks
+    → BeginsList session list.profile.now list.mode list.settings.now paper old new
+    → BeginsPage q session paper old new
+begins_page (questions.List profile mode file settings) list session paper old new asks begins =
+    subst (λ p. BeginsList session p mode settings paper old new) asks.0
+    (subst (λ m. BeginsList session list.profile.now m settings paper old new) asks.1
+    (subst (λ s. BeginsList session list.profile.now list.mode s paper old new) asks.2 begins))
+begins_page _ list session paper old new asks begins = absurd asks
 
 fails_about : (q : Question) (list : RequestedList) (session : Session) (failure : Failure) → AsksList q list
     → IsFailureOn session list.profile.now failure → IsFailureIn session q failure
@@ -305,7 +306,7 @@ zero_answers _ list asks = absurd asks
 pub list_reported : (request : Request) (gathered : Gathered) (list : RequestedList) (session : Session)
     (old new : Option (List ℕ)) → IsSessionOf request gathered session → AsksList request.question list
     → request.format ≡ formats.Text
-    → WritesList session list.profile.now list.mode list.settings.now request.colour old new
+    → WritesList session list.profile.now list.mode list.settings.now request.paper old new
     → Tells request gathered 0 old new
 list_reported request gathered list session old new begun asks is_text writes = record {
   report = writes.report;
@@ -316,7 +317,7 @@ list_reported request gathered list session old new begun asks is_text writes = 
     answers = answers_list request.question list session writes.report asks writes.tells;
     looked_up = looked_list request.question list session asks writes.looked_up;
   };
-  page = subst (λ format. Appends old new (rendered writes.report format request.colour)) (sym is_text) writes.page;
+  page = subst (λ format. Appends old new (rendered writes.report format request.paper)) (sym is_text) writes.page;
 }
 
 -- why a list of a session was not written whole is why that of the request was not
@@ -324,11 +325,11 @@ pub list_stopped : (request : Request) (gathered : Gathered) (list : RequestedLi
     (old new : Option (List ℕ)) (fault : ListFault) → IsSessionOf request gathered session
     → AsksList request.question list → request.format ≡ formats.Text
     → StopsList (IsFailureOn session list.profile.now)
-    (BeginsList session list.profile.now list.mode list.settings.now request.colour old new) old new fault
+    (BeginsList session list.profile.now list.mode list.settings.now request.paper old new) old new fault
     → StopsList (Fails request gathered) (IsBegun request gathered old new) old new fault
 list_stopped request gathered list session old new fault begun asks is_text stop =
     stops_so (IsFailureOn session list.profile.now) (Fails request gathered)
-    (BeginsList session list.profile.now list.mode list.settings.now request.colour old new)
+    (BeginsList session list.profile.now list.mode list.settings.now request.paper old new)
     (IsBegun request gathered old new) old new fault
     (λ failure cause. inr (record {
       session = session;
@@ -339,7 +340,7 @@ list_stopped request gathered list session old new fault begun asks is_text stop
       session = session;
       of_request = begun;
       is_text = is_text;
-      page = begins_page request.question list session request.colour old new asks begins;
+      page = begins_page request.question list session request.paper old new asks begins;
     }) stop
 
 -- what a run ends with whose list was not written whole is a status

@@ -63,4 +63,4 @@ pub record Tells (request : Request) (gathered : Gathered) (status : ℕ)
     (old new : Option (List ℕ)) : Type 0 where
   pub report : Report
   pub is_answer : IsAnswer request gathered report status
-  pub page : Appends old new (rendered report request.format request.colour)
+  pub page : Appends old new (rendered report request.format request.paper)

@@ -16,10 +16,11 @@ use Rattle.rinqebo_files.specs.declared.files.Gathered.{Gathered}
 use Rattle.rinqebo_files.specs.declared.layers.Layer.{Layer}
 use Rattle.rinqebo_rules.specs.TestOrigins.{Basis}
 use Rattle.rinqebo_rules.specs.Rows.{AreTestsReported}
-use Rattle.rinqebo_report.specs.Pages.{list_head_runs, listed_runs}
+use Rattle.rinqebo_report.specs.Headers.{list_head_runs}
+use Rattle.rinqebo_report.specs.Pages.{listed_runs}
 use Rattle.rinqebo_report.specs.Pieces.{page_text}
 use Rattle.rinqebo_report.specs.declared.format.Format.TheVariants as formats
-use Rattle.rinqebo_report.specs.declared.piece.Colour.{Colour}
+use Rattle.rinqebo_report.specs.declared.layout.Paper.{Paper}
 use Rattle.rinqebo_report.specs.declared.report.Asked.{Asked}
 use Rattle.rinqebo_report.specs.declared.report.Report.{Report}
 use Rattle.rinqebo_report.specs.declared.report.TestRows.{TestRows}
@@ -38,19 +39,20 @@ use Rattle.rinqebo_run.specs.TellsReasons.{configured_by}
 use Rattle.rinqebo_load.specs.declared.session.Session.{Session}
 
 -- the lines of tests on the page of a report
-abbrev pub tests_text : Report → Colour → List TestRows → List ℕ
-tests_text head tint tests =
-    page_text tint (flat_map (listed_runs (string_bytes head.root) head.sources.items) tests)
+abbrev pub tests_text : Report → Paper → List TestRows → List ℕ
+tests_text head paper tests =
+    page_text paper.colour
+    (flat_map (listed_runs paper.columns (string_bytes head.root) head.sources.items) tests)
 
 -- The first tests of a list went out, each whole and told as a profile gives it settings: known bytes
 -- grew by their lines on the page of a report, and by nothing else.
 pub record AreFirstWritten {M : Type 0} (basis : Basis) (matches : M → Test → M → Bool)
     (mode : NextestRunMode) (profile : EvaluatableModel M) (asked : RequestedSettings)
-    (list : List ListTest) (head : Report) (tint : Colour) (old new : Option (List ℕ)) : Type 0 where
+    (list : List ListTest) (head : Report) (paper : Paper) (old new : Option (List ℕ)) : Type 0 where
   pub count : ℕ
   pub tests : List TestRows
   pub are_reported : AreTestsReported basis matches mode profile asked (take count list) tests
-  pub page : Appends old new (tests_text head tint tests)
+  pub page : Appends old new (tests_text head paper tests)
 
 -- What is asked went out in a line, of which something says whether it is what is asked with a chain
 -- of profiles, and then the first tests of a list, as the profile of a name gives them settings on
@@ -58,7 +60,7 @@ pub record AreFirstWritten {M : Type 0} (basis : Basis) (matches : M → Test �
 pub record AreFirstOf {M K P : Type 0} (meets : K → P → Option Bool) (matches : M → Test → M → Bool)
     (platforms : BuildPlatforms P) (configured : Configured M K) (name : Name)
     (mode : NextestRunMode) (IsAsked : List Name → Asked → Type 0) (asked : RequestedSettings)
-    (layers : List Layer) (list : List ListTest) (tint : Colour) (old new : Option (List ℕ))
+    (layers : List Layer) (list : List ListTest) (paper : Paper) (old new : Option (List ℕ))
     : Type 0 where
   pub head : Report
   pub profile : EvaluatableModel M
@@ -71,11 +73,12 @@ pub record AreFirstOf {M K P : Type 0} (meets : K → P → Option Bool) (matche
   pub tests : List TestRows
   pub are_reported : AreTestsReported (record { layers = layers; chain = chain }) matches mode
       profile asked (take count list) tests
-  pub page : Appends old new (page_text tint (list_head_runs header) ++ tests_text head tint tests)
+  pub page : Appends old new
+      (page_text paper.colour (list_head_runs paper.columns header) ++ tests_text head paper tests)
 
 -- The page of a list was begun: what is asked and its first tests went out, by what the files mean.
 pub record BeginsList (session : Session) (profile : Name) (mode : NextestRunMode)
-    (asked : RequestedSettings) (tint : Colour) (old new : Option (List ℕ)) : Type 0 where
+    (asked : RequestedSettings) (paper : Paper) (old new : Option (List ℕ)) : Type 0 where
   -- Every written rule holds of the files.
   pub acceptance : AreAccepted session
   -- Their scripts are those that they define.
@@ -86,13 +89,13 @@ pub record BeginsList (session : Session) (profile : Name) (mode : NextestRunMod
   pub first : AreFirstOf (readings session.engines.filters).meets
       (readings session.engines.filters).matches_test session.engines.platforms
       (configured_by session scripts) profile mode (IsRequestedOf session profile mode) asked
-      session.layers.items (list_tests (list_view session.tests)) tint old new
+      session.layers.items (list_tests (list_view session.tests)) paper old new
 
 -- the page that answers a question was begun: only a list goes out before its end is known
-abbrev pub BeginsPage : Question → Session → Colour → Option (List ℕ) → Option (List ℕ) → Type 0
-BeginsPage (questions.List profile mode list asked) session tint old new =
-    BeginsList session profile.now mode asked tint old new
-BeginsPage _ session tint old new = ⊥
+abbrev pub BeginsPage : Question → Session → Paper → Option (List ℕ) → Option (List ℕ) → Type 0
+BeginsPage (questions.List profile mode list asked) session paper old new =
+    BeginsList session profile.now mode asked paper old new
+BeginsPage _ session paper old new = ⊥
 
 -- The text of a list was begun over the files that were read: a writer was given the line of what is
 -- asked and the lines of its first tests, each whole.
@@ -101,4 +104,4 @@ pub record IsBegun (request : Request) (gathered : Gathered) (old new : Option (
     pub session : Session
     pub of_request : IsSessionOf request gathered session
     pub is_text : request.format ≡ formats.Text
-    pub page : BeginsPage request.question session request.colour old new
+    pub page : BeginsPage request.question session request.paper old new

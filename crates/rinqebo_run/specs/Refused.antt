@@ -124,7 +124,7 @@ pub record TellsFailure (failure : Failure) (request : Request) (status : ℕ)
   pub status_is : status ≡ failure_status failure
   pub report : Report
   pub reported : IsReportOfFailure failure report
-  pub page : Appends old new (rendered report request.format request.colour)
+  pub page : Appends old new (rendered report request.format request.paper)
 
 -- A writer was given the document of why a request is not answered.
 pub record TellsRefusal (request : Request) (gathered : Gathered) (status : ℕ)

@@ -18,7 +18,7 @@ use Rattle.rinqebo_report.specs.Pages.{listed_runs}
 use Rattle.rinqebo_report.specs.Pieces.{page_text}
 use Rattle.rinqebo_report.specs.Rendered.{rendered}
 use Rattle.rinqebo_report.specs.declared.format.Format.TheVariants as formats
-use Rattle.rinqebo_report.specs.declared.piece.Colour.{Colour}
+use Rattle.rinqebo_report.specs.declared.layout.Paper.{Paper}
 use Rattle.rinqebo_report.specs.declared.report.Report.{Report}
 use Rattle.rinqebo_report.specs.declared.report.TestRows.{TestRows}
 use Rattle.rinqebo_request.specs.declared.request.RequestedSettings.{RequestedSettings}
@@ -50,16 +50,16 @@ AsksList _ asked = ⊥
 -- One more test is told, and these are its lines on the page of a report.
 pub record AddsTest {M : Type 0} (basis : Basis) (query : QueryContext M) (mode : NextestRunMode)
     (profile : EvaluatableModel M) (asked : RequestedSettings) (test : ListTest) (head : Report)
-    (tint : Colour) (old new : List TestRows) (lines : List ℕ) : Type 0 where
+    (paper : Paper) (old new : List TestRows) (lines : List ℕ) : Type 0 where
   pub rows : TestRows
   pub are_reported : IsTestReported basis query mode profile asked test rows
   pub added : new ≡ old ++ rows ∷ []
-  pub shown : lines ≡ page_text tint
-      (listed_runs (string_bytes head.root) head.sources.items rows)
+  pub shown : lines ≡ page_text paper.colour
+      (listed_runs paper.columns (string_bytes head.root) head.sources.items rows)
 
 -- what is asked and the first tests of a list went out by a configuration that was loaded
 abbrev pub AreFirstBy : Session → Loaded (Filterset FieldMatcher) TargetSpec → Name
-    → NextestRunMode → RequestedSettings → Colour → Option (List ℕ) → Option (List ℕ) → Type 0
+    → NextestRunMode → RequestedSettings → Paper → Option (List ℕ) → Option (List ℕ) → Type 0
 AreFirstBy session loaded profile mode asked =
     AreFirstOf (readings session.engines.filters).meets
     (readings session.engines.filters).matches_test session.engines.platforms
@@ -69,12 +69,12 @@ AreFirstBy session loaded profile mode asked =
 
 -- The page of a list went out whole. Each filter that is evaluated for it was looked up.
 pub record WritesList (session : Session) (profile : Name) (mode : NextestRunMode)
-    (asked : RequestedSettings) (tint : Colour) (old new : Option (List ℕ)) : Type 0 where
+    (asked : RequestedSettings) (paper : Paper) (old new : Option (List ℕ)) : Type 0 where
   pub report : Report
   pub about : IsReportOf session report
   pub tells : TellsTests session profile mode asked report
   pub looked_up : IsLookedUp session profile
-  pub page : Appends old new (rendered report formats.Text tint)
+  pub page : Appends old new (rendered report formats.Text paper)
 
 -- A list was not written whole: a run refuses for a reason, and nothing went out; or memory ran out,
 -- and the first tests went out, or nothing; or a write failed.

@@ -16,7 +16,8 @@ ghost use Rattle.nextest_lists.specs.ListView.{list_test_view, list_view};
 ghost use Rattle.nextest_lists.specs.Lists.{all_tests, list_tests};
 ghost use Rattle.rinqebo_rules.specs.Rows.{AreTestsReported};
 ghost use Rattle.rinqebo_rules.specs.Unused.{AreUnusedIn};
-ghost use Rattle.rinqebo_report.specs.Pages.{content_runs, list_end_runs, list_head_runs};
+ghost use Rattle.rinqebo_report.specs.Headers.{list_head_runs};
+ghost use Rattle.rinqebo_report.specs.Pages.{content_runs, list_end_runs};
 ghost use Rattle.rinqebo_report.specs.Pieces.{page_text};
 ghost use Rattle.rinqebo_run.specs.Listed.{IfListed};
 ghost use Rattle.rinqebo_run.specs.ListedBy.{basis_of, listed_by, places_of};
@@ -37,7 +38,7 @@ use nextest_lists::{ListedTest, queries_of};
 use platform_language::TargetSpecs;
 use rinqebo_load::{Config, Session, chain_of_profile};
 use rinqebo_report::{
-    Asked, Colour, Content, Origin, Report, TestRows, render_list_end, render_list_head,
+    Asked, Content, Origin, Paper, Report, TestRows, render_list_end, render_list_head,
     render_listed,
 };
 use rinqebo_request::RequestedSettings;
@@ -68,7 +69,8 @@ pub struct ListPage<'c, 'g> {
     pub list: RequestedList<'c>,
     /// The report of which it is the page, but for what that answers.
     pub head: &'c Report,
-    pub colour: Colour,
+    /// What it is written on.
+    pub paper: Paper,
 }
 
 /// Writes a text.
@@ -110,12 +112,12 @@ impl<'c> ListPage<'c, '_> {
             asking.now.profile.now in
             IfOk result (λ text. AddsTest origins.old
             (query_in filter_holds profile (test_view test.now.query)) asking.now.mode profile
-            asking.now.asked.now (list_test_view test.now) self.now.head.now self.now.colour
+            asking.now.asked.now (list_test_view test.now) self.now.head.now self.now.paper
             tests.old.items tests.new.items (string_bytes text)) }
         ensures err { OnErr result (tests.new.items ≡ tests.old.items) }
     {
         let rows = asking.rows_of(alloc, test, tally, origins)?;
-        let text = render_listed(alloc, self.head, self.colour, &rows)?;
+        let text = render_listed(alloc, self.head, self.paper, &rows)?;
         tests.push(rows)?;
         Ok(text)
     }
@@ -140,10 +142,10 @@ impl<'c> ListPage<'c, '_> {
             IfOk result (λ rows. AreUnusedIn (map (query_in filter_holds profile)
             (map (λ t. t.test) (map list_test_view listed.now))) profile rows.unused) }
         ensures page { IfOk result (λ rows. Appends (O.contents out.old) (O.contents out.new)
-            (tests_text self.now.head.now self.now.colour rows.tests.items)) }
+            (tests_text self.now.head.now self.now.paper rows.tests.items)) }
         ensures err { IfErr result (StopsList (λ _. ⊥) (AreFirstWritten origins.old filter_holds
             asking.now.mode (profile_meaning (marks_view names_of) asking.now.profile.now)
-            asking.now.asked.now (map list_test_view listed.now) self.now.head.now self.now.colour
+            asking.now.asked.now (map list_test_view listed.now) self.now.head.now self.now.paper
             (O.contents out.old) (O.contents out.new))
             (O.contents out.old) (O.contents out.new)) }
     {
@@ -178,12 +180,12 @@ impl<'c> ListPage<'c, '_> {
             IfOk result (λ rows. AreUnusedIn (map (query_in filter_holds profile)
             (all_tests (list_view self.now.session.now.tests))) profile rows.unused) }
         ensures page { IfOk result (λ rows. Appends (O.contents out.old) (O.contents out.new)
-            (tests_text self.now.head.now self.now.colour rows.tests.items)) }
+            (tests_text self.now.head.now self.now.paper rows.tests.items)) }
         ensures err { IfErr result (StopsList (λ _. ⊥) (AreFirstWritten
             (basis_of self.now.session.now (borrowed_view chain.now)) filter_holds
             self.now.list.mode (profile_meaning (marks_view names_of) on.now)
             self.now.list.settings.now
-            (list_tests (list_view self.now.session.now.tests)) self.now.head.now self.now.colour
+            (list_tests (list_view self.now.session.now.tests)) self.now.head.now self.now.paper
             (O.contents out.old) (O.contents out.new))
             (O.contents out.old) (O.contents out.new)) }
     {
@@ -205,11 +207,11 @@ impl<'c> ListPage<'c, '_> {
         out: &mut O,
     ) -> Result<(), ListFault>
         ensures ok { OnOk result (Appends (O.contents out.old) (O.contents out.new)
-            (page_text self.now.colour (list_head_runs asked.now))) }
+            (page_text self.now.paper.colour (list_head_runs self.now.paper.columns asked.now))) }
         ensures err { IfErr result (StopsList (λ _. ⊥) ⊥
             (O.contents out.old) (O.contents out.new)) }
     {
-        let text = render_list_head(alloc, asked, self.colour)?;
+        let text = render_list_head(alloc, asked, self.paper)?;
         write_text(text.as_str(), out)?;
         Ok(())
     }
@@ -227,13 +229,14 @@ impl<'c> ListPage<'c, '_> {
             AllZip (λ place. IsOriginOf self.now.session.now.layers.items place [])
             (places_of unused.now) origins.items) }
         ensures page { IfOk result (λ origins. Appends (O.contents out.old) (O.contents out.new)
-            (page_text self.now.colour (list_end_runs (string_bytes self.now.head.now.root)
-            self.now.head.now.sources.items count origins.items))) }
+            (page_text self.now.paper.colour (list_end_runs self.now.paper.columns
+            (string_bytes self.now.head.now.root) self.now.head.now.sources.items count
+            origins.items))) }
         ensures err { IfErr result (StopsList (λ _. ⊥) ⊥
             (O.contents out.old) (O.contents out.new)) }
     {
         let origins = unused_origins(alloc, &self.session.layers, unused)?;
-        let text = render_list_end(alloc, self.head, self.colour, count, &origins)?;
+        let text = render_list_end(alloc, self.head, self.paper, count, &origins)?;
         write_last(text.as_str(), out)?;
         Ok(origins)
     }
@@ -253,11 +256,12 @@ impl<'c> ListPage<'c, '_> {
             (parents_in (config_parents self.now.config.now.config)) self.now.list.profile.now
             self.now.list.mode) }
         ensures page { IfOk result (λ content. Appends (O.contents out.old) (O.contents out.new)
-            (page_text self.now.colour (content_runs self.now.head.now content))) }
+            (page_text self.now.paper.colour
+            (content_runs self.now.paper.columns self.now.head.now content))) }
         ensures err { IfErr result (StopsList (λ _. ⊥) (AreFirstBy self.now.session.now
             self.now.config.now self.now.list.profile.now self.now.list.mode
             self.now.list.settings.now
-            self.now.colour (O.contents out.old) (O.contents out.new))
+            self.now.paper (O.contents out.old) (O.contents out.new))
             (O.contents out.old) (O.contents out.new)) }
     {
         let chain = chain_of_profile(alloc, self.config, self.list.profile)?;

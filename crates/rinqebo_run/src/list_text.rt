@@ -17,7 +17,7 @@ use nextest_config::DefaultConfigWarnings;
 use rinqebo_files::Gathered;
 use rinqebo_findings::{report_of, warning_findings};
 use rinqebo_load::Session;
-use rinqebo_report::{Colour, Content, Report, render_findings};
+use rinqebo_report::{Colour, Content, Paper, Report, render_findings};
 use rinqebo_request::Request;
 use std::alloc::Global;
 use std::io::Write;
@@ -46,27 +46,27 @@ fn write_in<O: Write, E: Write>(
     alloc: Global,
     session: &Session<'_>,
     list: &RequestedList<'_>,
-    colour: Colour,
+    paper: Paper,
     shows_progress: bool,
     out: &mut O,
     err: &mut E,
 ) -> Result<(), ListFault>
     ensures ok { OnOk result (WritesList session.now list.now.profile.now list.now.mode
-        list.now.settings.now colour (O.contents out.old) (O.contents out.new)) }
+        list.now.settings.now paper (O.contents out.old) (O.contents out.new)) }
     ensures err { IfErr result (StopsList (IsFailureOn session.now list.now.profile.now)
         (BeginsList session.now list.now.profile.now list.now.mode list.now.settings.now
-        colour (O.contents out.old) (O.contents out.new))
+        paper (O.contents out.old) (O.contents out.new))
         (O.contents out.old) (O.contents out.new)) }
 {
     let mut warnings = DefaultConfigWarnings::new(alloc);
     let config = config_looked_up(alloc, session, list.profile, &mut warnings)?;
-    let head = begin(alloc, session, &warnings, colour, err)?;
+    let head = begin(alloc, session, &warnings, paper.colour, err)?;
     let page = ListPage {
         session,
         config: &config,
         list: *list,
         head: &head,
-        colour,
+        paper,
     };
     let mut progress = ProgressLine::new(&mut *err, shows_progress);
     let written = page.write(alloc, &mut progress, out);
@@ -99,7 +99,7 @@ pub fn write_list<O: Write, E: Write>(
         alloc,
         &session,
         list,
-        request.colour,
+        request.paper,
         request.shows_progress,
         out,
         err,

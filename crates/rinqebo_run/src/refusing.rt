@@ -20,7 +20,7 @@ fn profile_message(
     report: &Report,
     request: &Request<'_>,
 ) -> Result<String, AllocError> {
-    let mut message = render_findings(alloc, report, request.colour)?;
+    let mut message = render_findings(alloc, report, request.paper.colour)?;
     if let Some(variable) = request.profile_source.variable() {
         let note = format!(in alloc; "note: `{variable}` names the profile\n")?;
         message.push_str(note.as_str())?;
@@ -38,17 +38,17 @@ pub fn refuse<E: Write>(alloc: Global, failure: &Failure, request: &Request<'_>,
             refuse_message(message, Status::Usage as u8, err)
         }
         Failure::Refused(report) => {
-            refuse_with(alloc, report, request.colour, Status::Refused as u8, err)
+            refuse_with(alloc, report, request.paper.colour, Status::Refused as u8, err)
         }
         Failure::NoProfile(report) => {
             let message = profile_message(alloc, report, request);
             refuse_message(message, Status::Missing as u8, err)
         }
         Failure::NoTest(report) => {
-            refuse_with(alloc, report, request.colour, Status::Missing as u8, err)
+            refuse_with(alloc, report, request.paper.colour, Status::Missing as u8, err)
         }
         Failure::SeveralTests(report) => {
-            refuse_with(alloc, report, request.colour, Status::Usage as u8, err)
+            refuse_with(alloc, report, request.paper.colour, Status::Usage as u8, err)
         }
         Failure::Memory => refuse_for_memory(err),
     }
@@ -95,9 +95,9 @@ fn refuse_page<O: Write, E: Write>(
     ensures quiet { (result ≡ status) ⊎ (result ≡ 6)
         ⊎ (O.contents out.new ≡ O.contents out.old) }
     ensures page { (result ≡ 5) ⊎ (result ≡ 6) ⊎ Appends (O.contents out.old) (O.contents out.new)
-        (rendered report.now request.now.format request.now.colour) }
+        (rendered report.now request.now.format request.now.paper) }
 {
-    match render(alloc, report, request.format, request.colour) {
+    match render(alloc, report, request.format, request.paper) {
         Ok(text) => tell(text.as_str(), status, out),
         Err(_) => refuse_for_memory(err),
     }

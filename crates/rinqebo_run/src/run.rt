@@ -202,7 +202,7 @@ fn notes_on(
     gathered: &Gathered,
     answer: &Answer,
 ) -> Result<String, AllocError> {
-    let mut notes = notes_of(alloc, &answer.report, request.format, request.colour)?;
+    let mut notes = notes_of(alloc, &answer.report, request.format, request.paper.colour)?;
     add_unset(alloc, request, answer, &mut notes)?;
     add_read_files(alloc, request, gathered, answer, &mut notes)?;
     add_note(request, answer, &mut notes)?;
@@ -222,13 +222,13 @@ fn tell_answer<O: Write, E: Write>(
     ensures quiet { (result ≡ answer.now.status) ⊎ (result ≡ 6)
         ⊎ (O.contents out.new ≡ O.contents out.old) }
     ensures page { (result ≡ 5) ⊎ (result ≡ 6) ⊎ Appends (O.contents out.old) (O.contents out.new)
-        (rendered answer.now.report request.now.format request.now.colour) }
+        (rendered answer.now.report request.now.format request.now.paper) }
 {
     let report = &answer.report;
     let Ok(notes) = notes_on(alloc, request, gathered, answer) else {
         return refuse_for_memory(err);
     };
-    let Ok(text) = render(alloc, report, request.format, request.colour) else {
+    let Ok(text) = render(alloc, report, request.format, request.paper) else {
         return refuse_for_memory(err);
     };
     let told = tell(notes.as_str(), Status::Success as u8, err);

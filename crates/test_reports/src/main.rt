@@ -42,7 +42,8 @@
 //! | `print FORM ..` | what is printed: `text`, `colour`, `grouped`, `json`, `findings`, `concise`, `coloured-concise` or `github:FOLDER` |
 //! | `nearest NAME KNOWN ..` | the known name that is nearest to a name is printed |
 //!
-//! A range is the line and the column of its start, and then those of its end.
+//! A range is the line and the column of its start, and then those of its end. A page has 200
+//! columns, or as many as stand behind its form and a colon, as in `text:40`.
 //!
 //! A line of another form is reported on standard error, and the status is 2.
 #![tactic(auto)]

@@ -1,7 +1,7 @@
 //! What is printed of a line.
 use crate::builder::Builder;
 use crate::line::{Line, RowError};
-use rinqebo_report::{Colour, Format, Report, nearest_name, render, render_findings};
+use rinqebo_report::{Colour, Format, Paper, Report, nearest_name, render, render_findings};
 use std::alloc::{AllocError, Global};
 
 /// What is printed of a line: of most, nothing.
@@ -43,22 +43,50 @@ fn nearest(alloc: Global, line: &Line) -> Result<String, RowError> {
     Ok(text)
 }
 
+/// How many columns a page has, where a form does not say it.
+const COLUMNS: usize = 200;
+
+/// The name of a form and the number of columns behind it, as in `text:40`.
+fn parted(form: &str) -> Result<(&str, usize), RowError> {
+    match form.split_once(':') {
+        Some((name, columns)) => Ok((name, columns.parse::<usize>().ok().ok_or(RowError::NoRow)?)),
+        None => Ok((form, COLUMNS)),
+    }
+}
+
 /// A report in a form.
 fn in_form(alloc: Global, report: &Report, form: &str) -> Result<String, RowError> {
-    let text = match form {
-        "text" => render(alloc, report, Format::Text, Colour::Plain)?,
-        "colour" => render(alloc, report, Format::Text, Colour::Coloured)?,
-        "grouped" => render(alloc, report, Format::Grouped, Colour::Plain)?,
-        "json" => render(alloc, report, Format::Json, Colour::Plain)?,
+    if let Some(folder) = form.strip_prefix("github:") {
+        return Ok(render(alloc, report, Format::Github(folder), plain(COLUMNS))?);
+    }
+    let (name, columns) = parted(form)?;
+    let text = match name {
+        "text" => render(alloc, report, Format::Text, plain(columns))?,
+        "colour" => render(alloc, report, Format::Text, coloured(columns))?,
+        "grouped" => render(alloc, report, Format::Grouped, plain(columns))?,
+        "json" => render(alloc, report, Format::Json, plain(columns))?,
         "findings" => render_findings(alloc, report, Colour::Plain)?,
-        "concise" => render(alloc, report, Format::Concise, Colour::Plain)?,
-        "coloured-concise" => render(alloc, report, Format::Concise, Colour::Coloured)?,
-        _ => match form.strip_prefix("github:") {
-            Some(folder) => render(alloc, report, Format::Github(folder), Colour::Plain)?,
-            None => return Err(RowError::NoRow),
-        },
+        "concise" => render(alloc, report, Format::Concise, plain(columns))?,
+        "coloured-concise" => render(alloc, report, Format::Concise, coloured(columns))?,
+        _ => return Err(RowError::NoRow),
     };
     Ok(text)
+}
+
+/// Paper without colours.
+fn plain(columns: usize) -> Paper {
+    Paper {
+        colour: Colour::Plain,
+        columns,
+    }
+}
+
+/// Paper with colours.
+fn coloured(columns: usize) -> Paper {
+    Paper {
+        colour: Colour::Coloured,
+        columns,
+    }
 }
 
 /// Adds the lines of a text, each behind two spaces, with `\e` in place of an escape.

@@ -12,7 +12,7 @@ pub struct Setup<'a> {
     pub runs: Vec<&'a str>,
 }
 
-/// The environment of a case without variables.
+/// The environment of a case, without variables but `COLUMNS`, which is so large that rows fit.
 fn environment_in(alloc: Global, folder: &str) -> Result<Environment, AllocError> {
     Ok(Environment {
         folder: String::from_str(alloc, folder)?,
@@ -20,6 +20,7 @@ fn environment_in(alloc: Global, folder: &str) -> Result<Environment, AllocError
         target: None,
         colour: None,
         no_colour: None,
+        columns: Some(String::from_str(alloc, "200")?),
         workflow_folder: None,
         setup_scripts: None,
         wrapper_scripts: None,
@@ -35,7 +36,12 @@ impl<'a> Setup<'a> {
         let (word, rest) = line.split_once(' ').unwrap_or((line, ""));
         match word {
             "folder" => self.environment.folder = String::from_str(alloc, rest)?,
-            "set" => self.set_variable(alloc, line, rest)?,
+            "set" => {
+                let (name, value) = rest.split_once(' ').unwrap_or((rest, ""));
+                let value = String::from_str(alloc, value)?;
+                self.put_variable(line, name, Some(value))?;
+            }
+            "unset" => self.put_variable(line, rest, None)?,
             "terminal" => self.environment.is_terminal = true,
             "closes-after" => {
                 self.output_room = rest.parse::<usize>().ok().ok_or(CaseError::Line(line))?;
@@ -47,20 +53,19 @@ impl<'a> Setup<'a> {
         Ok(())
     }
 
-    /// Sets a variable of the environment.
-    fn set_variable(
+    /// Sets a variable of the environment, or removes it.
+    fn put_variable(
         &mut self,
-        alloc: Global,
         line: &'a str,
-        rest: &str,
+        name: &str,
+        value: Option<String>,
     ) -> Result<(), CaseError<'a>> {
-        let (name, value) = rest.split_once(' ').unwrap_or((rest, ""));
-        let value = Some(String::from_str(alloc, value)?);
         match name {
             "NEXTEST_PROFILE" => self.environment.profile = value,
             "CARGO_BUILD_TARGET" => self.environment.target = value,
             "CARGO_TERM_COLOR" => self.environment.colour = value,
             "NO_COLOR" => self.environment.no_colour = value,
+            "COLUMNS" => self.environment.columns = value,
             "GITHUB_WORKSPACE" => self.environment.workflow_folder = value,
             "NEXTEST_EXPERIMENTAL_SETUP_SCRIPTS" => self.environment.setup_scripts = value,
             "NEXTEST_EXPERIMENTAL_WRAPPER_SCRIPTS" => self.environment.wrapper_scripts = value,

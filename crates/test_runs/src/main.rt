@@ -1,13 +1,14 @@
 //! Runs cases of `rinqebo` over files in memory, and prints what each run ends with.
 //!
 //! The cases come on standard input, as the crate `test_cases` reads them. A case begins in the folder
-//! `/w`, without variables. A file at the path `-` is standard input. Each line of a case that is not
-//! about its files is one of these:
+//! `/w`, without variables but `COLUMNS`, which is 200. A file at the path `-` is standard input. Each
+//! line of a case that is not about its files is one of these:
 //!
 //! | Line | What it says |
 //! |---|---|
 //! | `folder PATH` | the folder that the program runs in |
 //! | `set NAME VALUE` | a variable of the environment |
+//! | `unset NAME` | a variable that is not set |
 //! | `terminal` | standard output is a terminal |
 //! | `closes-after N` | standard output takes N bytes and is then closed |
 //! | `error-terminal` | standard error is a terminal |

@@ -4,6 +4,7 @@ use Rattle.rinqebo_report.proofs.config_page.add_config.Goals as goal
 
 pub loop-entry-preserved : goal.loop-entry-preserved
 loop-entry-preserved c =
-    page_more c.args.colour (entry_runs c.args.root.now c.args.sources.now c.widest_entry-widest.result)
+    page_more c.args.paper.colour
+    (entry_runs c.args.paper.columns c.args.root.now c.args.sources.now c.entry_column-keys.result)
     c.args.entries.now c.loop-entry.entry-index c.entry-item.result c.loop-entry-test.true c.entry-item.is
     _ _ _ c.loop-entry.invariant c.in_ok-add_entry.ensures

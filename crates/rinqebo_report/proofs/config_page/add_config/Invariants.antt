@@ -6,4 +6,5 @@ use Rattle.rinqebo_report.proofs.config_page.add_config.Given as goal
 abbrev pub invariant-loop-entry : goal.invariant-loop-entry
 invariant-loop-entry l =
     string_bytes l.out ≡ string_bytes l.initial.out
-    ++ page_text l.colour (flat_map (entry_runs l.root l.sources l.widest) (take l.entry-index l.entries))
+    ++ page_text l.paper.colour (flat_map (entry_runs l.paper.columns l.root l.sources l.keys)
+    (take l.entry-index l.entries))

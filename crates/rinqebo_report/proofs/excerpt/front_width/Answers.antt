@@ -4,7 +4,7 @@ use Rattle.std.proofs.lemmas.Iterator.{YieldsList-from_chars, YieldsList-from_ta
 use Rattle.std.proofs.lemmas.Iterator.Consumers.{YieldsList-end}
 use Rattle.rinqebo_report.proofs.WholeTexts.{written_whole}
 use Rattle.rinqebo_report.specs.Excerpts.{line_char}
-use Rattle.rinqebo_report.specs.Pages.{width}
+use Rattle.rinqebo_report.specs.Layout.{width}
 use Rattle.rinqebo_report.proofs.excerpt.front_width.Goals as goal
 
 pub returns : goal.returns

@@ -6,5 +6,5 @@ use Rattle.rinqebo_report.proofs.explain_page.add_rows.Given as goal
 abbrev pub invariant-loop-row : goal.invariant-loop-row
 invariant-loop-row l =
     string_bytes l.out ≡ string_bytes l.initial.out
-    ++ page_text l.colour (flat_map (row_runs l.root l.sources l.widest)
+    ++ page_text l.paper.colour (flat_map (row_runs l.paper.columns l.root l.sources l.keys)
     (take l.row-index l.test.settings.items))

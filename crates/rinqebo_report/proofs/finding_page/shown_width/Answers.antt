@@ -3,7 +3,7 @@ use Rattle.std.proofs.Common.{[], string_bytes, ap, ◌∙◌}
 use Rattle.std.proofs.lemmas.Iterator.{YieldsList-from_chars, YieldsList-from_take}
 use Rattle.std.proofs.lemmas.Iterator.Consumers.{YieldsList-end}
 use Rattle.rinqebo_report.proofs.WholeTexts.{written_whole}
-use Rattle.rinqebo_report.specs.Pages.{width}
+use Rattle.rinqebo_report.specs.Layout.{width}
 use Rattle.rinqebo_report.specs.Pieces.{shown_char}
 use Rattle.rinqebo_report.proofs.finding_page.shown_width.Goals as goal
 

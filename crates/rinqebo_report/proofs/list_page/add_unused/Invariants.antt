@@ -6,4 +6,4 @@ use Rattle.rinqebo_report.proofs.list_page.add_unused.Given as goal
 abbrev pub invariant-loop-origin : goal.invariant-loop-origin
 invariant-loop-origin l =
     string_bytes l.out ≡ string_bytes l.initial.out
-    ++ page_text l.colour (flat_map (unused_runs l.root l.sources) (take l.origin-index l.unused))
+    ++ page_text l.paper.colour (flat_map (unused_runs l.paper.columns l.root l.sources) (take l.origin-index l.unused))

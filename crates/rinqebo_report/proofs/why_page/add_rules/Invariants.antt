@@ -6,4 +6,5 @@ use Rattle.rinqebo_report.proofs.why_page.add_rules.Given as goal
 abbrev pub invariant-loop-place : goal.invariant-loop-place
 invariant-loop-place l =
     string_bytes l.out ≡ string_bytes l.initial.out
-    ++ page_text l.colour (rules_runs l.root l.sources l.key 0 (take l.place l.rules))
+    ++ page_text l.paper.colour (rules_runs l.paper.columns l.root l.sources l.key 0
+    (take l.place l.rules))

@@ -42,7 +42,7 @@ returns-clause-page g c =
     let self = c.args.self.now in
     let rows = c.in_ok-rows.rows in
     let all : c.len.result ≡ length rows.tests.items = omega (arith, rows.tests.ok.0) in
-    whole_page self.head.now self.colour c.in_ok-asked.asked c.in_ok-rows.rows.tests.items c.in_ok-unused.unused.items
+    whole_page self.head.now self.paper c.in_ok-asked.asked c.in_ok-rows.rows.tests.items c.in_ok-unused.unused.items
     _ _ _ _ _ all c.in_ok-write_head.ensures.ok c.in_ok-rows.ensures.page c.in_ok-unused.ensures.page
 
 pub returns-in_err-write_head-clause-err : goal.returns-in_err-write_head-clause-err
@@ -54,7 +54,7 @@ returns-in_err-write_head-clause-err g c =
     passed_stop _ c.from_residual-in_err-write_head.result c.in_err-write_head.field-0.0
     c.from_residual-in_err-write_head.ensures.1
     (stops_so (λ _. ⊥) (λ _. ⊥) ⊥
-    (AreFirstBy self.session.now self.config.now list.profile.now list.mode list.settings.now self.colour old new)
+    (AreFirstBy self.session.now self.config.now list.profile.now list.mode list.settings.now self.paper old new)
     old new c.in_err-write_head.field-0.0 (λ _ none. none) (λ none. absurd none) c.in_err-write_head.ensures.err)
 
 pub returns-in_err-rows-clause-err : goal.returns-in_err-rows-clause-err
@@ -67,17 +67,17 @@ returns-in_err-rows-clause-err g c =
     let profile = profile_meaning (marks_view names_of) c.in_ok-on.on in
     let tests = list_tests (list_view self.session.now.tests) in
     let basis = basis_of self.session.now (borrowed_view c.deref-2.result.now) in
-    let First = AreFirstWritten basis filter_holds list.mode profile list.settings.now tests self.head.now self.colour
+    let First = AreFirstWritten basis filter_holds list.mode profile list.settings.now tests self.head.now self.paper
     mid new in
     let here = first_here self.session.now self.config.now list.profile.now list.mode list.settings.now c.in_ok-on.on
     (borrowed_view c.in_ok-chain.chain.items) (borrowed_view c.deref-2.result.now) _ c.in_ok-asked.asked self.head.now
-    self.colour old mid new c.in_ok-on.ensures (c.in_ok-chain.ensures c.requires) (ap borrowed_view c.deref-2.ensures.value)
+    self.paper old mid new c.in_ok-on.ensures (c.in_ok-chain.ensures c.requires) (ap borrowed_view c.deref-2.ensures.value)
     (ap borrowed_view c.deref.ensures.value) c.in_ok-asked.ensures c.in_ok-write_head.ensures.ok in
     passed_stop _ c.from_residual-in_err-rows.result c.in_err-rows.field-0.0 c.from_residual-in_err-rows.ensures.1
     (stops_behind First
-    (AreFirstBy self.session.now self.config.now list.profile.now list.mode list.settings.now self.colour old new)
+    (AreFirstBy self.session.now self.config.now list.profile.now list.mode list.settings.now self.paper old new)
     old mid new c.in_err-rows.field-0.0 here
-    (λ same. here (none_first basis list.mode profile list.settings.now self.head.now self.colour tests mid new same))
+    (λ same. here (none_first basis list.mode profile list.settings.now self.head.now self.paper tests mid new same))
     c.in_err-rows.ensures.err)
 
 pub returns-in_err-scripts-clause-err : goal.returns-in_err-scripts-clause-err
@@ -93,9 +93,9 @@ returns-in_err-scripts-clause-err g c =
     passed_stop _ c.from_residual-in_err-scripts.result faults.Memory c.from_residual-in_err-scripts.ensures.1
     (inl (first_here self.session.now self.config.now list.profile.now list.mode list.settings.now c.in_ok-on.on
     (borrowed_view c.in_ok-chain.chain.items) (borrowed_view c.deref-2.result.now) _ c.in_ok-asked.asked self.head.now
-    self.colour old mid new c.in_ok-on.ensures (c.in_ok-chain.ensures c.requires) (ap borrowed_view c.deref-2.ensures.value)
+    self.paper old mid new c.in_ok-on.ensures (c.in_ok-chain.ensures c.requires) (ap borrowed_view c.deref-2.ensures.value)
     (ap borrowed_view c.deref.ensures.value) c.in_ok-asked.ensures c.in_ok-write_head.ensures.ok
-    (all_first basis list.mode profile list.settings.now self.head.now self.colour tests
+    (all_first basis list.mode profile list.settings.now self.head.now self.paper tests
     c.in_ok-rows.rows.tests.items mid new c.in_ok-rows.ensures.tests c.in_ok-rows.ensures.page)))
 
 pub returns-in_err-unused-clause-err : goal.returns-in_err-unused-clause-err
@@ -111,14 +111,14 @@ returns-in_err-unused-clause-err g c =
     let basis = basis_of self.session.now (borrowed_view c.deref-2.result.now) in
     passed_stop _ c.from_residual-in_err-unused.result c.in_err-unused.field-0.0 c.from_residual-in_err-unused.ensures.1
     (stops_behind ⊥
-    (AreFirstBy self.session.now self.config.now list.profile.now list.mode list.settings.now self.colour old new)
+    (AreFirstBy self.session.now self.config.now list.profile.now list.mode list.settings.now self.paper old new)
     old last new c.in_err-unused.field-0.0 (λ none. absurd none)
     (λ same. subst
-    (AreFirstBy self.session.now self.config.now list.profile.now list.mode list.settings.now self.colour old) same
+    (AreFirstBy self.session.now self.config.now list.profile.now list.mode list.settings.now self.paper old) same
     (first_here self.session.now self.config.now list.profile.now list.mode list.settings.now c.in_ok-on.on
     (borrowed_view c.in_ok-chain.chain.items) (borrowed_view c.deref-2.result.now) _ c.in_ok-asked.asked self.head.now
-    self.colour old mid last c.in_ok-on.ensures (c.in_ok-chain.ensures c.requires) (ap borrowed_view c.deref-2.ensures.value)
+    self.paper old mid last c.in_ok-on.ensures (c.in_ok-chain.ensures c.requires) (ap borrowed_view c.deref-2.ensures.value)
     (ap borrowed_view c.deref.ensures.value) c.in_ok-asked.ensures c.in_ok-write_head.ensures.ok
-    (all_first basis list.mode profile list.settings.now self.head.now self.colour tests
+    (all_first basis list.mode profile list.settings.now self.head.now self.paper tests
     c.in_ok-rows.rows.tests.items mid last c.in_ok-rows.ensures.tests c.in_ok-rows.ensures.page)))
     c.in_err-unused.ensures.err)

@@ -42,7 +42,7 @@ returns-clause-err g c =
     let new = g.O.Write.contents c.write_tests.new.out in
     let Stops : Basis → List ListTest → Type 0 = λ basis tests. IfErr c.write_tests.result (StopsList (λ _. ⊥)
     (AreFirstWritten basis filter_holds self.list.mode (profile_meaning (marks_view names_of) c.args.on.now)
-    self.list.settings.now tests self.head.now self.colour old new) old new) in
+    self.list.settings.now tests self.head.now self.paper old new) old new) in
     subst (λ basis. Stops basis (list_tests (list_view self.session.now.tests)))
     (basis_here self.session.now c.new-origins.result _ (borrowed_view c.args.chain.now) c.new-origins.ensures
     c.deref.ensures.value)

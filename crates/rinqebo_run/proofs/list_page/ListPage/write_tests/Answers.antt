@@ -29,7 +29,7 @@ loop-test-preserved g c =
       told = zip_more_by (λ basis test. IsTestReported basis (query_in filter_holds profile (list_test_view test).test)
           asking.mode profile asking.asked.now (list_test_view test)) c.args.origins.now c.loop-test.origins before.same listed i _ _
           c.loop-test-test.true refl _ _ _ before.told adds.are_reported adds.added;
-      page = one_more c.args.self.now.head.now c.args.self.now.colour c.loop-test.tests.items
+      page = one_more c.args.self.now.head.now c.args.self.now.paper c.loop-test.tests.items
           c.take_test.new.tests.items adds.rows c.as_str.result.now _ _ _ adds.added
           (c.as_str.ensures.value ∙ adds.shown) before.page c.in_ok-write_text.ensures.ok;
     }
@@ -53,7 +53,7 @@ returns-in_err-text-clause-err g c =
     let before = c.loop-test.invariant in
     passed_stop _ c.from_residual.result faults.Memory c.from_residual.ensures.1
     (inl (first_so_far c.args.origins.now asking.mode (profile_meaning (marks_view names_of) asking.profile.now) asking.asked.now
-    self.head.now self.colour c.args.listed.now c.loop-test.test-index c.loop-test.tests.items _ _ before.told
+    self.head.now self.paper c.args.listed.now c.loop-test.test-index c.loop-test.tests.items _ _ before.told
     before.page))
 
 pub returns-in_err-unused-clause-err : goal.returns-in_err-unused-clause-err
@@ -63,7 +63,7 @@ returns-in_err-unused-clause-err g c =
     let before = c.loop-test.invariant in
     passed_stop _ c.from_residual-in_err-unused.result faults.Memory c.from_residual-in_err-unused.ensures.1
     (inl (first_so_far c.args.origins.now asking.mode (profile_meaning (marks_view names_of) asking.profile.now) asking.asked.now
-    self.head.now self.colour c.args.listed.now c.loop-test.test-index c.loop-test.tests.items _ _ before.told
+    self.head.now self.paper c.args.listed.now c.loop-test.test-index c.loop-test.tests.items _ _ before.told
     before.page))
 
 pub returns-in_err-queries-clause-err : goal.returns-in_err-queries-clause-err
@@ -73,7 +73,7 @@ returns-in_err-queries-clause-err g c =
     let before = c.loop-test.invariant in
     passed_stop _ c.from_residual-in_err-queries.result faults.Memory c.from_residual-in_err-queries.ensures.1
     (inl (first_so_far c.args.origins.now asking.mode (profile_meaning (marks_view names_of) asking.profile.now) asking.asked.now
-    self.head.now self.colour c.args.listed.now c.loop-test.test-index c.loop-test.tests.items _ _ before.told
+    self.head.now self.paper c.args.listed.now c.loop-test.test-index c.loop-test.tests.items _ _ before.told
     before.page))
 
 pub returns-clause-unused : goal.returns-clause-unused

@@ -22,5 +22,5 @@ invariant-loop-test g l =
           (query_in filter_holds profile (list_test_view test).test) l.asking.mode profile l.asking.asked.now
           (list_test_view test)) listed l.tests.items;
       page : Appends (g.O.Write.contents l.initial.out) (g.O.Write.contents l.out)
-          (tests_text l.self.head.now l.self.colour l.tests.items);
+          (tests_text l.self.head.now l.self.paper l.tests.items);
     }
