@@ -116,5 +116,5 @@ pub fn resolve(alloc: Global, request: &[u8], answer: &mut [u8], needed: &mut us
     ensures done { result ≡ DONE → IsAnswerTo request.now (take needed.new answer.new) }
     ensures kept { IsSilent result → answer.new ≡ answer.old }
 {
-    ending_for(alloc, request).tell(answer, needed)
+    ending_for(alloc, request).report(answer, needed)
 }

@@ -12,7 +12,7 @@ use Rattle.rinqebo_session.specs.Needs.{lacks}
 use Rattle.rinqebo_session.specs.declared.needs.Needs.{Needs}
 use Rattle.rinqebo_session.specs.declared.profile.Opened.{Opened}
 use Rattle.rinqebo_session.specs.declared.status.TheConstants.{NOT_KNOWN, NOT_TEXT, UNKNOWN_NUMBER}
-use Rattle.rinqebo_session.specs.declared.test.RequestedTest.{RequestedTest}
+use Rattle.rinqebo_session.specs.declared.test.CallerTest.{CallerTest}
 use Rattle.rinqebo_session.specs.declared.test.TestFault.{TestFault}
 use Rattle.rinqebo_session.specs.declared.test.TestFault.TheVariants.{NotKnown, NotText, UnknownNumber}
 
@@ -36,7 +36,7 @@ needs_on opened Host = opened.for_host
 needs_on opened Target = opened.for_target
 
 -- the binary of a test, on a platform
-abbrev pub binary_of : RequestedTest → BuildPlatform → Binary
+abbrev pub binary_of : CallerTest → BuildPlatform → Binary
 binary_of asked platform = record {
   package_id = asked.package.now;
   binary_id = asked.binary.now;
@@ -47,7 +47,7 @@ binary_of asked platform = record {
 
 -- A test is the one that is asked of, in a mode: its bytes are the texts, and its numbers stand for
 -- the platform and the mode.
-pub record IsTestOf (asked : RequestedTest) (test : Test) (mode : NextestRunMode) : Type 0 where
+pub record IsTestOf (asked : CallerTest) (test : Test) (mode : NextestRunMode) : Type 0 where
   pub platform : platform_numbered asked.platform ≡ Some test.binary.platform
   pub in_mode : mode_numbered asked.mode ≡ Some mode
   pub binary : test.binary ≡ binary_of asked test.binary.platform
@@ -58,13 +58,13 @@ abbrev pub IsNoText : List ℕ → TestFault → Type 0
 IsNoText bytes fault = (fault ≡ NotText) × (¬ IsUtf8 bytes)
 
 -- some bytes of a test's binary are no text, and that is the fault
-abbrev pub IsBytesFault : RequestedTest → TestFault → Type 0
+abbrev pub IsBytesFault : CallerTest → TestFault → Type 0
 IsBytesFault asked fault =
     IsNoText asked.package.now fault ⊎ IsNoText asked.binary.now fault
     ⊎ IsNoText asked.kind.now fault ⊎ IsNoText asked.target.now fault
 
 -- a test is not understood: a number of it stands for nothing, or some bytes of it are no text
-abbrev pub IsTestFault : RequestedTest → TestFault → Type 0
+abbrev pub IsTestFault : CallerTest → TestFault → Type 0
 IsTestFault asked UnknownNumber =
     (platform_numbered asked.platform ≡ None) ⊎ (mode_numbered asked.mode ≡ None)
 IsTestFault asked NotText =
@@ -73,13 +73,13 @@ IsTestFault asked NotKnown = ⊥
 
 -- A test is one that an open profile knows enough of: it is the one that is asked of, and gives each
 -- part that a filter asks for.
-pub record IsKnownTest (opened : Opened) (asked : RequestedTest) (test : Test)
+pub record IsKnownTest (opened : Opened) (asked : CallerTest) (test : Test)
     (mode : NextestRunMode) : Type 0 where
   pub is_test : IsTestOf asked test mode
   pub known : lacks (needs_on opened test.binary.platform) asked ≡ false
 
 -- A test is not known: it is understood, and lacks a part that a filter asks for.
-pub record IsUnknownTest (opened : Opened) (asked : RequestedTest) : Type 0 where
+pub record IsUnknownTest (opened : Opened) (asked : CallerTest) : Type 0 where
   pub test : Test
   pub mode : NextestRunMode
   pub is_test : IsTestOf asked test mode
@@ -87,7 +87,7 @@ pub record IsUnknownTest (opened : Opened) (asked : RequestedTest) : Type 0 wher
 
 -- why an open profile has no settings of a test: the test is not understood, or it lacks a part that
 -- a filter asks for
-abbrev pub IsFaultIn : Opened → RequestedTest → TestFault → Type 0
+abbrev pub IsFaultIn : Opened → CallerTest → TestFault → Type 0
 IsFaultIn opened asked NotKnown = IsUnknownTest opened asked
 IsFaultIn opened asked NotText = IsTestFault asked NotText
 IsFaultIn opened asked UnknownNumber = IsTestFault asked UnknownNumber

@@ -12,7 +12,7 @@ use Rattle.nextest_settings.specs.Platforms.{EvaluatedRule, is_on}
 use Rattle.nextest_settings.specs.Profile.{EvaluatableModel}
 use Rattle.rinqebo_session.specs.Readings.{filter_meaning}
 use Rattle.rinqebo_session.specs.declared.needs.Needs.{Needs}
-use Rattle.rinqebo_session.specs.declared.test.RequestedTest.{RequestedTest}
+use Rattle.rinqebo_session.specs.declared.test.CallerTest.{CallerTest}
 
 -- whether a filter asks for a field
 abbrev pub filter_asks : Field → Filterset FieldMatcher → Bool
@@ -49,7 +49,7 @@ abbrev pub is_missing : Bool → List ℕ → Bool
 is_missing is_asked given = is_asked && (length given == 0)
 
 -- whether a test lacks something that is asked for
-abbrev pub lacks : Needs → RequestedTest → Bool
+abbrev pub lacks : Needs → CallerTest → Bool
 lacks needs asked =
     is_missing needs.package asked.package.now
     || (is_missing needs.binary asked.binary.now

@@ -5,7 +5,7 @@ ghost use Rattle.std.specs.Prelude.{◌≡◌, ◌||◌, false, option_map};
 ghost use Rattle.nextest_settings.specs.View.{evaluated_override_view, evaluated_script_rule_view};
 ghost use Rattle.rinqebo_session.specs.Needs.{asked_on, filter_asks, is_missing, lacks, rule_asks, AreNeeds};
 
-use crate::test::RequestedTest;
+use crate::test::CallerTest;
 use filter_engine::{Field, FieldMatcher, Filterset, NextestFilters};
 use nextest_config::{
     BuildPlatform, EvaluatableProfile, EvaluatedOverride, EvaluatedRules, EvaluatedScriptRule,
@@ -164,7 +164,7 @@ impl Needs {
     }
 
     /// Whether a test lacks one of them.
-    pub fn are_missing(&self, test: &RequestedTest<'_>) -> bool
+    pub fn are_missing(&self, test: &CallerTest<'_>) -> bool
         ensures { result ≡ lacks self.now test.now }
     {
         is_missing(self.package, test.package)

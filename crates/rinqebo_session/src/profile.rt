@@ -20,7 +20,7 @@ use crate::needs::Needs;
 use crate::session::Session;
 use crate::settings::{SettingNumbers, numbers_of};
 use crate::status::{BAD_SIZE, DONE, UNKNOWN_NUMBER};
-use crate::test::{Asked, RequestedTest, TestFault};
+use crate::test::{Asked, CallerTest, TestFault};
 use filter_engine::{NextestFilters, NextestTally};
 use indexmap::IndexMap;
 use nextest_config::{
@@ -191,17 +191,17 @@ fn not_opened<'a>(alloc: Global, failure: OpenFailure) -> Profile<'a>
 }
 
 /// Whether the size in a test is that of this version.
-fn is_sized(test: &RequestedTest<'_>) -> bool
+fn is_sized(test: &CallerTest<'_>) -> bool
     ensures { IsTrue result ↔ (test.now.size ≡ test_size) }
 {
-    test.size == size_of::<RequestedTest<'static>>()
+    test.size == size_of::<CallerTest<'static>>()
 }
 
 /// Whether the sizes in a test and in settings are those of this version.
-fn are_sized(test: &RequestedTest<'_>, settings: &SettingNumbers) -> bool
+fn are_sized(test: &CallerTest<'_>, settings: &SettingNumbers) -> bool
     ensures { IsTrue result ↔ AreSized test.now settings.now }
 {
-    test.size == size_of::<RequestedTest<'static>>() && settings.size == size_of::<SettingNumbers>()
+    test.size == size_of::<CallerTest<'static>>() && settings.size == size_of::<SettingNumbers>()
 }
 
 /// The argument of an index, if there is one.
@@ -248,7 +248,7 @@ impl Opened<'_> {
     }
 
     /// The test, where it is understood and gives each part that a filter asks for.
-    fn known<'t>(&self, test: &RequestedTest<'t>) -> Result<Asked<'t>, TestFault>
+    fn known<'t>(&self, test: &CallerTest<'t>) -> Result<Asked<'t>, TestFault>
         ensures ok { IfOk result (λ asked.
             IsKnownTest self.now test.now (test_view asked.query) asked.mode) }
         ensures err { IfErr result (IsFaultIn self.now test.now) }
@@ -262,7 +262,7 @@ impl Opened<'_> {
     }
 
     /// The settings of a test, as numbers.
-    fn answer(&self, test: &RequestedTest<'_>) -> Result<SettingNumbers, TestFault>
+    fn answer(&self, test: &CallerTest<'_>) -> Result<SettingNumbers, TestFault>
         ensures ok { IfOk result (IsAnswerOf self.now test.now) }
         ensures err { IfErr result (IsFaultIn self.now test.now) }
     {
@@ -276,7 +276,7 @@ impl Opened<'_> {
     }
 
     /// Writes the settings of a test, as numbers, or returns why there are none.
-    fn write_answer(&self, test: &RequestedTest<'_>, settings: &mut SettingNumbers) -> u32
+    fn write_answer(&self, test: &CallerTest<'_>, settings: &mut SettingNumbers) -> u32
         ensures answers { AnswersTest self.now test.now settings.new result }
         ensures kept { result ≢ DONE → settings.new ≡ settings.old }
     {
@@ -290,7 +290,7 @@ impl Opened<'_> {
     }
 
     /// The argument of an index that a test is given, if it is given so many.
-    fn argument(&self, test: &RequestedTest<'_>, index: usize) -> Result<Option<&str>, TestFault>
+    fn argument(&self, test: &CallerTest<'_>, index: usize) -> Result<Option<&str>, TestFault>
         ensures ok { IfOk result (λ text.
             IsArgumentOf self.now test.now index (option_map (λ text. text.now) text)) }
         ensures err { IfErr result (IsFaultIn self.now test.now) }
@@ -307,7 +307,7 @@ impl Opened<'_> {
     /// Copies out the argument of an index that a test is given, or returns why there is none.
     fn copy_argument(
         &self,
-        test: &RequestedTest<'_>,
+        test: &CallerTest<'_>,
         index: usize,
         out: &mut [u8],
         needed: &mut usize,
@@ -360,7 +360,7 @@ impl<'a> Profile<'a> {
     }
 
     /// Writes the settings of a test, as numbers, where the profile is open.
-    fn ask_if_open(&self, test: &RequestedTest<'_>, settings: &mut SettingNumbers) -> u32
+    fn ask_if_open(&self, test: &CallerTest<'_>, settings: &mut SettingNumbers) -> u32
         ensures answers { AnswersBy self.now.outcome test.now settings.new result }
         ensures kept { result ≢ DONE → settings.new ≡ settings.old }
     {
@@ -373,7 +373,7 @@ impl<'a> Profile<'a> {
     /// Writes the settings of a test, as numbers, and returns how it went. Where the size in one of
     /// the two is not this version's, or there are no settings, nothing is written. It takes no
     /// memory.
-    pub fn ask(&self, test: &RequestedTest<'_>, settings: &mut SettingNumbers) -> u32
+    pub fn ask(&self, test: &CallerTest<'_>, settings: &mut SettingNumbers) -> u32
         ensures { Answers self.now test.now settings.old settings.new result }
     {
         if !are_sized(test, settings) {
@@ -385,7 +385,7 @@ impl<'a> Profile<'a> {
     /// Copies out the argument of an index that a test is given, where the profile is open.
     fn copy_argument_if_open(
         &self,
-        test: &RequestedTest<'_>,
+        test: &CallerTest<'_>,
         index: usize,
         out: &mut [u8],
         needed: &mut usize,
@@ -402,7 +402,7 @@ impl<'a> Profile<'a> {
     /// Copies out the argument of an index that a test is given. It takes no memory.
     pub fn copy_argument(
         &self,
-        test: &RequestedTest<'_>,
+        test: &CallerTest<'_>,
         index: usize,
         out: &mut [u8],
         needed: &mut usize,

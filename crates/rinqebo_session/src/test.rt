@@ -9,7 +9,7 @@ use nextest_config::{BinaryQuery, BuildPlatform, NextestRunMode, TestQuery};
 /// A test, and what is known of its binary. Its texts are UTF-8.
 #[repr(C)]
 #[derive(Clone, Copy, Debug, Drop)]
-pub struct RequestedTest<'a> {
+pub struct CallerTest<'a> {
     /// The size of the struct, as the caller has it.
     pub size: usize,
     /// The id of the binary's package, as cargo writes it.
@@ -92,7 +92,7 @@ fn text_of(bytes: &[u8]) -> Result<&str, TestFault>
     }
 }
 
-impl<'a> RequestedTest<'a> {
+impl<'a> CallerTest<'a> {
     /// The binary, on a platform.
     fn binary_query(&self, platform: BuildPlatform) -> Result<BinaryQuery<'a>, TestFault>
         ensures ok { IfOk result (λ query. binary_view query ≡ binary_of self.now platform) }
