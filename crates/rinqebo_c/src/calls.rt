@@ -71,8 +71,8 @@ pub extern "C" fn rinqebo_run_size() -> usize
     size_of::<Run>()
 }
 
-/// Makes the run that a request in JSON asks for, in room for a run. It always leaves a run there,
-/// whose status says how it ended.
+/// Makes the run of a request in JSON, in room for a run. It always leaves a run there, whose
+/// status says how it ended.
 #[unsafe(no_mangle)]
 pub unsafe extern "C" fn rinqebo_run_new(alloc: Global, request: &[u8], room: *mut u8)
     // The room has the size and the alignment of a run, and holds none.

@@ -32,7 +32,8 @@ pub record IsAboutTest (session : Session) (requested : RequestedTest) (Holds : 
 -- A report and a status are the result of a request in a session.
 abbrev pub AnswersQuestion : Question → Session → Report → ℕ → Type 0
 AnswersQuestion (questions.Explain profile test asked) session report status =
-    (status ≡ 0) × IsAboutTest session test (λ found. Explains session profile.now found asked report)
+    (status ≡ 0) × IsAboutTest session test
+    (λ found. Explains session profile.now found asked report)
 AnswersQuestion (questions.Why profile test setting) session report status =
     (status ≡ 0) × IsAboutTest session test
     (λ found. TellsReasons session profile.now found setting report)

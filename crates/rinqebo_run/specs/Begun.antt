@@ -48,7 +48,8 @@ tests_text head paper tests =
 -- gives it: known bytes grew by their lines on the page of a report, and by nothing else.
 pub record AreFirstWritten {M : Type 0} (basis : Basis) (matches : M → Test → M → Bool)
     (mode : NextestRunMode) (profile : EvaluatableModel M) (asked : RequestedSettings)
-    (list : List ListTest) (head : Report) (paper : Paper) (old new : Option (List ℕ)) : Type 0 where
+    (list : List ListTest) (head : Report) (paper : Paper) (old new : Option (List ℕ))
+    : Type 0 where
   pub count : ℕ
   pub tests : List TestRows
   pub are_reported : AreTestsReported basis matches mode profile asked (take count list) tests

@@ -77,15 +77,15 @@ pub record IsFilterRuleReported (layers : List Layer) (matches : Bool) (found : 
   pub value : option_map value_view rule.value ≡ default_value (is_decision verdict) matches
 
 -- a report lists overrides that have a default filter, with verdicts
-abbrev pub AreFilterRulesReported : List Layer → Bool → List FilterRule → List RuleVerdict → List Rule
-    → Type 0
+abbrev pub AreFilterRulesReported :
+    List Layer → Bool → List FilterRule → List RuleVerdict → List Rule → Type 0
 AreFilterRulesReported layers matches rules given told = AllZip
     (λ (p : FilterRule × RuleVerdict). IsFilterRuleReported layers matches p.0 p.1)
     (zip rules given) told
 
 -- the same of rules as code holds them
-abbrev pub AreHeldReported : List Layer → Bool → List SettingRule → List RuleVerdict → List Rule
-    → Type 0
+abbrev pub AreHeldReported :
+    List Layer → Bool → List SettingRule → List RuleVerdict → List Rule → Type 0
 AreHeldReported layers matches rules given told = AllZip
     (λ (p : SettingRule × RuleVerdict).
     IsFilterRuleReported layers matches (filter_rule_view p.0) p.1)

@@ -328,14 +328,16 @@ fn answer_list<O: Write, E: Write>(
 }
 
 /// Runs a request over the files that it names, and returns the exit status: 0, or 1 for warnings
-/// that are denied and where no leaf is found, 2 for platforms and metadata that are not understood
-/// and for several tests of the name, 3 where the files are refused, 4 where there is no such profile
-/// or test, 5 for want of memory, 6 where a write fails. Nothing goes to standard output where a run
-/// refuses, but for the findings of a check, and where the output is JSON for a document of why the
-/// files are refused, a profile or a test is missing, or several tests have the name.
-/// The text of a list goes out as its tests are resolved: where memory runs out meanwhile, it has
-/// the first tests, each whole. Where a request says so, standard error shows how far a list is, on
-/// a line of its own that is gone in the end.
+/// that the user denies and where no leaf is found, 2 for platforms and metadata that are not
+/// understood and for several tests of the name, 3 where the files are refused, 4 where there is no
+/// such profile or test, 5 for want of memory, 6 where a write fails. Standard output receives
+/// nothing where a run refuses, but for the findings of a check, and where the output is JSON for a
+/// document of why the files are refused, a profile or a test is missing, or several tests have the
+/// name.
+///
+/// The program writes the text of a list as it resolves the tests: where memory runs out meanwhile,
+/// the text has the first tests, each whole. Where a request says so, standard error shows how far
+/// the list is, on a line of its own that the program erases in the end.
 pub fn perform<O: Write, E: Write>(
     alloc: Global,
     request: &Request<'_>,

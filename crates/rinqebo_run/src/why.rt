@@ -244,7 +244,8 @@ fn reasons<'c>(
     requires { IsIn (names_in config.now.config.profiles) profile.now }
     ensures requested { IfOk result (IsRequestedIn session.now
         (parents_in (config_parents config.now.config)) profile.now test.now.mode) }
-    ensures told { IfOk result (λ content. IfWhy content (λ named key rules. IsTestNamed test.now named
+    ensures told { IfOk result (λ content. IfWhy content (λ named key rules.
+        IsTestNamed test.now named
         × (key ≡ key_text setting test.now.mode)
         × AreReasonsIn session.now.layers.items is_met_by filter_matches
         session.now.engines.platforms (read_by session.now config.now) profile.now test.now setting

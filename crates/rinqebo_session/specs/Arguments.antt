@@ -18,7 +18,8 @@ use Rattle.rinqebo_session.specs.declared.status.TheConstants.{BAD_SIZE, UNKNOWN
 use Rattle.rinqebo_session.specs.declared.test.CallerTest.{CallerTest}
 use Rattle.rinqebo_session.specs.declared.test.TestFault.{TestFault}
 
--- A text is the argument of an index that a profile gives to a test, or none where it gives no more.
+-- A text is the argument of an index that a profile gives to a test, or there is none if the
+-- profile gives no more.
 pub record IsArgumentOf (opened : Opened) (asked : CallerTest) (index : ℕ)
     (text : Option (List ℕ)) : Type 0 where
   pub test : Test
@@ -34,7 +35,7 @@ IsCopiedOrNone text old new needed status =
     MatchOption text (IsNothingCopied UNKNOWN_NUMBER old new needed status)
     (λ text. IsCopiedOut text old new needed status)
 
--- what an open profile answers: an argument, or the fault of the test
+-- what an open profile returns: an argument, or the fault of the test
 abbrev pub AnswersArgument : Opened → CallerTest → ℕ → List ℕ → List ℕ → ℕ → ℕ → Type 0
 AnswersArgument opened asked index old new needed status =
     ((text : Option (List ℕ)) × IsArgumentOf opened asked index text
@@ -42,7 +43,7 @@ AnswersArgument opened asked index old new needed status =
     ⊎ ((fault : TestFault) × IsFaultIn opened asked fault
     × IsNothingCopied (fault_status fault) old new needed status)
 
--- what a profile answers; where it is not open, the status says why
+-- what a profile returns; where it is not open, the status says why
 abbrev pub AnswersArgumentBy : Result Opened OpenFailure → CallerTest → ℕ → List ℕ → List ℕ → ℕ
     → ℕ → Type 0
 AnswersArgumentBy (Ok opened) asked index old new needed status =
@@ -50,8 +51,8 @@ AnswersArgumentBy (Ok opened) asked index old new needed status =
 AnswersArgumentBy (Err failure) asked index old new needed status =
     IsNothingCopied (open_status failure) old new needed status
 
--- The argument of an index that a profile gives to a test is copied out. Where the size in the test is
--- not this version's, and nowhere else, the status says so.
+-- The argument of an index that a profile gives to a test is copied out. Where the size in the test
+-- is not this version's, and nowhere else, the status says so.
 pub record IsArgumentCopied (profile : Profile) (asked : CallerTest) (index : ℕ)
     (old new : List ℕ) (needed status : ℕ) : Type 0 where
   pub sized : asked.size ≡ test_size

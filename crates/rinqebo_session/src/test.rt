@@ -24,7 +24,7 @@ pub struct CallerTest<'a> {
     pub name: &'a [u8],
     /// For which machine the binary is built: 0 for the host, 1 for the target.
     pub platform: u32,
-    /// For what tests are run: 0 for tests, 1 for benchmarks.
+    /// What tests are run for: 0 for tests, 1 for benchmarks.
     pub mode: u32,
 }
 
@@ -33,9 +33,9 @@ pub struct CallerTest<'a> {
 pub enum TestFault {
     /// A text of it is not valid UTF-8.
     NotText,
-    /// The number of its platform or its mode stands for nothing.
+    /// The number of its platform or its mode has no meaning.
     UnknownNumber,
-    /// A filter of the profile asks for a part of it that is not given.
+    /// A filter of the profile uses a part of it that the caller does not have.
     NotKnown,
 }
 
