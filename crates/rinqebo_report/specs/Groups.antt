@@ -73,7 +73,7 @@ grouped_runs columns root sources asked tests unused =
 
 -- the page of what a command returns, with the tests of a list in groups
 abbrev pub grouped_content_runs : ℕ → Report → Content → List Run
-grouped_content_runs columns report (contents.List asked tests unused scripts) =
+grouped_content_runs columns report (contents.List asked tests unused scripts objects) =
     grouped_runs columns (string_bytes report.root) report.sources.items asked tests.items
     unused.items
 grouped_content_runs columns report content = content_runs columns report content

@@ -466,7 +466,7 @@ content_runs columns report (contents.Explain asked test) =
 content_runs columns report (contents.Why asked test key rules is_ignored) =
     why_runs columns (string_bytes report.root) report.sources.items (string_bytes key)
     rules.items is_ignored
-content_runs columns report (contents.List asked tests unused scripts) =
+content_runs columns report (contents.List asked tests unused scripts objects) =
     list_runs columns (string_bytes report.root) report.sources.items asked tests.items
     unused.items
 content_runs columns report (contents.ShowConfig asked entries) =

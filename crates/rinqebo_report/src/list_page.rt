@@ -2,11 +2,12 @@
 //! test.
 ghost use Rattle.std.specs.Prelude.{◌≡◌, ◌++◌, ◌∷◌, IfOk, OnOk, flat_map, map, option_map, string_bytes};
 ghost use Rattle.serde_json.specs.View.{members_view};
-ghost use Rattle.rinqebo_report.specs.Document.{with_list};
+ghost use Rattle.rinqebo_report.specs.Document.{with_list, with_objects};
 ghost use Rattle.rinqebo_report.specs.Headers.{host_text, mode_part, build_parts, list_head_runs};
 ghost use Rattle.rinqebo_report.specs.Pages.{test_line_runs, listed_runs, unused_line_runs, unused_runs, count_runs, list_end_runs, list_runs};
 ghost use Rattle.rinqebo_report.specs.Pieces.{page_text};
 
+use crate::exact_value::ExactValue;
 use crate::explain_page::{add_host, add_rows, mode_part, profiles_part};
 use crate::header::add_header;
 use crate::json_parts::{origins_json, tests_json, texts_json, wrappers_json};
@@ -254,6 +255,21 @@ pub fn render_list_end(
     Ok(text)
 }
 
+/// Puts among members what a runner needs of a profile as a whole, where it is listed.
+fn put_objects(
+    members: &mut Map<String, Value>,
+    alloc: Global,
+    objects: &Option<ExactValue>,
+) -> Result<(), AllocError>
+    ensures { OnOk result (members_view members.new.entries
+        ≡ with_objects objects.now (members_view members.old.entries)) }
+{
+    match objects {
+        Some(objects) => put(members, alloc, "objects", objects.value.clone()?),
+        None => Ok(()),
+    }
+}
+
 /// Puts among members those of the page of a list.
 pub(crate) fn put_list(
     members: &mut Map<String, Value>,
@@ -262,9 +278,10 @@ pub(crate) fn put_list(
     tests: &[TestRows],
     unused: &[Origin],
     scripts: &ListScripts,
+    objects: &Option<ExactValue>,
 ) -> Result<(), AllocError>
     ensures { OnOk result (members_view members.new.entries
-        ≡ with_list asked.now tests.now unused.now scripts.now
+        ≡ with_list asked.now tests.now unused.now scripts.now objects.now
         (members_view members.old.entries)) }
 {
     put_requested(members, alloc, "list", asked)?;
@@ -273,5 +290,6 @@ pub(crate) fn put_list(
     let setup = texts_json(alloc, &scripts.setup)?;
     put(members, alloc, "setup-scripts", setup)?;
     put(members, alloc, "tests", tests_json(alloc, tests)?)?;
-    put(members, alloc, "unused", origins_json(alloc, unused)?)
+    put(members, alloc, "unused", origins_json(alloc, unused)?)?;
+    put_objects(members, alloc, objects)
 }

@@ -1,4 +1,5 @@
 //! Reports: what commands print.
+use crate::exact_value::ExactValue;
 use crate::finding::Finding;
 use crate::origin::{Origin, Source};
 use crate::value::Value;
@@ -207,6 +208,8 @@ pub enum Content {
         unused: Vec<Origin>,
         /// The scripts that run before the tests, or around the binaries.
         scripts: ListScripts,
+        /// What a runner needs of the profile as a whole, where it is listed. Pages do not show it.
+        objects: Option<ExactValue>,
     },
     /// Leaves of the configuration.
     ShowConfig {
