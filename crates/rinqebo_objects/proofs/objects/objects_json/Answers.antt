@@ -13,8 +13,8 @@ invariant_of-result g c =
     let directories = directories_view around.directories in
     let value = view c.in_ok-value.value in
     record {
-      nests = objects_nest c.args.profile.now.facts c.in_ok-run.run profiles warnings directories value
+      nests = objects_nest c.args.profile.now.facts c.in_ok-run.run' profiles warnings directories value
           c.in_ok-value.ensures;
-      whole = objects_are_whole c.args.profile.now.facts c.in_ok-run.run profiles warnings directories value
+      whole = objects_are_whole c.args.profile.now.facts c.in_ok-run.run' profiles warnings directories value
           c.in_ok-value.ensures;
     }
