@@ -1,0 +1,11 @@
+mod TextParts
+mod Deciding
+mod SameValues
+mod SameOrigins
+mod ClassLists
+mod Reflexive
+mod Exactly
+mod Fair
+mod KeyedRows
+mod WholeGroups
+mod WholeDiffs

@@ -1,0 +1,4 @@
+pub mod Comparing
+pub mod Evaluating
+pub mod Failing
+pub mod EqualSides
