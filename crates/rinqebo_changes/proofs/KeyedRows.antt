@@ -11,7 +11,8 @@ use Rattle.std.specs.Cmp.Lexicographic.{bytes_decides}
 use Rattle.std.specs.List.{All, AllZip, list_any, position_or_len, remove}
 use Rattle.std.specs.List.Sorted.{IsPermutation}
 use Rattle.rinqebo_report.specs.declared.report.SettingRow.{SettingRow}
-use Rattle.rinqebo_changes.specs.Keyed.{is_of, has_key, HaveSameKey, IsAbsent, IsAbsentFor, SaysNothing, IsPlaceOf, IsFound, IsMissing, IsTaken, AreBeside, AreAligned}
+use Rattle.rinqebo_changes.specs.Keyed.{is_of, has_key, KeepsOrder, HaveSameKey, IsAbsent, IsAbsentFor, SaysNothing, IsPlaceOf, IsFound, IsMissing, IsTaken, AreBeside, AreAligned}
+use Rattle.rinqebo_changes.proofs.KeyedOrders.{none_before, order_before, order_behind, order_of_first, order_refl, order_to_front, order_trans}
 
 -- the first row of a key
 place_found : (name : List ℕ) (rows : List SettingRow) → position_or_len (is_of name) rows < length rows
@@ -22,6 +23,7 @@ place_found name rows below = record {
       (subst (λ x. is_of name x ≡ true)
       (get_or_from_slice_get rows (position_or_len (is_of name) rows) row row here)
       (passes_at_first (is_of name) rows row below));
+  first = none_before name rows below;
 }
 
 place_chosen : (name : List ℕ) (rows : List SettingRow) (r : Option ℕ) (b : Bool)
@@ -51,6 +53,10 @@ found_at name rows old place row new same at is left =
     let here : IsPlaceOf name old place = subst (λ rs. IsPlaceOf name rs place) same at in record {
       key = here.key row (slice_get_read old (length old) place row refl here.below is);
       kept = subst (λ rs. IsPermutation old (row ∷ rs)) (sym left) (IsPermutation-remove old place row here.below is);
+      order = subst (λ rs. KeepsOrder old (row ∷ rs)) (sym left) (record {
+        each = order_of_first name old place row here.below is
+            (here.key row (slice_get_read old (length old) place row refl here.below is)) here.first;
+      });
     }
 
 -- no row is put beside none
@@ -59,6 +65,7 @@ beside_none to = record {
   absent = [];
   nothing = All-nil SaysNothing;
   kept = subst (λ rs. IsPermutation rs to) (sym (append-nil to)) (IsPermutation-refl to);
+  order = subst (λ rs. KeepsOrder rs to) (sym (append-nil to)) (order_refl to);
   keys = tt;
   apart = All-nil (λ row. has_key to (string_bytes row.key) ≡ false);
 }
@@ -83,6 +90,9 @@ beside_more to from right rest new i row given lt is are (inl found) = record {
   kept = IsPermutation-trans (to ++ are.absent) (right ++ rest) ((right ++ given ∷ []) ++ new) are.kept
       (subst (IsPermutation (right ++ rest)) (sym (append_assoc right (given ∷ []) new))
       (IsPermutation-append_right right rest (given ∷ new) found.kept));
+  order = order_trans (to ++ are.absent) (right ++ rest) ((right ++ given ∷ []) ++ new) are.order
+      (subst (KeepsOrder (right ++ rest)) (sym (append_assoc right (given ∷ []) new))
+      (order_behind right rest (given ∷ new) found.order));
   keys = all_zip_more HaveSameKey from right i row given lt is are.keys (sym found.key);
   apart = All-weaker (λ a. has_key rest (string_bytes a.key) ≡ false) (λ a. has_key new (string_bytes a.key) ≡ false)
       (λ a none. still_none (string_bytes a.key) rest given new found.kept none) are.absent are.apart;
@@ -97,13 +107,24 @@ beside_more to from right rest new i row given lt is are (inr missing) =
     subst (λ xs. IsPermutation xs ((right ++ given ∷ []) ++ rest)) (sym (append_assoc right rest (given ∷ [])))
     (subst (IsPermutation (right ++ (rest ++ given ∷ []))) (sym (append_assoc right (given ∷ []) rest))
     (IsPermutation-append_right right (rest ++ given ∷ []) (given ∷ rest) behind)) in
+    let first : KeepsOrder ((to ++ are.absent) ++ given ∷ []) ((right ++ rest) ++ given ∷ []) =
+    order_before (to ++ are.absent) (right ++ rest) (given ∷ []) are.order in
+    let second : KeepsOrder ((right ++ rest) ++ given ∷ []) ((right ++ given ∷ []) ++ rest) =
+    subst (λ xs. KeepsOrder xs ((right ++ given ∷ []) ++ rest)) (sym (append_assoc right rest (given ∷ [])))
+    (subst (KeepsOrder (right ++ (rest ++ given ∷ []))) (sym (append_assoc right (given ∷ []) rest))
+    (order_behind right (rest ++ given ∷ []) (given ∷ rest) (order_to_front rest given none))) in
     record {
       absent = are.absent ++ given ∷ [];
-      nothing = All-push SaysNothing are.absent given are.nothing (record { value = missing.absent.value });
+      nothing = All-push SaysNothing are.absent given are.nothing
+          (record { value = missing.absent.value; origins = missing.absent.origins });
       kept = subst (λ rs. IsPermutation (to ++ (are.absent ++ given ∷ [])) ((right ++ given ∷ []) ++ rs)) (sym missing.same)
           (subst (λ xs. IsPermutation xs ((right ++ given ∷ []) ++ rest)) (append_assoc to are.absent (given ∷ []))
           (IsPermutation-trans ((to ++ are.absent) ++ given ∷ []) ((right ++ rest) ++ given ∷ [])
           ((right ++ given ∷ []) ++ rest) one two));
+      order = subst (λ rs. KeepsOrder (to ++ (are.absent ++ given ∷ [])) ((right ++ given ∷ []) ++ rs)) (sym missing.same)
+          (subst (λ xs. KeepsOrder xs ((right ++ given ∷ []) ++ rest)) (append_assoc to are.absent (given ∷ []))
+          (order_trans ((to ++ are.absent) ++ given ∷ []) ((right ++ rest) ++ given ∷ [])
+          ((right ++ given ∷ []) ++ rest) first second));
       keys = all_zip_more HaveSameKey from right i row given lt is are.keys (sym missing.absent.key);
       apart = subst (λ rs. All (Apart rs) (are.absent ++ given ∷ [])) (sym missing.same)
           (All-push (Apart rest) are.absent given are.apart none);
@@ -129,7 +150,7 @@ absent_nothing [] [] all = All-nil SaysNothing
 absent_nothing [] (a ∷ made) all = absurd all
 absent_nothing (r ∷ rs) [] all = absurd all
 absent_nothing (r ∷ rs) (a ∷ made) all =
-    All-cons SaysNothing a made (record { value = all.0.value }) (absent_nothing rs made all.1)
+    All-cons SaysNothing a made (record { value = all.0.value; origins = all.0.origins }) (absent_nothing rs made all.1)
 
 absent_has : (name : List ℕ) (rows absent : List SettingRow) → AllZip IsAbsentFor rows absent
     → has_key absent name ≡ has_key rows name
@@ -148,6 +169,7 @@ aligned_all from to right rest absent left all are made lefts rights = record {
   right_absent = are.absent;
   right_nothing = are.nothing;
   right_rows = subst (IsPermutation (to ++ are.absent)) (sym rights) are.kept;
+  right_order = subst (KeepsOrder (to ++ are.absent)) (sym rights) are.order;
   keys = subst (λ xs. AllZip HaveSameKey xs all) (sym lefts)
       (subst (AllZip HaveSameKey (from ++ absent)) (sym rights)
       (zip_behind HaveSameKey from absent right rest are.keys (absent_keys rest absent made)));

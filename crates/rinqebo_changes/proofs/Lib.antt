@@ -6,6 +6,8 @@ mod ClassLists
 mod Reflexive
 mod Exactly
 mod Fair
+mod KeyedOrders
 mod KeyedRows
+pub mod EqualRows
 mod WholeGroups
 mod WholeDiffs

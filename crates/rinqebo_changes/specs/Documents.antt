@@ -4,7 +4,7 @@ use Rattle.serde_json.specs.Data.{Data, boolean, string, array, object, Members,
 use Rattle.serde_json.specs.View.{items_of}
 use Rattle.serde_json.specs.Written.{compact_text}
 use Rattle.rinqebo_report.specs.Documents.{count_data, text_data, optional_text_data, list_data, optional_value_data, origin_data, source_data, test_id_data}
-use Rattle.rinqebo_report.specs.Pages.{mode_word}
+use Rattle.rinqebo_report.specs.Headers.{mode_word}
 use Rattle.rinqebo_changes.specs.declared.change.RowChange.{RowChange}
 use Rattle.rinqebo_changes.specs.declared.change.SideRow.{SideRow}
 use Rattle.rinqebo_changes.specs.declared.classes.Item.{Item}

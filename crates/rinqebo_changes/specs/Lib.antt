@@ -6,6 +6,8 @@ pub mod Changes
 pub mod Diffs
 pub mod Classes
 pub mod Groups
+pub mod Arrows
+pub mod Heads
 pub mod Pages
 pub mod Documents
 pub mod GithubPage

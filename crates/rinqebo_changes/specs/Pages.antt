@@ -1,17 +1,15 @@
 -- The page of a diff.
-use Rattle.std.specs.Prelude.{◌≡◌, ℕ, ◌==◌, nat_lt, ◌-◌, ◌&&◌, ◌||◌, Bool, true, false, List, [], ◌∷◌, ◌++◌, Option, None, Some, length, slice_get, flat_map, not, codes, bytes_eq, String, string_bytes, if◌then◌else◌}
-use Rattle.std.specs.declared.alloc.Global.{Global}
+use Rattle.std.specs.Prelude.{◌≡◌, ℕ, ◌==◌, nat_lt, ◌&&◌, ◌||◌, Bool, false, List, [], ◌∷◌, ◌++◌, Option, None, Some, length, slice_get, flat_map, not, codes, bytes_eq, string_bytes, if◌then◌else◌}
+use Rattle.rinqebo_report.specs.declared.layout.Paper.{Paper}
 use Rattle.rinqebo_report.specs.declared.origin.Origin.{Origin}
-use Rattle.rinqebo_report.specs.declared.origin.Source.{Source}
-use Rattle.rinqebo_report.specs.declared.piece.Colour.{Colour}
 use Rattle.rinqebo_report.specs.declared.piece.Style.TheVariants as styles
-use Rattle.rinqebo_report.specs.declared.report.Asked.{Asked}
 use Rattle.rinqebo_report.specs.declared.report.TestId.{TestId}
 use Rattle.rinqebo_report.specs.declared.value.Value.{Value}
 use Rattle.rinqebo_report.specs.Joined.{joined}
-use Rattle.rinqebo_report.specs.OriginText.{origin_text, path_at}
-use Rattle.rinqebo_report.specs.Pages.{plain, mode_word}
-use Rattle.rinqebo_report.specs.Pieces.{Run, styled, numbered, ending, page_text}
+use Rattle.rinqebo_report.specs.Layout.{remark_line}
+use Rattle.rinqebo_report.specs.OriginText.{origin_text}
+use Rattle.rinqebo_report.specs.Pages.{plain}
+use Rattle.rinqebo_report.specs.Pieces.{Run, styled, repeated, numbered, ending, page_text}
 use Rattle.rinqebo_report.specs.TomlText.{value_text}
 use Rattle.rinqebo_changes.specs.declared.change.RowChange.{RowChange}
 use Rattle.rinqebo_changes.specs.declared.change.SideRow.{SideRow}
@@ -22,7 +20,9 @@ use Rattle.rinqebo_changes.specs.declared.diff.BinaryTests.{BinaryTests}
 use Rattle.rinqebo_changes.specs.declared.diff.Diff.{Diff}
 use Rattle.rinqebo_changes.specs.declared.diff.Side.{Side}
 use Rattle.rinqebo_changes.specs.declared.groups.Group.{Group}
+use Rattle.rinqebo_changes.specs.Arrows.{arrow_runs}
 use Rattle.rinqebo_changes.specs.Groups.{AreGroups}
+use Rattle.rinqebo_changes.specs.Heads.{head_runs}
 
 -- a value, or that there is none
 abbrev pub setting_text : Option Value → List ℕ
@@ -51,34 +51,35 @@ other_key row =
     if bytes_eq (string_bytes row.from.row.key) (string_bytes row.to.row.key) then []
     else string_bytes row.to.row.key ++ codes ": "
 
--- a line with a setting, and its two values
-abbrev pub value_runs : List ℕ → List ℕ → List ℕ → List ℕ → List Run
-value_runs key from other to =
-    styled styles.Key key ∷ plain (codes ": ") ∷ plain from ∷ plain (codes " -> ")
-    ∷ styled styles.Key other ∷ plain to ∷ ending ∷ []
-
 -- a setting, and its two values
-abbrev pub heading_runs : RowChange → List Run
-heading_runs row =
-    value_runs (string_bytes row.from.row.key) (setting_text row.from.row.value) (other_key row)
-    (setting_text row.to.row.value)
+abbrev pub value_runs : ℕ → List ℕ → List ℕ → List ℕ → List ℕ → List Run
+value_runs columns key from other to =
+    arrow_runs columns 4 styles.Plain
+    (styled styles.Key key ∷ plain (codes ": ") ∷ plain from ∷ [])
+    (styled styles.Key other ∷ plain to ∷ [])
+
+-- a setting that changes, and its two values
+abbrev pub heading_runs : ℕ → RowChange → List Run
+heading_runs columns row =
+    value_runs columns (string_bytes row.from.row.key) (setting_text row.from.row.value)
+    (other_key row) (setting_text row.to.row.value)
 
 -- two origins
-abbrev pub two_site_runs : List ℕ → List ℕ → List Run
-two_site_runs from to =
-    plain (codes "    ") ∷ styled styles.Remark from ∷ styled styles.Remark (codes " -> ")
-    ∷ styled styles.Remark to ∷ ending ∷ []
+abbrev pub two_site_runs : ℕ → List ℕ → List ℕ → List Run
+two_site_runs columns from to =
+    arrow_runs columns 8 styles.Remark (repeated 32 4 ∷ styled styles.Remark from ∷ [])
+    (styled styles.Remark to ∷ [])
 
 -- where the two values come from, if that is known of one
-abbrev pub site_runs : Diff → RowChange → List Run
-site_runs diff row =
+abbrev pub site_runs : ℕ → Diff → RowChange → List Run
+site_runs columns diff row =
     if has_source row.from || has_source row.to
-    then two_site_runs (source_text diff.from row.from) (source_text diff.to row.to)
+    then two_site_runs columns (source_text diff.from row.from) (source_text diff.to row.to)
     else []
 
 -- a change
-abbrev pub change_runs : Diff → RowChange → List Run
-change_runs diff row = heading_runs row ++ site_runs diff row
+abbrev pub change_runs : ℕ → Diff → RowChange → List Run
+change_runs columns diff row = heading_runs columns row ++ site_runs columns diff row
 
 -- the names of a test
 abbrev pub names_runs : List ℕ → List ℕ → List Run
@@ -136,51 +137,10 @@ binaries_runs binaries lists_all classes =
     flat_map (λ class. binary_runs binaries lists_all class.items.items) classes
 
 -- a group: what changes, and its tests
-abbrev pub group_runs : Diff → Bool → Group → List Run
-group_runs diff lists_all group =
-    change_runs diff group.head.row.now
+abbrev pub group_runs : ℕ → Diff → Bool → Group → List Run
+group_runs columns diff lists_all group =
+    change_runs columns diff group.head.row.now
     ++ binaries_runs diff.binaries.items lists_all group.binaries.items
-
--- the target, if there is one
-abbrev pub target_text : Option (String Global) → List ℕ
-target_text None = []
-target_text (Some target) = codes ", target " ++ string_bytes target
-
--- that a host is only assumed
-abbrev pub assumed_text : Bool → List ℕ
-assumed_text assumed = if assumed then codes " (assumed)" else []
-
--- the profile, mode and platforms of a side
-abbrev pub asked_text : Asked → List ℕ
-asked_text asked =
-    codes "profile " ++ (joined (codes " < ") string_bytes asked.chain.items ++ (codes ", "
-    ++ (mode_word asked.mode ++ (codes ", " ++ (string_bytes asked.host
-    ++ (assumed_text asked.assumes_host ++ target_text asked.target))))))
-
--- the file of a side that lies above all others, or the defaults
-abbrev pub file_text : Side → List ℕ
-file_text side =
-    path_at (string_bytes side.root) side.sources.items (length side.sources.items - 1)
-
--- a line that is said beside
-abbrev pub remark_runs : List ℕ → List Run
-remark_runs text = styled styles.Remark text ∷ ending ∷ []
-
--- what is the same on both sides, or what each side has
-abbrev pub both_text : List ℕ → List ℕ → List ℕ
-both_text from to =
-    if bytes_eq from to then codes "# " ++ from
-    else codes "# from " ++ (from ++ (codes "  to " ++ to))
-
--- a line with what both sides have
-abbrev pub both_runs : List ℕ → List ℕ → List Run
-both_runs from to = remark_runs (both_text from to)
-
--- the profiles, modes and platforms of the two sides, and their files
-abbrev pub head_runs : Diff → List Run
-head_runs diff =
-    both_runs (asked_text diff.from.asked) (asked_text diff.to.asked)
-    ++ both_runs (file_text diff.from) (file_text diff.to)
 
 -- the tests of one side alone, if there are some
 abbrev pub listed_runs : List ℕ → List TestId → List Run
@@ -188,10 +148,10 @@ listed_runs word tests =
     if length tests == 0 then [] else plain word ∷ ending ∷ flat_map test_runs tests
 
 -- what changes for the whole run, if something does
-abbrev pub run_runs : Diff → List Run
-run_runs diff =
+abbrev pub run_runs : ℕ → Diff → List Run
+run_runs columns diff =
     if length diff.run.items == 0 then []
-    else remark_runs (codes "# run") ++ flat_map (change_runs diff) diff.run.items
+    else remark_line (codes "# run") ++ flat_map (change_runs columns diff) diff.run.items
 
 -- that so many tests of all change
 abbrev pub count_runs : ℕ → ℕ → List Run
@@ -200,16 +160,16 @@ count_runs changed compared =
     ∷ plain (codes " tests change") ∷ ending ∷ []
 
 -- the page of a diff, whose changes are in groups
-abbrev pub diff_runs : Diff → Bool → List Group → List Run
-diff_runs diff lists_all groups =
-    head_runs diff ++ (flat_map (group_runs diff lists_all) groups
+abbrev pub diff_runs : ℕ → Diff → Bool → List Group → List Run
+diff_runs columns diff lists_all groups =
+    head_runs columns diff ++ (flat_map (group_runs columns diff lists_all) groups
     ++ (listed_runs (codes "removed:") diff.removed.items
     ++ (listed_runs (codes "added:") diff.added.items
-    ++ (run_runs diff ++ count_runs (length diff.changed.items) diff.compared))))
+    ++ (run_runs columns diff ++ count_runs (length diff.changed.items) diff.compared))))
 
 -- A text is the page of a diff: its changes are in groups, and it has what they are.
-pub record IsDiffText (diff : Diff) (lists_all : Bool) (tint : Colour) (text : List ℕ) : Type 0
+pub record IsDiffText (diff : Diff) (lists_all : Bool) (paper : Paper) (text : List ℕ) : Type 0
   where
     pub groups : List Group
     pub are_groups : AreGroups diff.changed.items groups
-    pub is_text : text ≡ page_text tint (diff_runs diff lists_all groups)
+    pub is_text : text ≡ page_text paper.colour (diff_runs paper.columns diff lists_all groups)

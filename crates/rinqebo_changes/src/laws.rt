@@ -1,7 +1,10 @@
 //! Laws of what changes, as contracts.
-ghost use Rattle.std.specs.Prelude.{◌≡◌, List, option_map, map};
+ghost use Rattle.std.specs.Prelude.{◌≡◌, List, [], option_map, map};
 ghost use Rattle.std.specs.Bool.{Decides};
+ghost use Rattle.std.specs.List.{AllZip};
 ghost use Rattle.std.specs.Option.{option_eq};
+ghost use Rattle.rinqebo_report.specs.declared.report.SettingRow.{SettingRow as Row};
+ghost use Rattle.rinqebo_changes.specs.declared.change.RowChange.{RowChange as Changed};
 ghost use Rattle.rinqebo_changes.specs.declared.change.SideRow.{SideRow as Given};
 ghost use Rattle.rinqebo_changes.specs.declared.change.TestChanges.{TestChanges as Tests};
 ghost use Rattle.rinqebo_changes.specs.declared.classes.Item.{Item as Change};
@@ -9,6 +12,7 @@ ghost use Rattle.rinqebo_changes.specs.declared.groups.Group.{Group as Grouped};
 ghost use Rattle.rinqebo_changes.specs.Changes.{is_change};
 ghost use Rattle.rinqebo_changes.specs.Classes.{same_item, AreClasses};
 ghost use Rattle.rinqebo_changes.specs.Groups.{AreGroups};
+ghost use Rattle.rinqebo_changes.specs.Keyed.{AreAlike, AreKeyedChanges};
 ghost use Rattle.rinqebo_changes.specs.Laws.{AreExactly, AreFair, AreWhole};
 ghost use Rattle.rinqebo_changes.specs.WholeGroups.{AreWholeGroups};
 ghost use Rattle.rinqebo_changes.specs.OriginViews.{origin_view};
@@ -42,6 +46,12 @@ pub fn law_exactly(compare: &Comparison<'_>)
 pub fn law_swapped(compare: &Comparison<'_>)
     ensures { AreFair compare.now.sources.from.now compare.now.sources.to.now
         compare.now.with_origins }
+{}
+
+/// Nothing changes between rows that are one by one of the same key and have the same value.
+pub fn law_keyed()
+    ensures { (from to : List Row) (changes : List Changed) → AllZip AreAlike from to
+        → AreKeyedChanges from to changes → changes ≡ [] }
 {}
 
 /// Groups have all changes of tests and no others, each once: nothing is lost. The changes of a

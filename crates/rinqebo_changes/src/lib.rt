@@ -2,11 +2,13 @@
 //! values, put together by value and origin.
 #![tactic(auto)]
 
+mod arrow;
 mod change;
 mod classes;
 mod diff;
 mod github_page;
 mod groups;
+mod head;
 mod json_page;
 mod keyed;
 mod laws;
@@ -23,7 +25,9 @@ pub use github_page::diff_github;
 pub use groups::{Group, groups_of};
 pub use json_page::{diff_document, diff_json};
 pub use keyed::keyed_changes;
-pub use laws::{law_classes, law_exactly, law_groups, law_origins, law_swapped, law_values};
+pub use laws::{
+    law_classes, law_exactly, law_groups, law_keyed, law_origins, law_swapped, law_values,
+};
 pub use markdown_page::diff_markdown;
 pub use same_origin::TwoSources;
 pub use text_page::diff_text;

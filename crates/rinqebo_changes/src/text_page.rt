@@ -1,61 +1,69 @@
 //! The page of a diff.
 ghost use Rattle.std.specs.Prelude.{◌≡◌, ◌++◌, OnOk, IfOk, Some, flat_map, length, string_bytes};
 ghost use Rattle.rinqebo_report.specs.Pieces.{page_text};
-ghost use Rattle.rinqebo_changes.specs.Pages.{value_runs, heading_runs, two_site_runs, site_runs, change_runs, names_runs, test_runs, whole_runs, total_of, whole_at, is_whole, item_runs, binary_runs_at, binary_runs, binaries_runs, group_runs, remark_runs, both_runs, head_runs, listed_runs, run_runs, count_runs, diff_runs, IsDiffText};
+ghost use Rattle.rinqebo_changes.specs.Pages.{value_runs, heading_runs, two_site_runs, site_runs, change_runs, names_runs, test_runs, whole_runs, total_of, whole_at, is_whole, item_runs, binary_runs_at, binary_runs, binaries_runs, group_runs, listed_runs, run_runs, count_runs, diff_runs, IsDiffText};
 
+use crate::arrow::{Arrow, add_arrow};
 use crate::change::RowChange;
 use crate::classes::{Class, Item};
 use crate::diff::{BinaryTests, Diff};
 use crate::groups::{Group, groups_of};
-use crate::texts::{
-    asked_text, both_text, file_text, has_source, other_key, setting_text, source_text,
-};
-use rinqebo_report::{Colour, Piece, Style, TestId, add_pieces};
+use crate::head::{add_head, add_remark};
+use crate::texts::{has_source, other_key, setting_text, source_text};
+use rinqebo_report::{Colour, Paper, Piece, Style, TestId, add_pieces};
 use std::alloc::{AllocError, Global};
 
-/// Writes a line with a setting, and its two values.
+/// Writes a setting, and its two values.
 fn add_values<'x>(
+    alloc: Global,
     out: &mut String,
-    colour: Colour,
+    paper: Paper,
     key: &'x str,
     from: &'x str,
     other: &'x str,
     to: &'x str,
 ) -> Result<(), AllocError>
-    ensures { OnOk result (string_bytes out.new ≡ string_bytes out.old
-        ++ page_text colour (value_runs key.now from.now other.now to.now)) }
+    ensures { OnOk result (string_bytes out.new ≡ string_bytes out.old ++ page_text paper.colour
+        (value_runs paper.columns key.now from.now other.now to.now)) }
 {
-    add_pieces(
+    let arrow = Arrow {
+        style: Style::Plain,
+        indent: 4,
+    };
+    add_arrow(
+        alloc,
         out,
-        colour,
+        paper,
+        arrow,
         &[
             Piece::Text(Style::Key, key),
             Piece::Text(Style::Plain, ": "),
             Piece::Text(Style::Plain, from),
-            Piece::Text(Style::Plain, " -> "),
+        ],
+        &[
             Piece::Text(Style::Key, other),
             Piece::Text(Style::Plain, to),
-            Piece::End,
         ],
     )
 }
 
-/// Writes a setting, and its two values.
+/// Writes a setting that changes, and its two values.
 fn add_heading(
     alloc: Global,
     out: &mut String,
-    colour: Colour,
+    paper: Paper,
     row: &RowChange,
 ) -> Result<(), AllocError>
     ensures { OnOk result (string_bytes out.new ≡ string_bytes out.old
-        ++ page_text colour (heading_runs row.now)) }
+        ++ page_text paper.colour (heading_runs paper.columns row.now)) }
 {
     let other = other_key(alloc, row)?;
     let from = setting_text(alloc, &row.from.row.value)?;
     let to = setting_text(alloc, &row.to.row.value)?;
     add_values(
+        alloc,
         out,
-        colour,
+        paper,
         row.from.row.key.as_str(),
         from.as_str(),
         other.as_str(),
@@ -63,26 +71,28 @@ fn add_heading(
     )
 }
 
-/// Writes a line with two origins.
+/// Writes two origins.
 fn add_two_sites<'x>(
+    alloc: Global,
     out: &mut String,
-    colour: Colour,
+    paper: Paper,
     from: &'x str,
     to: &'x str,
 ) -> Result<(), AllocError>
     ensures { OnOk result (string_bytes out.new ≡ string_bytes out.old
-        ++ page_text colour (two_site_runs from.now to.now)) }
+        ++ page_text paper.colour (two_site_runs paper.columns from.now to.now)) }
 {
-    add_pieces(
+    let arrow = Arrow {
+        style: Style::Remark,
+        indent: 8,
+    };
+    add_arrow(
+        alloc,
         out,
-        colour,
-        &[
-            Piece::Text(Style::Plain, "    "),
-            Piece::Text(Style::Remark, from),
-            Piece::Text(Style::Remark, " -> "),
-            Piece::Text(Style::Remark, to),
-            Piece::End,
-        ],
+        paper,
+        arrow,
+        &[Piece::Repeat(' ', 4), Piece::Text(Style::Remark, from)],
+        &[Piece::Text(Style::Remark, to)],
     )
 }
 
@@ -90,34 +100,34 @@ fn add_two_sites<'x>(
 fn add_sites(
     alloc: Global,
     out: &mut String,
-    colour: Colour,
+    paper: Paper,
     diff: &Diff,
     row: &RowChange,
 ) -> Result<(), AllocError>
     ensures { OnOk result (string_bytes out.new ≡ string_bytes out.old
-        ++ page_text colour (site_runs diff.now row.now)) }
+        ++ page_text paper.colour (site_runs paper.columns diff.now row.now)) }
 {
     if !has_source(&row.from) && !has_source(&row.to) {
         return Ok(());
     }
     let from = source_text(alloc, &diff.from, &row.from)?;
     let to = source_text(alloc, &diff.to, &row.to)?;
-    add_two_sites(out, colour, from.as_str(), to.as_str())
+    add_two_sites(alloc, out, paper, from.as_str(), to.as_str())
 }
 
 /// Writes a change.
 fn add_change(
     alloc: Global,
     out: &mut String,
-    colour: Colour,
+    paper: Paper,
     diff: &Diff,
     row: &RowChange,
 ) -> Result<(), AllocError>
     ensures { OnOk result (string_bytes out.new ≡ string_bytes out.old
-        ++ page_text colour (change_runs diff.now row.now)) }
+        ++ page_text paper.colour (change_runs paper.columns diff.now row.now)) }
 {
-    add_heading(alloc, out, colour, row)?;
-    add_sites(alloc, out, colour, diff, row)
+    add_heading(alloc, out, paper, row)?;
+    add_sites(alloc, out, paper, diff, row)
 }
 
 /// Writes the names of a test.
@@ -275,74 +285,34 @@ fn add_binaries(
 fn add_group(
     alloc: Global,
     out: &mut String,
-    colour: Colour,
+    paper: Paper,
     diff: &Diff,
     lists_all: bool,
     group: &Group<'_>,
 ) -> Result<(), AllocError>
     ensures { OnOk result (string_bytes out.new ≡ string_bytes out.old
-        ++ page_text colour (group_runs diff.now lists_all group.now)) }
+        ++ page_text paper.colour (group_runs paper.columns diff.now lists_all group.now)) }
 {
-    add_change(alloc, out, colour, diff, group.head.row)?;
-    add_binaries(out, colour, diff, lists_all, &group.binaries)
+    add_change(alloc, out, paper, diff, group.head.row)?;
+    add_binaries(out, paper.colour, diff, lists_all, &group.binaries)
 }
 
 /// Writes groups.
 fn add_groups(
     alloc: Global,
     out: &mut String,
-    colour: Colour,
+    paper: Paper,
     diff: &Diff,
     lists_all: bool,
     groups: &[Group<'_>],
 ) -> Result<(), AllocError>
     ensures { OnOk result (string_bytes out.new ≡ string_bytes out.old
-        ++ page_text colour (flat_map (group_runs diff.now lists_all) groups.now)) }
+        ++ page_text paper.colour (flat_map (group_runs paper.columns diff.now lists_all) groups.now)) }
 {
     for group in groups {
-        add_group(alloc, out, colour, diff, lists_all, group)?;
+        add_group(alloc, out, paper, diff, lists_all, group)?;
     }
     Ok(())
-}
-
-/// Writes a line that is said beside.
-fn add_remark(out: &mut String, colour: Colour, text: &str) -> Result<(), AllocError>
-    ensures { OnOk result (string_bytes out.new ≡ string_bytes out.old
-        ++ page_text colour (remark_runs text.now)) }
-{
-    add_pieces(out, colour, &[Piece::Text(Style::Remark, text), Piece::End])
-}
-
-/// Writes what is the same on both sides, or what each side has.
-fn add_both(
-    alloc: Global,
-    out: &mut String,
-    colour: Colour,
-    from: &str,
-    to: &str,
-) -> Result<(), AllocError>
-    ensures { OnOk result (string_bytes out.new ≡ string_bytes out.old
-        ++ page_text colour (both_runs from.now to.now)) }
-{
-    let text = both_text(alloc, from, to)?;
-    add_remark(out, colour, text.as_str())
-}
-
-/// Writes what was asked of the two sides, and their files.
-fn add_head(alloc: Global, out: &mut String, colour: Colour, diff: &Diff) -> Result<(), AllocError>
-    ensures { OnOk result (string_bytes out.new ≡ string_bytes out.old
-        ++ page_text colour (head_runs diff.now)) }
-{
-    let from = asked_text(alloc, &diff.from)?;
-    let to = asked_text(alloc, &diff.to)?;
-    add_both(alloc, out, colour, from.as_str(), to.as_str())?;
-    add_both(
-        alloc,
-        out,
-        colour,
-        file_text(&diff.from),
-        file_text(&diff.to),
-    )
 }
 
 /// Writes the tests of one side alone, if there are some.
@@ -366,16 +336,16 @@ fn add_listed(
 }
 
 /// Writes what changes for the whole run, if something does.
-fn add_run(alloc: Global, out: &mut String, colour: Colour, diff: &Diff) -> Result<(), AllocError>
+fn add_run(alloc: Global, out: &mut String, paper: Paper, diff: &Diff) -> Result<(), AllocError>
     ensures { OnOk result (string_bytes out.new ≡ string_bytes out.old
-        ++ page_text colour (run_runs diff.now)) }
+        ++ page_text paper.colour (run_runs paper.columns diff.now)) }
 {
     if diff.run.is_empty() {
         return Ok(());
     }
-    add_remark(out, colour, "# run")?;
+    add_remark(out, paper.colour, "# run")?;
     for row in &diff.run {
-        add_change(alloc, out, colour, diff, row)?;
+        add_change(alloc, out, paper, diff, row)?;
     }
     Ok(())
 }
@@ -414,20 +384,20 @@ fn changed_count(diff: &Diff) -> u64
 fn add_page(
     alloc: Global,
     out: &mut String,
-    colour: Colour,
+    paper: Paper,
     diff: &Diff,
     lists_all: bool,
     groups: &[Group<'_>],
 ) -> Result<(), AllocError>
-    ensures { OnOk result (string_bytes out.new ≡ string_bytes out.old
-        ++ page_text colour (diff_runs diff.now lists_all groups.now)) }
+    ensures { OnOk result (string_bytes out.new ≡ string_bytes out.old ++ page_text paper.colour
+        (diff_runs paper.columns diff.now lists_all groups.now)) }
 {
-    add_head(alloc, out, colour, diff)?;
-    add_groups(alloc, out, colour, diff, lists_all, groups)?;
-    add_listed(out, colour, "removed:", &diff.removed)?;
-    add_listed(out, colour, "added:", &diff.added)?;
-    add_run(alloc, out, colour, diff)?;
-    add_count(out, colour, changed_count(diff), diff.compared)
+    add_head(alloc, out, paper, diff)?;
+    add_groups(alloc, out, paper, diff, lists_all, groups)?;
+    add_listed(out, paper.colour, "removed:", &diff.removed)?;
+    add_listed(out, paper.colour, "added:", &diff.added)?;
+    add_run(alloc, out, paper, diff)?;
+    add_count(out, paper.colour, changed_count(diff), diff.compared)
 }
 
 /// The page of a diff.
@@ -435,12 +405,12 @@ pub fn diff_text(
     alloc: Global,
     diff: &Diff,
     lists_all: bool,
-    colour: Colour,
+    paper: Paper,
 ) -> Result<String, AllocError>
-    ensures { IfOk result (λ text. IsDiffText diff.now lists_all colour (string_bytes text)) }
+    ensures { IfOk result (λ text. IsDiffText diff.now lists_all paper (string_bytes text)) }
 {
     let groups = groups_of(alloc, &diff.changed)?;
     let mut text = String::new(alloc);
-    add_page(alloc, &mut text, colour, diff, lists_all, &groups)?;
+    add_page(alloc, &mut text, paper, diff, lists_all, &groups)?;
     Ok(text)
 }

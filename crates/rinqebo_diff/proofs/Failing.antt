@@ -234,3 +234,13 @@ pub told_page : (request : DiffRequest) (diff : Diff) (text written : List ℕ) 
 told_page request diff text written n old new is same (inl six) = inr (inl six)
 told_page request diff text written n old new is same (inr appended) =
     inr (inr (record { text = text; is_text = is; appended = subst (Appends old new) same appended }))
+
+-- a status of a result is none of those of a refusal
+pub result_or_refusal : {X : Type 0} (diff : Diff) (n : ℕ) → (n ≡ diff_status diff) ⊎ (n ≡ 5) ⊎ (n ≡ 6)
+    → (n ≡ 3) ⊎ (n ≡ 4) → X
+result_or_refusal diff n (inl same) (inl three) = absurd (omega (arith, low_status diff))
+result_or_refusal diff n (inr (inl five)) (inl three) = absurd (omega arith)
+result_or_refusal diff n (inr (inr six)) (inl three) = absurd (omega arith)
+result_or_refusal diff n (inl same) (inr four) = absurd (omega (arith, low_status diff))
+result_or_refusal diff n (inr (inl five)) (inr four) = absurd (omega arith)
+result_or_refusal diff n (inr (inr six)) (inr four) = absurd (omega arith)

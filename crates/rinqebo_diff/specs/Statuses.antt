@@ -1,6 +1,7 @@
 -- The exit statuses of a diff that has no result, and what goes out of it.
 use Rattle.std.specs.Prelude.{◌≡◌, ◌⊎◌, ℕ, List, Option}
 use Rattle.rinqebo_files.specs.declared.files.Gathered.{Gathered}
+use Rattle.rinqebo_report.specs.declared.format.Format.TheVariants as formats
 use Rattle.rinqebo_run.specs.Refused.{TellsFailure}
 use Rattle.rinqebo_run.specs.Statuses.{failure_status}
 use Rattle.rinqebo_diff.specs.Failing.{DiffFails}
@@ -33,3 +34,8 @@ pub record TellsRefusal (request : DiffRequest) (from to : Gathered) (status : �
   pub failure : DiffFailure
   pub fails : DiffFails request from to failure
   pub tells : TellsDiffFailure request failure status old new
+
+-- The requests of both sides are for JSON.
+pub record AreForJson (request : DiffRequest) : Type 0 where
+  pub from : request.from.request.format ≡ formats.Json
+  pub to : request.to.request.format ≡ formats.Json

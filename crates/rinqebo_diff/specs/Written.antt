@@ -12,7 +12,7 @@ use Rattle.rinqebo_diff.specs.declared.request.DiffRequest.{DiffRequest}
 
 -- a text is a diff in a format
 abbrev pub IsRenderedAs : DiffFormat → DiffRequest → Diff → List ℕ → Type 0
-IsRenderedAs Text request diff text = IsDiffText diff request.lists_all request.colour text
+IsRenderedAs Text request diff text = IsDiffText diff request.lists_all request.paper text
 IsRenderedAs Json request diff text = IsDiffJson diff text
 IsRenderedAs (Github workspace) request diff text = IsGithubText workspace.now diff text
 IsRenderedAs Markdown request diff text = IsMarkdownText diff request.lists_all text

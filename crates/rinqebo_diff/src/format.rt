@@ -6,7 +6,7 @@ use crate::request::{DiffFormat, DiffRequest};
 use rinqebo_changes::{Diff, diff_github, diff_json, diff_markdown, diff_text};
 use std::alloc::{AllocError, Global};
 
-/// A diff in the format of a request. Only the page has colours.
+/// A diff in the format of a request. Only the page has colours and columns.
 pub fn render_diff(
     alloc: Global,
     diff: &Diff,
@@ -15,7 +15,7 @@ pub fn render_diff(
     ensures { IfOk result (λ text. IsRendered request.now diff.now (string_bytes text)) }
 {
     match request.format {
-        DiffFormat::Text => diff_text(alloc, diff, request.lists_all, request.colour),
+        DiffFormat::Text => diff_text(alloc, diff, request.lists_all, request.paper),
         DiffFormat::Json => diff_json(alloc, diff),
         DiffFormat::Github(workspace) => diff_github(alloc, workspace, diff),
         DiffFormat::Markdown => diff_markdown(alloc, diff, request.lists_all),

@@ -3,8 +3,9 @@ ghost use Rattle.std.specs.Prelude.{◌≡◌, ◌⊎◌, ◌≤◌, IfErr, IfOk
 ghost use Rattle.std.specs.Io.KnownBytes.{Appends};
 ghost use Rattle.rinqebo_diff.specs.Differences.{diff_status, HasResult, Differs, IsPageOf};
 ghost use Rattle.rinqebo_diff.specs.Failing.{DiffFails, HasCause};
-ghost use Rattle.rinqebo_diff.specs.Statuses.{HasFailureStatus, TellsDiffFailure, TellsRefusal};
+ghost use Rattle.rinqebo_diff.specs.Statuses.{AreForJson, HasFailureStatus, TellsDiffFailure, TellsRefusal};
 ghost use Rattle.rinqebo_diff.specs.Written.{TellsDiff};
+ghost use Rattle.rinqebo_report.specs.declared.format.Format.TheVariants as formats;
 ghost use Rattle.rinqebo_run.specs.Refused.{TellsFailure};
 ghost use Rattle.rinqebo_run.specs.Statuses.{failure_status};
 
@@ -98,6 +99,9 @@ fn refuse_side<O: Write, E: Write>(
     ensures quiet { (result ≡ 6) ⊎ (O.contents out.new ≡ O.contents out.old)
         ⊎ TellsFailure failure.now side.now.request result
         (O.contents out.old) (O.contents out.new) }
+    ensures document { side.now.request.format ≡ formats.Json → (result ≡ 3) ⊎ (result ≡ 4)
+        → TellsFailure failure.now side.now.request result
+        (O.contents out.old) (O.contents out.new) }
 {
     let told = tell(side_note(name), Status::Success as u8, err);
     if told != Status::Success as u8 {
@@ -117,6 +121,9 @@ fn refuse_diff<O: Write, E: Write>(
     ensures status { HasFailureStatus failure.now result }
     ensures quiet { (result ≡ 6) ⊎ (O.contents out.new ≡ O.contents out.old)
         ⊎ TellsDiffFailure request.now failure.now result
+        (O.contents out.old) (O.contents out.new) }
+    ensures document { AreForJson request.now → (result ≡ 3) ⊎ (result ≡ 4)
+        → TellsDiffFailure request.now failure.now result
         (O.contents out.old) (O.contents out.new) }
 {
     match failure {
@@ -139,7 +146,7 @@ fn notes_of(
     match request.format {
         DiffFormat::Json => Ok(String::new(alloc)),
         DiffFormat::Text | DiffFormat::Github(_) | DiffFormat::Markdown => {
-            render_findings(alloc, report, request.colour)
+            render_findings(alloc, report, request.paper.colour)
         }
     }
 }
@@ -204,6 +211,9 @@ pub fn perform_diff<O: Write, E: Write>(
         (O.contents out.old) (O.contents out.new) }
     ensures quiet { (result ≤ 1) ⊎ (result ≡ 6) ⊎ (O.contents out.new ≡ O.contents out.old)
         ⊎ TellsRefusal request.now from.now to.now result
+        (O.contents out.old) (O.contents out.new) }
+    ensures refusal { AreForJson request.now → (result ≡ 3) ⊎ (result ≡ 4)
+        → TellsRefusal request.now from.now to.now result
         (O.contents out.old) (O.contents out.new) }
     ensures cause { HasCause request.now from.now to.now result }
 {

@@ -1,7 +1,7 @@
 //! Requests for what changes between two sides.
 use crate::asked::ComparedSettings;
 use nextest_config::NextestRunMode;
-use rinqebo_report::Colour;
+use rinqebo_report::Paper;
 use rinqebo_request::{Command, Request};
 
 /// A side of a request.
@@ -46,8 +46,8 @@ pub struct DiffRequest<'a> {
     pub lists_all: bool,
     /// How the diff is written.
     pub format: DiffFormat<'a>,
-    /// Whether the page has colours.
-    pub colour: Colour,
+    /// What the page is written on: whether it has colours, and how many columns its lines have.
+    pub paper: Paper,
     /// Whether standard error shows how far the diff is.
     pub shows_progress: bool,
 }

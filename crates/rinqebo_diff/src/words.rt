@@ -8,7 +8,7 @@ use rinqebo_report::Format;
 use rinqebo_request::options::program;
 use rinqebo_request::rows::explained_rows;
 use rinqebo_request::words::{
-    colour, command_of, engines, features, files, mode, mode_of, named_file, profile,
+    command_of, engines, features, files, mode, mode_of, named_file, paper, profile,
     profile_source, stop_of, tool_files, usage,
 };
 use rinqebo_request::{
@@ -22,14 +22,6 @@ fn has_right_side(matches: &ArgMatches<'_>) -> bool {
     TO_OPTIONS
         .iter()
         .any(|(name, _)| matches.contains_id(*name))
-}
-
-/// The list of tests at a path.
-fn list_file<'a>(path: &'a str) -> ListFile<'a> {
-    match path {
-        "-" => ListFile::Input,
-        path => ListFile::Named(path),
-    }
 }
 
 /// How it is written that a side has no result.
@@ -84,7 +76,7 @@ fn side_request<'a>(
             engines,
             features: features(alloc, matches, environment)?,
             format: side_format(matches),
-            colour: colour(matches, environment),
+            paper: paper(matches, environment),
             shows_progress: false,
         },
         profile,
@@ -113,7 +105,9 @@ fn left_options<'a>(
         profile: profile(matches, environment),
         profile_source: profile_source(matches, environment),
         mode: mode(matches),
-        list: list_file(matches.get_str("LIST").unwrap_or("-")),
+        list: matches
+            .get_str("LIST")
+            .map_or(ListFile::Input, ListFile::at),
         files: files(alloc, matches, named_file(matches))?,
         engines: engines(matches, environment),
     })
@@ -177,7 +171,7 @@ fn right_options<'a>(
         None => left.mode,
     };
     let list = match matches.get_str("to-list") {
-        Some(path) => list_file(path),
+        Some(path) => ListFile::at(path),
         None => left.list,
     };
     Ok(SideOptions {
@@ -221,7 +215,7 @@ fn diff_request<'a>(
         with_origins: matches.get_flag("origins"),
         lists_all: matches.get_flag("all"),
         format: diff_format(matches, environment),
-        colour: colour(matches, environment),
+        paper: paper(matches, environment),
         shows_progress: environment.is_error_terminal && !environment.is_terminal,
     })
 }

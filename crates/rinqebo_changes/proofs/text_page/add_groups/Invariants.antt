@@ -6,4 +6,4 @@ use Rattle.rinqebo_changes.proofs.text_page.add_groups.Given as goal
 abbrev pub invariant-loop-group : goal.invariant-loop-group
 invariant-loop-group l =
     string_bytes l.out ≡ string_bytes l.initial.out
-    ++ page_text l.colour (flat_map (group_runs l.diff l.lists_all) (take l.group-index l.groups))
+    ++ page_text l.paper.colour (flat_map (group_runs l.paper.columns l.diff l.lists_all) (take l.group-index l.groups))

@@ -12,5 +12,6 @@ returns c =
           c.in_ok-groups.ensures;
       is_text = c.in_ok-add_page.ensures
           ∙ (λ i. c.new-text.ensures.bytes i
-          ++ page_text c.args.colour (diff_runs diff c.args.lists_all (c.deref-2.ensures.value i)));
+          ++ page_text c.args.paper.colour
+          (diff_runs c.args.paper.columns diff c.args.lists_all (c.deref-2.ensures.value i)));
     }

@@ -1,4 +1,4 @@
-use Rattle.rinqebo_diff.proofs.Failing.{answer_cause, answer_low, answer_quiet, failure_cause, failure_high, failure_low, failure_quiet, has_result}
+use Rattle.rinqebo_diff.proofs.Failing.{answer_cause, answer_low, answer_quiet, failure_cause, failure_high, failure_low, failure_quiet, has_result, result_or_refusal}
 use Rattle.std.proofs.Common.{arith}
 use Rattle.rinqebo_diff.proofs.perform.perform_diff.Goals as goal
 
@@ -34,3 +34,14 @@ pub returns-in-Err-clause-cause : goal.returns-in-Err-clause-cause
 returns-in-Err-clause-cause g c =
     failure_cause c.args.request.now c.args.from.now c.args.to.now c.in-Err.failure _ c.in-Err.ensures.err
     c.refuse_diff.ensures.status
+
+pub returns-in-Ok-clause-refusal : goal.returns-in-Ok-clause-refusal
+returns-in-Ok-clause-refusal g c json ends =
+    result_or_refusal c.in-Ok.answer.diff _ c.tell_answer.ensures.status ends
+
+pub returns-in-Err-clause-refusal : goal.returns-in-Err-clause-refusal
+returns-in-Err-clause-refusal g c json ends = record {
+  failure = c.in-Err.failure;
+  fails = c.in-Err.ensures.err;
+  tells = c.refuse_diff.ensures.document json ends;
+}

@@ -1,6 +1,6 @@
 use Rattle.std.proofs.Common.{◌≡◌, ◌++◌, take, codes, string_bytes}
 use Rattle.rinqebo_report.specs.Joined.{joined, separator_after}
-use Rattle.rinqebo_changes.proofs.texts.add_chain.Given as goal
+use Rattle.rinqebo_changes.proofs.head.add_chain.Given as goal
 
 abbrev pub invariant-loop-profile : goal.invariant-loop-profile
 invariant-loop-profile l =

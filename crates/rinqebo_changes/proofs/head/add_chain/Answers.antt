@@ -1,6 +1,6 @@
 use Rattle.std.proofs.Common.{codes, string_bytes}
 use Rattle.rinqebo_report.proofs.Joined.{joined_more}
-use Rattle.rinqebo_changes.proofs.texts.add_chain.Goals as goal
+use Rattle.rinqebo_changes.proofs.head.add_chain.Goals as goal
 
 pub loop-profile-preserved : goal.loop-profile-preserved
 loop-profile-preserved c =
