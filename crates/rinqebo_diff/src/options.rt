@@ -11,10 +11,15 @@ const DIFF_FORMATS: &[&str] = &["text", "json", "github", "markdown"];
 /// The help of the option that chooses among them.
 const DIFF_FORMATS_HELP: &str = "Format: text, json, github or markdown\n[default: text]";
 
-/// What stands below the help of `diff`.
+/// What is below the help of `diff`.
 const DIFF_NOTES: &str = "\
+Each --to-X replaces --X on the right side, and one of them is needed:
+--to-profile, --to-mode, --to-root, --to-config-file, --to-tool-config-file,
+--to-organisation-config-file, --to-host, --to-target, --to-host-cfg,
+--to-target-cfg, --to-metadata, and --to-list for LIST
+
 Examples:
-  rinqebo diff list.json --config-file old.toml --to-config-file .config/nextest.toml
+  rinqebo diff list.json -P ci --to-config-file new.toml
   rinqebo diff list.json -P default --to-profile ci retries slow-timeout
   rinqebo diff old.json --to-list new.json
 
@@ -43,10 +48,10 @@ pub const TO_OPTIONS: [(&str, &str); 12] = [
     ("to-list", "LIST"),
 ];
 
-/// An option of the right side.
+/// An option of the right side. The help shows them all at its end, so that its lines stay short.
 fn right_option<'a>(alloc: Global, name: &'a str, value: &'a str) -> Arg<'a> {
-    let help = "In place of the option without `to-`,\non the right side";
-    let one = option(alloc, name, value, help);
+    let help = "In place of the option without `to-`, on the right side";
+    let one = option(alloc, name, value, help).hide(true);
     match name {
         "to-mode" => one.value_parser(MODES).hide_possible_values(true),
         "to-tool-config-file" => one.action(ArgAction::Append),
@@ -71,7 +76,7 @@ pub fn diff_command<'a>(alloc: Global) -> Result<Command<'a>, AllocError> {
         "Output of `cargo nextest list --message-format json`,\nor - for standard input",
     );
     let command = Command::new(alloc, "diff")
-        .about("Show which tests change between two files, profiles, platforms or lists")
+        .about("Show which tests change between two files, profiles or lists")
         .after_help(DIFF_NOTES)
         .arg(list.required(true))?
         .arg(keys(
