@@ -1,4 +1,5 @@
 mod TextParts
+mod ArrowLines
 mod Deciding
 mod SameValues
 mod SameOrigins

@@ -1,14 +1,18 @@
 //! Laws of what changes, as contracts.
-ghost use Rattle.std.specs.Prelude.{◌≡◌, List, [], option_map, map};
+ghost use Rattle.std.specs.Prelude.{◌≡◌, ℕ, List, [], option_map, map};
 ghost use Rattle.std.specs.Bool.{Decides};
-ghost use Rattle.std.specs.List.{AllZip};
+ghost use Rattle.std.specs.List.{AllByRecursion, AllZip};
 ghost use Rattle.std.specs.Option.{option_eq};
+ghost use Rattle.rinqebo_report.specs.Columns.{lines_of, solid_page, Fits, IsOnLine};
+ghost use Rattle.rinqebo_report.specs.Pieces.{Run};
+ghost use Rattle.rinqebo_report.specs.declared.piece.Style.{Style as Shown};
 ghost use Rattle.rinqebo_report.specs.declared.report.SettingRow.{SettingRow as Row};
 ghost use Rattle.rinqebo_changes.specs.declared.change.RowChange.{RowChange as Changed};
 ghost use Rattle.rinqebo_changes.specs.declared.change.SideRow.{SideRow as Given};
 ghost use Rattle.rinqebo_changes.specs.declared.change.TestChanges.{TestChanges as Tests};
 ghost use Rattle.rinqebo_changes.specs.declared.classes.Item.{Item as Change};
 ghost use Rattle.rinqebo_changes.specs.declared.groups.Group.{Group as Grouped};
+ghost use Rattle.rinqebo_changes.specs.Arrows.{arrow_runs, behind_arrow};
 ghost use Rattle.rinqebo_changes.specs.Changes.{is_change};
 ghost use Rattle.rinqebo_changes.specs.Classes.{same_item, AreClasses};
 ghost use Rattle.rinqebo_changes.specs.Groups.{AreGroups};
@@ -52,6 +56,18 @@ pub fn law_swapped(compare: &Comparison<'_>)
 pub fn law_keyed()
     ensures { (from to : List Row) (changes : List Changed) → AllZip AreAlike from to
         → AreKeyedChanges from to changes → changes ≡ [] }
+{}
+
+/// A row with an arrow says the same for every number of columns: but for blanks, ends of lines,
+/// commas and number signs its text is the same. Each line of it fits if what is on each side of the
+/// arrow does on a line of its own.
+pub fn law_arrows()
+    ensures rows { (columns others indent : ℕ) (style : Shown) (left right : List Run)
+        → solid_page (arrow_runs columns indent style left right)
+        ≡ solid_page (arrow_runs others indent style left right) }
+    ensures lines { (columns indent : ℕ) (style : Shown) (left right : List Run) → IsOnLine left
+        → IsOnLine right → Fits columns left → Fits columns (behind_arrow indent style right)
+        → AllByRecursion (Fits columns) (lines_of (arrow_runs columns indent style left right)) }
 {}
 
 /// Groups have all changes of tests and no others, each once: nothing is lost. The changes of a

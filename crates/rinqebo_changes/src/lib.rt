@@ -26,7 +26,8 @@ pub use groups::{Group, groups_of};
 pub use json_page::{diff_document, diff_json};
 pub use keyed::keyed_changes;
 pub use laws::{
-    law_classes, law_exactly, law_groups, law_keyed, law_origins, law_swapped, law_values,
+    law_arrows, law_classes, law_exactly, law_groups, law_keyed, law_origins, law_swapped,
+    law_values,
 };
 pub use markdown_page::diff_markdown;
 pub use same_origin::TwoSources;
