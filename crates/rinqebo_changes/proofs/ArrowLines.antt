@@ -60,7 +60,7 @@ row_says columns indent style left right =
     let one : List Run = arrow_line style left right ++ ending ∷ [] in
     let two : List Run = left ++ (ending ∷ (behind_arrow indent style right ++ ending ∷ [])) in
     let P : Bool → Type 0 = λ b. solid_page (cond b one two) ≡ all_said left right in
-    elim fits columns (arrow_line style left right) as P [
+    elim (fits columns (arrow_line style left right)) as P [
       | true ↦ one_says style left right
       | false ↦ two_say indent style left right
     ]
