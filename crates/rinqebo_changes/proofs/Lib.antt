@@ -1,12 +1,12 @@
 mod TextParts
 mod ArrowLines
 mod Deciding
-mod SameValues
+pub mod SameValues
 mod SameOrigins
 mod ClassLists
 mod Reflexive
 mod Exactly
-mod Fair
+pub mod Fair
 mod KeyedOrders
 mod KeyedRows
 pub mod EqualRows

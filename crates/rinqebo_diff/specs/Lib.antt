@@ -10,3 +10,4 @@ pub mod Differences
 pub mod Evaluated
 pub mod Beside
 pub mod EqualSides
+pub mod SwappedSides

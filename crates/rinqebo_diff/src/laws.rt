@@ -1,5 +1,5 @@
 //! Laws of what changes between two sides, as contracts.
-ghost use Rattle.std.specs.Prelude.{◌≡◌, false, List};
+ghost use Rattle.std.specs.Prelude.{◌≡◌, Bool, false, List};
 ghost use Rattle.nextest_elements.specs.declared.run_mode.NextestRunMode.{NextestRunMode as Mode};
 ghost use Rattle.rinqebo_changes.specs.Changes.{is_change};
 ghost use Rattle.rinqebo_changes.specs.declared.change.TestChanges.{TestChanges as Changed};
@@ -13,6 +13,7 @@ ghost use Rattle.rinqebo_diff.specs.Compared.{AreCompared};
 ghost use Rattle.rinqebo_diff.specs.Differences.{SideReports, tests_of, diff_status, IsDiffOf};
 ghost use Rattle.rinqebo_diff.specs.EqualSides.{GivesOneRun, NoTestChanges};
 ghost use Rattle.rinqebo_diff.specs.Sides.{Evaluation};
+ghost use Rattle.rinqebo_diff.specs.SwappedSides.{HaveSwapped};
 ghost use Rattle.rinqebo_diff.specs.declared.request.DiffRequest.{DiffRequest as Requested};
 
 /// No test changes between a side and itself, and none is on one side alone: by the same session,
@@ -29,4 +30,15 @@ pub fn law_equal_sides()
         → request.with_origins ≡ false → request.from.mode ≡ request.to.mode
         → NamesOnce (tests_of side) → GivesOneRun side → IsDiffOf request side side diff
         → diff_status diff ≡ 0 }
+{}
+
+/// Between swapped sides the same settings of the same tests change, each with its two sides
+/// swapped.
+pub fn law_swapped_sides()
+    ensures { (left right : Evaluation) (one two : Mode) (asked : Asked) (files others : List File)
+        (with_origins : Bool) (pairs : List TestPair) (changed : List Changed)
+        → AreCompared (SideReports left one asked) (SideReports right two asked)
+        (is_change files others with_origins) (compares_runs asked) pairs changed
+        → HaveSwapped (SideReports left one asked) (SideReports right two asked)
+        (is_change others files with_origins) (compares_runs asked) pairs changed }
 {}

@@ -19,7 +19,7 @@ mod words;
 
 pub use asked::ComparedSettings;
 pub use gathering::{GatheredSides, gather_sides};
-pub use laws::law_equal_sides;
+pub use laws::{law_equal_sides, law_swapped_sides};
 pub use loaded::{DiffFailure, Loaded, SideName, load_named, load_side};
 pub use perform::{DiffAnswer, diff_answer, diff_page, perform_diff};
 pub use request::{AnyCommand, DiffFormat, DiffRequest, DiffSide};
