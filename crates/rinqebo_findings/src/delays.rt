@@ -32,8 +32,8 @@ fn in_order(one: Mark, other: Mark) -> [Mark; 2] {
     }
 }
 
-/// Sets the range of a finding about a key and its value, and the lines that show it and another one
-/// where both are in one file.
+/// Sets the range of a finding about a key and its value, and the lines that show it and another
+/// one where both are in one file.
 fn set_lines(
     refused: &Refused<'_, '_>,
     found: &mut Finding,

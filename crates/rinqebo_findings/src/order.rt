@@ -22,8 +22,8 @@ fn spot_of(place: FilePlace, column: Option<u64>) -> (u64, u64) {
     }
 }
 
-/// Returns what findings are ordered by: the file, the line and the column. What is in no file comes
-/// last.
+/// Returns what findings are ordered by: the file, the line and the column. What is in no file
+/// comes last.
 fn order_of(finding: &Finding) -> (usize, u64, u64) {
     match finding.place {
         Some(place) => {
@@ -34,8 +34,8 @@ fn order_of(finding: &Finding) -> (usize, u64, u64) {
     }
 }
 
-/// Returns findings in the order of their files, lines and columns. Those at one place stay in the
-/// order in which they are given.
+/// Returns findings in the order of their files, lines and columns. Those at one place stay in
+/// their order.
 pub fn in_order(findings: Vec<Finding>) -> Result<Vec<Finding>, AllocError>
     ensures { IfOk result (λ ordered. IsPermutation findings.items ordered.items) }
 {

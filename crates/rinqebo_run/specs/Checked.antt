@@ -1,4 +1,4 @@
--- What a check says of files.
+-- The exit status of a check.
 use Rattle.std.specs.Prelude.{◌≡◌, ◌⊎◌, ℕ}
 use Rattle.rinqebo_load.specs.Accepted.{AreAccepted}
 use Rattle.rinqebo_load.specs.declared.session.Session.{Session}

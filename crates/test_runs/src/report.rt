@@ -32,7 +32,7 @@ impl Write for Output {
     }
 }
 
-/// What came of reading standard input, where it is read.
+/// The result of reading standard input, if a request reads it.
 fn input_of(alloc: Global, case: &Case<'_>, reads_input: bool) -> Result<ReadOutcome, AllocError> {
     if reads_input {
         case.files.read(alloc, "-")
@@ -57,7 +57,7 @@ fn run_diff(
     }
 }
 
-/// Runs over the files of a case, and answers the status.
+/// Runs over the files of a case, and returns the status.
 fn run(
     alloc: Global,
     case: &Case<'_>,
