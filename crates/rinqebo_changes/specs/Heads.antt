@@ -10,12 +10,12 @@ use Rattle.rinqebo_changes.specs.declared.diff.Diff.{Diff}
 use Rattle.rinqebo_changes.specs.declared.diff.Side.{Side}
 use Rattle.rinqebo_changes.specs.declared.head.Head.{Head}
 
--- What is said of a side, in parts.
+-- What a header has of a side, in parts.
 pub record Parts : Type 0 where
   pub first : List ℕ
   pub others : List (List ℕ)
 
--- what is said of a side, as code holds it
+-- the parts of a side, as code holds them
 abbrev pub head_view : Head → Parts
 head_view head = record {
   first = string_bytes head.first;

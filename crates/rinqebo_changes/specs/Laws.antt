@@ -35,7 +35,7 @@ pub record AreExactly (test : SideRow → SideRow → Bool) (from to : List Side
     pub whole : (c : RowChange) → IsChangeAt test from to c → IsOneOf (changed_rows test from to) c
     pub once : AreRising (map (λ c. c.place) (changed_rows test from to))
 
--- a change, seen from the other side
+-- a change, from the other side
 abbrev pub swapped : RowChange → RowChange
 swapped c = record { place = c.place; from = c.to; to = c.from }
 

@@ -11,7 +11,7 @@ use crate::diff::{Diff, Side};
 use rinqebo_report::{Asked, Colour, Paper, Piece, Style, add_pieces, path_at};
 use std::alloc::{AllocError, Global};
 
-/// What is said of a side, in parts.
+/// What a header has of a side, in parts.
 #[derive(Drop)]
 struct Head {
     /// The first part.
@@ -20,7 +20,7 @@ struct Head {
     others: Vec<String>,
 }
 
-/// Writes a line that is said beside.
+/// Writes a remark, in a line.
 pub(crate) fn add_remark<'x>(
     out: &mut String,
     colour: Colour,

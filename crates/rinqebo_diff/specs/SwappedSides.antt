@@ -1,4 +1,4 @@
--- What changes for tests, seen from the other side.
+-- What changes for tests, from the other side.
 use Rattle.std.specs.Prelude.{◌≡◌, Bool, List, map}
 use Rattle.std.specs.List.{AllZip}
 use Rattle.nextest_lists.specs.Lists.{ListTest}
@@ -9,7 +9,7 @@ use Rattle.rinqebo_report.specs.declared.report.TestRows.{TestRows}
 use Rattle.rinqebo_sides.specs.Matched.{TestPair}
 use Rattle.rinqebo_diff.specs.Compared.{AreCompared}
 
--- a pair, seen from the other side
+-- a pair, from the other side
 abbrev pub swapped_pair : TestPair → TestPair
 swapped_pair pair = record { from = pair.to; to = pair.from }
 

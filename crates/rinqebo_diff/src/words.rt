@@ -1,4 +1,4 @@
-//! Reads the words of the command `diff`.
+//! Reads the command line of the command `diff`.
 use crate::asked::ComparedSettings;
 use crate::options::{TO_OPTIONS, diff_command};
 use crate::request::{AnyCommand, DiffFormat, DiffRequest, DiffSide};
@@ -220,7 +220,7 @@ fn diff_request<'a>(
     })
 }
 
-/// Reads the words, with the program's name, and what the environment says in their place.
+/// Reads the command line, and the environment where it has no option.
 pub fn parse_all<'a>(
     alloc: Global,
     words: &'a [String],
