@@ -18,7 +18,7 @@ use rinqebo_files::Gathered;
 use rinqebo_load::Failure;
 use rinqebo_report::{Report, render_findings};
 use rinqebo_rules::{NoProgress, Progress};
-use rinqebo_run::{ProgressLine, Status, refuse_for_memory, refuse_in, tell};
+use rinqebo_run::{ProgressLine, Status, print_text, refuse_for_memory, refuse_in};
 use std::alloc::{AllocError, Global};
 use std::io::Write;
 
@@ -103,9 +103,9 @@ fn refuse_side<O: Write, E: Write>(
         → TellsFailure failure.now side.now.request result
         (O.contents out.old) (O.contents out.new) }
 {
-    let told = tell(side_note(name), Status::Success as u8, err);
-    if told != Status::Success as u8 {
-        return told;
+    let written = print_text(side_note(name), Status::Success as u8, err);
+    if written != Status::Success as u8 {
+        return written;
     }
     refuse_in(alloc, failure, &side.request, out, err)
 }
@@ -152,7 +152,7 @@ fn notes_of(
 }
 
 /// Writes warnings, and then the page of a diff, and returns the exit status.
-fn tell_page<O: Write, E: Write>(
+fn print_page<O: Write, E: Write>(
     notes: &str,
     page: &str,
     diff: &Diff,
@@ -162,15 +162,15 @@ fn tell_page<O: Write, E: Write>(
     ensures status { (result ≡ diff_status diff.now) ⊎ (result ≡ 6) }
     ensures page { (result ≡ 6) ⊎ Appends (O.contents out.old) (O.contents out.new) page.now }
 {
-    let told = tell(notes, Status::Success as u8, err);
-    if told != Status::Success as u8 {
-        return told;
+    let written = print_text(notes, Status::Success as u8, err);
+    if written != Status::Success as u8 {
+        return written;
     }
-    tell(page, status_of(diff), out)
+    print_text(page, status_of(diff), out)
 }
 
 /// Writes a result: the warnings, and then the diff.
-fn tell_answer<O: Write, E: Write>(
+fn print_answer<O: Write, E: Write>(
     alloc: Global,
     request: &DiffRequest<'_>,
     answer: &DiffAnswer,
@@ -187,7 +187,7 @@ fn tell_answer<O: Write, E: Write>(
         return refuse_for_memory(err);
     };
     match render_diff(alloc, &answer.diff, request) {
-        Ok(page) => tell_page(notes.as_str(), page.as_str(), &answer.diff, out, err),
+        Ok(page) => print_page(notes.as_str(), page.as_str(), &answer.diff, out, err),
         Err(_) => refuse_for_memory(err),
     }
 }
@@ -221,7 +221,7 @@ pub fn perform_diff<O: Write, E: Write>(
     let answer = diff_answer(alloc, request, from, to, &mut progress);
     progress.clear();
     match answer {
-        Ok(answer) => tell_answer(alloc, request, &answer, out, err),
+        Ok(answer) => print_answer(alloc, request, &answer, out, err),
         Err(failure) => refuse_diff(alloc, request, &failure, out, err),
     }
 }

@@ -3,19 +3,19 @@ use Rattle.std.proofs.Common.{arith}
 use Rattle.rinqebo_diff.proofs.perform.perform_diff.Goals as goal
 
 pub returns-in-Ok-clause-status : goal.returns-in-Ok-clause-status
-returns-in-Ok-clause-status g c = answer_low c.in-Ok.answer.diff _ c.tell_answer.ensures.status
+returns-in-Ok-clause-status g c = answer_low c.in-Ok.answer.diff _ c.print_answer.ensures.status
 
 pub returns-in-Ok-clause-page : goal.returns-in-Ok-clause-page
 returns-in-Ok-clause-page g c low =
     has_result c.args.request.now c.args.from.now c.args.to.now c.in-Ok.answer.diff _ _ _ c.in-Ok.ensures.ok
-    c.tell_answer.ensures.status c.tell_answer.ensures.page low
+    c.print_answer.ensures.status c.print_answer.ensures.page low
 
 pub returns-in-Ok-clause-quiet : goal.returns-in-Ok-clause-quiet
-returns-in-Ok-clause-quiet g c = answer_quiet c.in-Ok.answer.diff _ c.tell_answer.ensures.quiet
+returns-in-Ok-clause-quiet g c = answer_quiet c.in-Ok.answer.diff _ c.print_answer.ensures.quiet
 
 pub returns-in-Ok-clause-cause : goal.returns-in-Ok-clause-cause
 returns-in-Ok-clause-cause g c =
-    answer_cause c.args.request.now c.args.from.now c.args.to.now c.in-Ok.answer.diff _ c.tell_answer.ensures.status
+    answer_cause c.args.request.now c.args.from.now c.args.to.now c.in-Ok.answer.diff _ c.print_answer.ensures.status
 
 pub returns-in-Err-clause-status : goal.returns-in-Err-clause-status
 returns-in-Err-clause-status g c = failure_low c.in-Err.failure _ c.refuse_diff.ensures.status
@@ -37,7 +37,7 @@ returns-in-Err-clause-cause g c =
 
 pub returns-in-Ok-clause-refusal : goal.returns-in-Ok-clause-refusal
 returns-in-Ok-clause-refusal g c json ends =
-    result_or_refusal c.in-Ok.answer.diff _ c.tell_answer.ensures.status ends
+    result_or_refusal c.in-Ok.answer.diff _ c.print_answer.ensures.status ends
 
 pub returns-in-Err-clause-refusal : goal.returns-in-Err-clause-refusal
 returns-in-Err-clause-refusal g c json ends = record {
