@@ -105,13 +105,13 @@ reported_twice side mode asked t a b with_runs one two =
     one.settings_reported two.settings_reported)
 
 module _ (side : Evaluation) (mode : NextestRunMode) (asked : RequestedSettings) (files others : List Source) where
-  Reports : ListTest → TestRows → Type 0
+  abbrev Reports : ListTest → TestRows → Type 0
   Reports = SideReports side mode asked
 
-  test : SideRow → SideRow → Bool
+  abbrev test : SideRow → SideRow → Bool
   test = is_change files others false
 
-  runs : Bool
+  abbrev runs : Bool
   runs = compares_runs asked
 
   by_verdict : (before after : TestRows) (r : Option TestChanges)
