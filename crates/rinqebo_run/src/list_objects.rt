@@ -1,5 +1,5 @@
 //! The objects of a profile beside a list: what a runner needs beside the settings of tests.
-ghost use Rattle.std.specs.Prelude.{◌≡◌, IfOk, map, string_bytes};
+ghost use Rattle.std.specs.Prelude.{◌≡◌, IfOk, None, map, string_bytes};
 ghost use Rattle.nextest_tables.specs.FileTexts.{names_in};
 ghost use Rattle.serde_json.specs.View.{view};
 ghost use Rattle.rinqebo_run.specs.Listed.{AreObjectsListed};
@@ -36,6 +36,19 @@ fn profile_names(alloc: Global, config: &Config) -> Result<Vec<String>, AllocErr
     Ok(names)
 }
 
+/// What the objects of a profile have from its configuration, with programs as files write them.
+fn as_written<'a>(profiles: &'a [String], warnings: &'a DefaultConfigWarnings) -> Surroundings<'a>
+    ensures profiles { result.profiles.now ≡ profiles.now }
+    ensures warnings { result.warnings.now ≡ warnings.now }
+    ensures directories { result.directories ≡ None }
+{
+    Surroundings {
+        profiles,
+        warnings,
+        directories: None,
+    }
+}
+
 /// The objects of a profile of a configuration, with the warnings of its load. Programs are as
 /// files write them.
 pub fn objects_of_list(
@@ -48,11 +61,7 @@ pub fn objects_of_list(
         (names_in config.now.config.profiles) (view objects.value)) }
 {
     let names = profile_names(alloc, config)?;
-    let around = Surroundings {
-        profiles: &names,
-        warnings,
-        directories: None,
-    };
+    let around = as_written(&names, &*warnings);
     let objects = objects_json(alloc, profile, around)?;
     Ok(objects)
 }
