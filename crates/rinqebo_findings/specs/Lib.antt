@@ -1,2 +1,6 @@
 pub mod Failures
+pub mod Order
 pub mod Reports
+pub mod Shown
+pub mod Subjects
+pub mod Told

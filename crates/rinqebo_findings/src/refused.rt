@@ -1,5 +1,9 @@
 //! The findings of a refused source.
+ghost use Rattle.std.specs.Prelude.{◌≡◌, IfOk};
+ghost use Rattle.rinqebo_findings.specs.Subjects.{error_at, subject};
+
 use crate::findings::{Label, SourceAt, finding, finding_at};
+use crate::left_out::LeftOut;
 use nextest_places::Step;
 use rinqebo_codes::Code;
 use rinqebo_files::{Layer, SpanPart, part_place};
@@ -16,13 +20,17 @@ pub struct Refused<'r, 't> {
     pub text: Option<&'r str>,
     /// The name that nextest-runner has for the refusal.
     pub upstream: &'static str,
+    /// The names whose definitions are left out.
+    pub left_out: &'r LeftOut,
     /// The findings so far.
     pub findings: &'r mut Vec<Finding>,
 }
 
 impl Refused<'_, '_> {
     /// What its findings of a code are called.
-    fn label(&self, code: Code) -> Label {
+    fn label(&self, code: Code) -> Label
+        ensures { result.code ≡ code }
+    {
         Label {
             code,
             upstream: Some(self.upstream),
@@ -44,22 +52,22 @@ impl Refused<'_, '_> {
         path: &[Step<'_>],
         part: SpanPart,
         wrong: &str,
-    ) -> Result<Finding, AllocError> {
+    ) -> Result<Finding, AllocError>
+        ensures { IfOk result (λ found. subject found ≡ error_at code path.now) }
+    {
         let alloc = self.alloc;
         let message = String::from_str(alloc, wrong)?;
         let level = Level::Error;
         let label = self.label(code);
         let mut found = finding_at(alloc, level, label, self.source, path, part, message)?;
-        if let Some(FilePlace { lines: None, .. }) = found.place {
-            if let Some(place) = highest_place(self.source.layers, path, part) {
-                found.place = Some(place);
-            }
-        }
+        found.place = written_place(self.source.layers, found.place, path, part);
         Ok(found)
     }
 
     /// A finding about the value at a path.
-    pub fn at(&self, code: Code, path: &[Step<'_>], wrong: &str) -> Result<Finding, AllocError> {
+    pub fn at(&self, code: Code, path: &[Step<'_>], wrong: &str) -> Result<Finding, AllocError>
+        ensures { IfOk result (λ found. subject found ≡ error_at code path.now) }
+    {
         self.part_at(code, path, SpanPart::Value, wrong)
     }
 
@@ -99,6 +107,20 @@ impl Refused<'_, '_> {
         let mut found = self.part_at(code, path, SpanPart::Key, wrong)?;
         found.help = help;
         self.add_finding(found)
+    }
+}
+
+/// The place of the value at a path, or of its key: the one that is given, if it has lines, or else
+/// that in the highest layer that writes it.
+fn written_place(
+    layers: &[Layer],
+    place: Option<FilePlace>,
+    path: &[Step<'_>],
+    part: SpanPart,
+) -> Option<FilePlace> {
+    match place {
+        Some(FilePlace { lines: None, .. }) => highest_place(layers, path, part).or(place),
+        _ => place,
     }
 }
 

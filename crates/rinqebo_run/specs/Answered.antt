@@ -44,7 +44,7 @@ AnswersQuestion (questions.List profile mode list asked) session report status =
 AnswersQuestion (questions.ShowConfig profile keys with_hidden) session report status =
     ShowsConfig session profile.now (keys_view keys.items) with_hidden report status
 AnswersQuestion (questions.Check deny_warnings) session report status =
-    IsCheckStatus session status
+    IsCheckStatus session deny_warnings report status
 
 -- A report and a status answer a request over the files that were read: the report is one of a
 -- session of the request, and answers the question of it. Each filter that is evaluated for it was looked

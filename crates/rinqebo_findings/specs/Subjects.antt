@@ -1,0 +1,68 @@
+-- What findings are about.
+use Rattle.std.specs.Prelude.{◌≡◌, ◌⊎◌, ℕ, List, [], ◌∷◌, ◌++◌, Option, Some, option_map, string_bytes, codes}
+use Rattle.std.specs.Fmt.{decimal}
+use Rattle.nextest_places.specs.declared.step.Step.{Step}
+use Rattle.nextest_places.specs.declared.step.Step.TheVariants as steps
+use Rattle.nextest_tree.specs.declared.fault.ElementCause.{ElementCause}
+use Rattle.nextest_tree.specs.declared.fault.ElementCause.TheVariants as causes
+use Rattle.rinqebo_codes.specs.Codes.{code_word}
+use Rattle.rinqebo_codes.specs.declared.code.Code.{Code}
+use Rattle.rinqebo_codes.specs.declared.code.Code.TheVariants.{WrongKind, MissingKey, InvalidValue, OutOfRange, MaxDelayBelowDelay, RefusedKey}
+use Rattle.rinqebo_report.specs.declared.finding.Finding.{Finding}
+use Rattle.rinqebo_report.specs.declared.finding.Level.{Level}
+use Rattle.rinqebo_report.specs.declared.finding.Level.TheVariants as levels
+
+-- a step as findings show it
+abbrev pub step_text : Step → List ℕ
+step_text (steps.Key key) = key.now
+step_text (steps.Position n) = decimal n
+
+-- steps with a dot before each
+abbrev pub dotted : List Step → List ℕ
+dotted [] = []
+dotted (step ∷ path) = codes "." ++ (step_text step ++ dotted path)
+
+-- a path as findings show it: its keys and positions with dots between them
+abbrev pub shown_path : List Step → List ℕ
+shown_path [] = []
+shown_path (step ∷ path) = step_text step ++ dotted path
+
+-- what a finding is about: how bad it is, what it is called, and the path that leads to it
+pub record Subject : Type 0 where
+  pub level : Level
+  pub code : List ℕ
+  pub path : Option (List ℕ)
+
+abbrev pub subject : Finding → Subject
+subject f =
+    record {
+      level = f.level;
+      code = string_bytes f.code;
+      path = option_map string_bytes f.path;
+    }
+
+-- an error at a path
+abbrev pub error_at : Code → List Step → Subject
+error_at code path =
+    record { level = levels.Error; code = code_word code; path = Some (shown_path path) }
+
+-- a finding is an error of this code, at a path or below it
+pub record IsErrorBelow (code : Code) (path : List Step) (finding : Finding) : Type 0 where
+  pub rest : List Step
+  pub about : subject finding ≡ error_at code (path ++ rest)
+
+-- the code of what is wrong with a value
+abbrev pub code_of : ElementCause → Code
+code_of causes.WrongKind = WrongKind
+code_of (causes.Missing key) = MissingKey
+code_of (causes.BadValue given expected) = InvalidValue
+code_of causes.OutOfRange = OutOfRange
+code_of causes.UnknownField = RefusedKey
+code_of causes.Memory = OutOfRange
+
+-- A finding is that of a value: an error with the code of what is wrong there, at its path or below
+-- it. Of a table, delays are out of range.
+abbrev pub IsElementFinding : ElementCause → List Step → Finding → Type 0
+IsElementFinding causes.OutOfRange path finding =
+    IsErrorBelow OutOfRange path finding ⊎ IsErrorBelow MaxDelayBelowDelay path finding
+IsElementFinding cause path finding = IsErrorBelow (code_of cause) path finding

@@ -1,0 +1,229 @@
+//! The findings of all faults of values of a source: one for each fault, but for a key that a table
+//! refuses in place of one that it lacks: these two are one finding.
+ghost use Rattle.std.specs.Prelude.{◌≡◌, IfOk, IfSome, IsTrue, Some, map, slice_get, slice_index_or, slice_set, true, false};
+ghost use Rattle.nextest_faults.specs.declared.found.FoundFault.{FoundFault};
+ghost use Rattle.nextest_spans.specs.Paths.{path_step};
+ghost use Rattle.rinqebo_findings.specs.Subjects.{IsElementFinding};
+ghost use Rattle.rinqebo_findings.specs.Told.{AreJoined, IsJoined, IsKeyIn, IsRefusedKey, Told};
+
+use crate::elements::fault_finding;
+use crate::excerpts::text_of;
+use crate::findings::SourceAt;
+use crate::given::tree_at;
+use crate::left_out::LeftOut;
+use crate::refused::Refused;
+use crate::tables::stray_key;
+use nextest_config::{ElementCause, Tree};
+use nextest_faults::FoundFault;
+use nextest_places::Step;
+use rinqebo_load::Session;
+use rinqebo_report::Finding;
+use std::alloc::{AllocError, Global};
+
+/// The name that nextest-runner has for a value that is refused.
+const REFUSED_VALUE: &str = "DeserializeError";
+
+/// The key that the table of a fault has in place of the one that it lacks, if one is near that the
+/// table does not know.
+fn stray_of<'y>(
+    alloc: Global,
+    laid: &'y Tree,
+    fault: &FoundFault<'_>,
+) -> Result<Option<&'y str>, AllocError> {
+    let ElementCause::Missing(key) = &fault.cause else {
+        return Ok(None);
+    };
+    match tree_at(laid, &fault.path) {
+        Some(table) => stray_key(alloc, &fault.path, table, key.as_str()),
+        None => Ok(None),
+    }
+}
+
+/// For each fault of a source over the defaults, the key that its table has in place of one that it
+/// lacks.
+pub fn strays_of<'y>(
+    alloc: Global,
+    laid: &'y Tree,
+    faults: &[FoundFault<'_>],
+) -> Result<Vec<Option<&'y str>>, AllocError> {
+    let mut strays = Vec::new(alloc);
+    for fault in faults {
+        strays.push(stray_of(alloc, laid, fault)?)?;
+    }
+    Ok(strays)
+}
+
+/// Whether two steps are the same.
+fn is_step(one: &Step<'_>, other: &Step<'_>) -> bool
+    ensures { IsTrue result → path_step one.now ≡ path_step other.now }
+{
+    match (one, other) {
+        (Step::Key(one), Step::Key(other)) => *one == *other,
+        (Step::Position(one), Step::Position(other)) => *one == *other,
+        _ => false,
+    }
+}
+
+/// Whether two paths are the same.
+fn is_path(one: &[Step<'_>], other: &[Step<'_>]) -> bool
+    ensures { IsTrue result → map path_step one.now ≡ map path_step other.now }
+{
+    match (one.split_first(), other.split_first()) {
+        (Some((first, rest)), Some((other, others))) => {
+            is_step(first, other) && is_path(rest, others)
+        }
+        (None, None) => true,
+        _ => false,
+    }
+}
+
+/// Whether a path is that of a key of the table at another one.
+fn is_key_in(path: &[Step<'_>], table: &[Step<'_>], key: &str) -> bool
+    ensures { IsTrue result → IsKeyIn path.now table.now key.now }
+{
+    match path.split_last() {
+        Some((Step::Key(last), rest)) => *last == key && is_path(rest, table),
+        _ => false,
+    }
+}
+
+/// Whether a fault is that the table at a path refuses a key.
+fn is_refused_key(fault: &FoundFault<'_>, table: &[Step<'_>], key: &str) -> bool
+    ensures { IsTrue result → IsRefusedKey table.now key.now fault.now }
+{
+    match &fault.cause {
+        ElementCause::UnknownField => is_key_in(&fault.path, table, key),
+        _ => false,
+    }
+}
+
+/// The place, before another one, of the fault that the table at a path refuses a key. The faults of
+/// keys that a table refuses come right before those of the keys that it lacks.
+fn refused_before(
+    faults: &[FoundFault<'_>],
+    end: usize,
+    table: &[Step<'_>],
+    key: &str,
+) -> Option<usize>
+    ensures { IfSome result (λ place. (fault : FoundFault) → slice_get faults.now place ≡ Some fault
+        → IsRefusedKey table.now key.now fault) }
+{
+    for place in (0..end).rev() {
+        let fault = faults.get(place)?;
+        if is_refused_key(fault, table, key) {
+            return Some(place);
+        }
+        let ElementCause::UnknownField = &fault.cause else {
+            return None;
+        };
+    }
+    None
+}
+
+/// The place of the fault that is joined with the one at a place, if one is: that the table refuses
+/// the key that it has in place of one that it lacks.
+fn joined_with(faults: &[FoundFault<'_>], place: usize, stray: Option<&str>) -> Option<usize>
+    ensures { IfSome result (λ joined. (fault : FoundFault)
+        → slice_get faults.now joined ≡ Some fault → IsJoined faults.now fault) }
+{
+    let fault = faults.get(place)?;
+    match &fault.cause {
+        ElementCause::Missing(_) => refused_before(faults, place, &fault.path, stray?),
+        _ => None,
+    }
+}
+
+/// Sets the mark at a place, if there is one.
+fn set_mark(marks: &mut Vec<bool>, place: usize)
+    ensures { marks.new.items ≡ slice_set marks.old.items place true }
+{
+    if place < marks.len() {
+        marks[place] = true;
+    }
+}
+
+/// Whether there is a mark at a place, and it is set.
+fn is_marked(marks: &[bool], place: usize) -> bool
+    ensures { result ≡ slice_index_or marks.now place false }
+{
+    marks.get(place).copied().unwrap_or(false)
+}
+
+/// Adds the mark of the fault that is joined with the one at a place, if one is.
+fn mark_joined(marks: &mut Vec<bool>, faults: &[FoundFault<'_>], place: usize, stray: Option<&str>)
+    requires { AreJoined faults.now marks.old.items }
+    ensures { AreJoined faults.now marks.new.items }
+{
+    if let Some(joined) = joined_with(faults, place, stray) {
+        set_mark(marks, joined);
+    }
+}
+
+/// For each fault, whether it is joined with another one.
+fn joined_marks(
+    alloc: Global,
+    faults: &[FoundFault<'_>],
+    strays: &[Option<&str>],
+) -> Result<Vec<bool>, AllocError>
+    ensures { IfOk result (λ marks. AreJoined faults.now marks.items) }
+{
+    let mut marks = vec![in alloc; false; faults.len()]?;
+    for (place, stray) in strays.iter().enumerate() {
+        mark_joined(&mut marks, faults, place, *stray);
+    }
+    Ok(marks)
+}
+
+/// The key at a place that stands in place of a missing one, if there is one.
+fn stray_at<'s>(strays: &[Option<&'s str>], place: usize) -> Option<&'s str> {
+    *strays.get(place)?
+}
+
+/// The finding of a fault in the source at a place among the layers. A table that lacks a key may have
+/// another one in its place.
+fn finding_of(
+    alloc: Global,
+    session: &Session<'_>,
+    source: usize,
+    fault: &FoundFault<'_>,
+    stray: Option<&str>,
+) -> Result<Finding, AllocError>
+    ensures { IfOk result (IsElementFinding fault.now.cause fault.now.path.items) }
+{
+    let left_out = LeftOut::new(alloc);
+    let mut none = Vec::new(alloc);
+    let refused = Refused {
+        alloc,
+        source: SourceAt {
+            layers: &session.layers,
+            position: Some(source),
+        },
+        text: text_of(session.gathered, source),
+        upstream: REFUSED_VALUE,
+        left_out: &left_out,
+        findings: &mut none,
+    };
+    fault_finding(&refused, &fault.cause, &fault.path, stray)
+}
+
+/// The findings of all faults of values of the source at a place among the layers, in their order. A
+/// table that lacks a key may have another one in its place.
+pub fn fault_findings(
+    alloc: Global,
+    session: &Session<'_>,
+    source: usize,
+    faults: &[FoundFault<'_>],
+    strays: &[Option<&str>],
+) -> Result<Vec<Finding>, AllocError>
+    ensures { IfOk result (λ findings. Told (IsJoined faults.now) faults.now findings.items) }
+{
+    let marks = joined_marks(alloc, faults, strays)?;
+    let mut findings = Vec::new(alloc);
+    for (place, fault) in faults.iter().enumerate() {
+        if !is_marked(&marks, place) {
+            let stray = stray_at(strays, place);
+            findings.push(finding_of(alloc, session, source, fault, stray)?)?;
+        }
+    }
+    Ok(findings)
+}
