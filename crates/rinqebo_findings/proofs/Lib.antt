@@ -1,3 +1,4 @@
+pub mod Joining
 pub mod Loads
 pub mod Telling
-pub mod Elements
+pub mod Values

@@ -1,8 +1,7 @@
 -- What findings are about.
 use Rattle.std.specs.Prelude.{◌≡◌, ◌⊎◌, ℕ, List, [], ◌∷◌, ◌++◌, Option, Some, option_map, string_bytes, codes}
-use Rattle.std.specs.Fmt.{decimal}
+use Rattle.nextest_faults.specs.Found.{step_text}
 use Rattle.nextest_places.specs.declared.step.Step.{Step}
-use Rattle.nextest_places.specs.declared.step.Step.TheVariants as steps
 use Rattle.nextest_tree.specs.declared.fault.ElementCause.{ElementCause}
 use Rattle.nextest_tree.specs.declared.fault.ElementCause.TheVariants as causes
 use Rattle.rinqebo_codes.specs.Codes.{code_word}
@@ -11,11 +10,6 @@ use Rattle.rinqebo_codes.specs.declared.code.Code.TheVariants.{WrongKind, Missin
 use Rattle.rinqebo_report.specs.declared.finding.Finding.{Finding}
 use Rattle.rinqebo_report.specs.declared.finding.Level.{Level}
 use Rattle.rinqebo_report.specs.declared.finding.Level.TheVariants as levels
-
--- a step as findings show it
-abbrev pub step_text : Step → List ℕ
-step_text (steps.Key key) = key.now
-step_text (steps.Position n) = decimal n
 
 -- steps with a dot before each
 abbrev pub dotted : List Step → List ℕ

@@ -1,12 +1,22 @@
 -- Which findings tell of which faults.
-use Rattle.std.specs.Prelude.{◌≡◌, ◌⊎◌, ℕ, List, [], ◌∷◌, ◌++◌, Bool, true, false, Contains, Some, String, map, slice_get, slice_index_or}
+use Rattle.std.specs.Prelude.{◌≡◌, ◌⊎◌, ℕ, List, [], ◌∷◌, ◌++◌, Bool, true, false, Contains, Option, None, Some, String, map, slice_get, slice_index_or}
+use Rattle.std.specs.Option.{option_and_then}
 use Rattle.std.specs.declared.alloc.Global.{Global}
+use Rattle.nextest_documents.specs.Merge.{over}
+use Rattle.nextest_documents.specs.Text.{tree_of}
+use Rattle.nextest_faults.specs.Found.{Adds}
 use Rattle.nextest_faults.specs.declared.found.FoundFault.{FoundFault}
 use Rattle.nextest_places.specs.declared.step.Step.{Step}
 use Rattle.nextest_spans.specs.Paths.{path_step}
 use Rattle.nextest_spans.specs.Paths as paths
+use Rattle.nextest_tables.specs.Defaults.{defaults}
+use Rattle.nextest_tables.specs.Tables.{a_file}
+use Rattle.nextest_tree.specs.Node.{Node}
+use Rattle.nextest_tree.specs.Schema.{faults}
 use Rattle.nextest_tree.specs.declared.fault.ElementCause.TheVariants as causes
+use Rattle.rinqebo_files.specs.declared.layers.Layer.{Layer}
 use Rattle.rinqebo_report.specs.declared.finding.Finding.{Finding}
+use Rattle.rinqebo_findings.specs.Shown.{AreReported}
 use Rattle.rinqebo_findings.specs.Subjects.{IsElementFinding}
 
 -- a path is that of a key of the table at another one
@@ -41,3 +51,40 @@ Told Joined (fault ∷ faults) [] = Joined fault × Told Joined faults []
 Told Joined (fault ∷ faults) (finding ∷ findings) =
     (Joined fault × Told Joined faults (finding ∷ findings))
     ⊎ (IsElementFinding fault.cause fault.path.items finding × Told Joined faults findings)
+
+-- Findings tell of the values of a document: of exactly the faults that the definitions list of it, over
+-- the table of defaults, each in turn.
+pub record TellOfValues (document : Node) (findings : List Finding) : Type 0 where
+  pub found : List FoundFault
+  pub are_all : Adds [] found (faults a_file [] (over document defaults))
+  pub told : Told (IsJoined found) found findings
+
+-- of the values of a document, if there is one
+abbrev pub TellOfDocument : Option Node → List Finding → Type 0
+TellOfDocument (Some document) findings = TellOfValues document findings
+TellOfDocument None findings = findings ≡ []
+
+-- the document that the file of a layer is, if it is one
+abbrev pub document_in : Layer → Option Node
+document_in layer = option_and_then tree_of layer.places
+
+-- Findings tell of the values in the files of layers, file by file.
+abbrev pub TellOfFiles : List Layer → List Finding → Type 0
+TellOfFiles [] findings = findings ≡ []
+TellOfFiles (layer ∷ layers) findings =
+    (own : List Finding) × (others : List Finding) × (findings ≡ own ++ others)
+    × TellOfDocument (document_in layer) own × TellOfFiles layers others
+
+-- Some of the findings tell of the values in the files of layers. The others are about keys, and about
+-- what later checks refuse.
+pub record TellOfAll (layers : List Layer) (findings : List Finding) : Type 0 where
+  pub of_values : List Finding
+  pub others : List Finding
+  pub whole : findings ≡ of_values ++ others
+  pub told : TellOfFiles layers of_values
+
+-- a report shows what is wrong with the files of layers: all findings that tell of their values
+pub record ShowsFaults (layers : List Layer) (shown : List Finding) : Type 0 where
+  pub found : List Finding
+  pub told : TellOfAll layers found
+  pub reported : AreReported found shown

@@ -14,6 +14,7 @@ mod excerpts;
 mod expected;
 mod expressions;
 mod failures;
+mod file_values;
 mod findings;
 mod given;
 mod hints;

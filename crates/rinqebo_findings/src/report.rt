@@ -2,6 +2,7 @@
 ghost use Rattle.std.specs.Prelude.{◌≡◌, IfOk};
 ghost use Rattle.rinqebo_findings.specs.Reports.{IsReportOf};
 ghost use Rattle.rinqebo_findings.specs.Shown.{AreReported};
+ghost use Rattle.rinqebo_findings.specs.Told.{ShowsFaults};
 
 use crate::excerpts::with_lines;
 use crate::nextest_forms::nextest_findings;
@@ -44,13 +45,15 @@ pub fn report_of_refusal(
     warnings: &DefaultConfigWarnings,
     error: &ConfigParseError,
 ) -> Result<Report, AllocError>
-    ensures { IfOk result (IsReportOf session.now) }
+    ensures about { IfOk result (IsReportOf session.now) }
+    ensures faults { IfOk result
+        (λ report. ShowsFaults session.now.layers.items report.findings.items) }
 {
     let Found {
         findings,
         unreached,
     } = all_findings(alloc, session, warnings, error)?;
-    report_of(alloc, session, findings, unreached, Content::Check)
+    Ok(report_of(alloc, session, findings, unreached, Content::Check)?)
 }
 
 /// The report of a check whose load refuses: what is wrong with the files, also what nextest refuses
@@ -61,14 +64,15 @@ pub fn report_of_refused_check(
     warnings: &DefaultConfigWarnings,
     error: &ConfigParseError,
 ) -> Result<Report, AllocError>
-    ensures { IfOk result (IsReportOf session.now) }
+    ensures about { IfOk result (IsReportOf session.now) }
+    ensures faults { IfOk result
+        (λ report. ShowsFaults session.now.layers.items report.findings.items) }
 {
     let Found {
         mut findings,
         unreached,
     } = all_findings(alloc, session, warnings, error)?;
-    for finding in nextest_findings(alloc, &session.layers)? {
-        findings.push(finding)?;
-    }
-    report_of(alloc, session, findings, unreached, Content::Check)
+    let mut forms = nextest_findings(alloc, &session.layers)?;
+    findings.append(&mut forms)?;
+    Ok(report_of(alloc, session, findings, unreached, Content::Check)?)
 }

@@ -1,8 +1,12 @@
 //! All that is wrong with files that are refused: the faults of all values, and then what each later
 //! check finds in files without these.
+ghost use Rattle.std.specs.Prelude.{IfOk};
+ghost use Rattle.rinqebo_findings.specs.Told.{TellOfAll};
+
 use crate::checks::{Check, Scope, check_of, scope_of};
 use crate::edited_files::Reading;
-use crate::element_repairs::{leave_out_element, leave_out_setting};
+use crate::element_repairs::leave_out_setting;
+use crate::file_values::value_findings;
 use crate::findings::warning_findings;
 use crate::left_out::LeftOut;
 use crate::refusal_repairs::{
@@ -11,12 +15,11 @@ use crate::refusal_repairs::{
 };
 use crate::refusals::{add_refusal, refused_place};
 use crate::unreached::{names_after, only};
-use crate::value_faults::{fault_findings, strays_of};
 use nextest_config::{
     ConfigExperimental, ConfigParseError, ConfigParseErrorKind, DefaultConfigWarnings, Tree,
 };
 use nextest_documents::{TextFault, lay_over, tree_from_text};
-use nextest_faults::{FoundFault, file_faults};
+use nextest_faults::file_faults;
 use nextest_tables::default_tree;
 use rinqebo_codes::Code;
 use rinqebo_load::Session;
@@ -87,44 +90,6 @@ impl<'s, 'g> Search<'s, 'g> {
     /// The tree of the source at a place among the layers, if it is a document.
     fn tree_at(&self, place: usize) -> Option<&'s Tree> {
         self.session.layers.get(place)?.tree()
-    }
-
-    /// Leaves out an element of a source.
-    fn leave_out(&mut self, place: usize, fault: &FoundFault<'_>) -> Result<(), AllocError> {
-        let edits = &mut self.reading.edits;
-        leave_out_element(edits, &mut self.left_out, place, &fault.cause, &fault.path)
-    }
-
-    /// Leaves out the values of a source that are refused, and the keys that stand in place of missing
-    /// ones.
-    fn leave_out_faults(
-        &mut self,
-        place: usize,
-        faults: &[FoundFault<'_>],
-        strays: &[Option<&str>],
-    ) -> Result<(), AllocError> {
-        for (fault, stray) in faults.iter().zip(strays) {
-            if let Some(stray) = stray {
-                self.reading.edits.remove_key(place, &fault.path, *stray)?;
-            }
-            self.leave_out(place, fault)?;
-        }
-        Ok(())
-    }
-
-    /// Adds the faults of all values of the source at a place among the layers.
-    fn add_elements(&mut self, place: usize) -> Result<(), AllocError> {
-        let alloc = self.alloc;
-        let Some(tree) = self.tree_at(place) else {
-            return Ok(());
-        };
-        let laid = lay_over(alloc, tree, default_tree(alloc)?)?;
-        let faults = file_faults(alloc, &laid)?;
-        let strays = strays_of(alloc, &laid, &faults)?;
-        for finding in fault_findings(alloc, self.session, place, &faults, &strays)? {
-            self.findings.push(finding)?;
-        }
-        self.leave_out_faults(place, &faults, &strays)
     }
 
     /// Whether a warning only follows from what is left out: a rule lacks the script that it names.
@@ -333,15 +298,13 @@ impl<'s, 'g> Search<'s, 'g> {
         }
     }
 
-    /// Adds all that is wrong with the files, whose load reports warnings and refuses them.
+    /// Adds what is wrong with the files beside their values, of which those that are refused are left
+    /// out. The load of the files reports warnings and refuses them.
     fn run(
         &mut self,
         warnings: &DefaultConfigWarnings,
         error: &ConfigParseError,
     ) -> Result<(), AllocError> {
-        for place in 1..self.session.layers.len() {
-            self.add_elements(place)?;
-        }
         if self.reading.edits.count() == 0 {
             self.add_warnings(warnings)?;
             if !self.take(error)? {
@@ -364,14 +327,21 @@ pub fn all_findings(
     session: &Session<'_>,
     warnings: &DefaultConfigWarnings,
     error: &ConfigParseError,
-) -> Result<Found, AllocError> {
+) -> Result<Found, AllocError>
+    ensures { IfOk result
+        (λ found. TellOfAll session.now.layers.items found.findings.items) }
+{
     let mut search = Search::new(alloc, session)?;
+    let edits = &mut search.reading.edits;
+    let left_out = &mut search.left_out;
+    let mut findings = value_findings(alloc, session, &session.layers, edits, left_out)?;
     search.run(warnings, error)?;
     let Search {
-        findings,
+        findings: mut others,
         unreached,
         ..
     } = search;
+    findings.append(&mut others)?;
     Ok(Found {
         findings,
         unreached,

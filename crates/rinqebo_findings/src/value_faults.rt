@@ -1,8 +1,9 @@
 //! The findings of all faults of values of a source: one for each fault, but for a key that a table
 //! refuses in place of one that it lacks: these two are one finding.
-ghost use Rattle.std.specs.Prelude.{◌≡◌, IfOk, IfSome, IsTrue, Some, map, slice_get, slice_index_or, slice_set, true, false};
+ghost use Rattle.std.specs.Prelude.{◌≡◌, ◌++◌, ◌∷◌, [], IfOk, IfSome, IsTrue, List, OnOk, Some, map, slice_get, slice_index_or, slice_set, true, false};
 ghost use Rattle.nextest_faults.specs.declared.found.FoundFault.{FoundFault};
 ghost use Rattle.nextest_spans.specs.Paths.{path_step};
+ghost use Rattle.nextest_spans.specs.Paths as paths;
 ghost use Rattle.rinqebo_findings.specs.Subjects.{IsElementFinding};
 ghost use Rattle.rinqebo_findings.specs.Told.{AreJoined, IsJoined, IsKeyIn, IsRefusedKey, Told};
 
@@ -68,12 +69,24 @@ fn is_step(one: &Step<'_>, other: &Step<'_>) -> bool
 fn is_path(one: &[Step<'_>], other: &[Step<'_>]) -> bool
     ensures { IsTrue result → map path_step one.now ≡ map path_step other.now }
 {
-    match (one.split_first(), other.split_first()) {
-        (Some((first, rest)), Some((other, others))) => {
-            is_step(first, other) && is_path(rest, others)
+    if one.len() != other.len() {
+        return false;
+    }
+    for (place, step) in one.iter().enumerate() {
+        if !is_step(step, &other[place]) {
+            return false;
         }
-        (None, None) => true,
-        _ => false,
+    }
+    true
+}
+
+/// Whether a step is to a key.
+fn is_named(step: &Step<'_>, key: &str) -> bool
+    ensures { IsTrue result → path_step step.now ≡ paths.key key.now }
+{
+    match step {
+        Step::Key(name) => *name == key,
+        Step::Position(_) => false,
     }
 }
 
@@ -81,9 +94,13 @@ fn is_path(one: &[Step<'_>], other: &[Step<'_>]) -> bool
 fn is_key_in(path: &[Step<'_>], table: &[Step<'_>], key: &str) -> bool
     ensures { IsTrue result → IsKeyIn path.now table.now key.now }
 {
-    match path.split_last() {
-        Some((Step::Key(last), rest)) => *last == key && is_path(rest, table),
-        _ => false,
+    let Some((last, rest)) = path.split_last() else {
+        return false;
+    };
+    if is_named(last, key) {
+        is_path(rest, table)
+    } else {
+        false
     }
 }
 
@@ -127,8 +144,9 @@ fn joined_with(faults: &[FoundFault<'_>], place: usize, stray: Option<&str>) -> 
         → slice_get faults.now joined ≡ Some fault → IsJoined faults.now fault) }
 {
     let fault = faults.get(place)?;
+    let stray = stray?;
     match &fault.cause {
-        ElementCause::Missing(_) => refused_before(faults, place, &fault.path, stray?),
+        ElementCause::Missing(_) => refused_before(faults, place, &fault.path, stray),
         _ => None,
     }
 }
@@ -206,6 +224,29 @@ fn finding_of(
     fault_finding(&refused, &fault.cause, &fault.path, stray)
 }
 
+/// Adds the finding of a fault in the source at a place among the layers, unless the fault is joined
+/// with another one.
+fn add_finding(
+    alloc: Global,
+    session: &Session<'_>,
+    source: usize,
+    fault: &FoundFault<'_>,
+    stray: Option<&str>,
+    is_joined: bool,
+    findings: &mut Vec<Finding>,
+) -> Result<(), AllocError>
+    ensures { (Joined : FoundFault → Type 0) (earlier : List FoundFault)
+        → (is_joined ≡ true → Joined fault.now) → Told Joined earlier findings.old.items
+        → OnOk result (Told Joined (earlier ++ fault.now ∷ []) findings.new.items) }
+{
+    if is_joined {
+        return Ok(());
+    }
+    let own = finding_of(alloc, session, source, fault, stray)?;
+    findings.push(own)?;
+    Ok(())
+}
+
 /// The findings of all faults of values of the source at a place among the layers, in their order. A
 /// table that lacks a key may have another one in its place.
 pub fn fault_findings(
@@ -220,10 +261,17 @@ pub fn fault_findings(
     let marks = joined_marks(alloc, faults, strays)?;
     let mut findings = Vec::new(alloc);
     for (place, fault) in faults.iter().enumerate() {
-        if !is_marked(&marks, place) {
-            let stray = stray_at(strays, place);
-            findings.push(finding_of(alloc, session, source, fault, stray)?)?;
-        }
+        let stray = stray_at(strays, place);
+        let is_joined = is_marked(&marks, place);
+        add_finding(
+            alloc,
+            session,
+            source,
+            fault,
+            stray,
+            is_joined,
+            &mut findings,
+        )?;
     }
     Ok(findings)
 }

@@ -3,6 +3,7 @@ use Rattle.std.proofs.Common.{◌≡◌, ◌⊎◌, inl, inr, ℕ, Bool, true, f
 use Rattle.std.specs.List.{list_any}
 use Rattle.nextest_sources.specs.Endings.{IsMemory}
 use Rattle.nextest_sources.specs.declared.error.ConfigParseError.{ConfigParseError}
+use Rattle.rinqebo_findings.specs.Told.{ShowsFaults}
 use Rattle.rinqebo_load.specs.Accepted.{AreAccepted}
 use Rattle.rinqebo_report.specs.declared.finding.Finding.{Finding}
 use Rattle.rinqebo_report.specs.declared.report.Report.{Report}
@@ -36,17 +37,20 @@ accepts session denies report n accepted is =
       refused = λ three. other n three cases;
       accepted = λ _. accepted;
       is_status = three_or cases;
+      faults = λ three. other n three cases;
       by_findings = inr is;
     }
 
 -- the status of a check whose load refuses
 pub refuses : (session : Session) (denies : Bool) (report : Report) (n : ℕ) {M : Type 0}
-    → M ⊎ (¬ AreAccepted session) → (¬ M) → n ≡ 3 → IsCheckStatus session denies report n
-refuses session denies report n (inl memory) not_memory three = absurd (not_memory memory)
-refuses session denies report n (inr refused) not_memory three = record {
+    → M ⊎ (¬ AreAccepted session) → (¬ M) → ShowsFaults session.layers.items report.findings.items
+    → n ≡ 3 → IsCheckStatus session denies report n
+refuses session denies report n (inl memory) not_memory shown three = absurd (not_memory memory)
+refuses session denies report n (inr refused) not_memory shown three = record {
   refused = λ _. refused;
   accepted = λ accepted. other n three accepted;
   is_status = inr (inr three);
+  faults = λ _. shown;
   by_findings = inl three;
 }
 
@@ -60,7 +64,9 @@ accepted_answer session denies (Err e) accepted is = tt
 -- the answer of a check whose load refuses
 pub refused_answer : {E : Type 0} (session : Session) (denies : Bool) (error : ConfigParseError)
     (answer : Result Answer E) → IsMemory error ⊎ (¬ AreAccepted session) → IfOk answer (λ a. a.status ≡ 3)
-    → IfOk answer (λ _. ¬ IsMemory error) → IfOk answer (λ a. IsCheckStatus session denies a.report a.status)
-refused_answer session denies error (Ok a) loaded three not_memory =
-    refuses session denies a.report a.status loaded not_memory three
-refused_answer session denies error (Err e) loaded three not_memory = tt
+    → IfOk answer (λ _. ¬ IsMemory error)
+    → IfOk answer (λ a. ShowsFaults session.layers.items a.report.findings.items)
+    → IfOk answer (λ a. IsCheckStatus session denies a.report a.status)
+refused_answer session denies error (Ok a) loaded three not_memory shown =
+    refuses session denies a.report a.status loaded not_memory shown three
+refused_answer session denies error (Err e) loaded three not_memory shown = tt

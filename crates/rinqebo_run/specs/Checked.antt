@@ -1,6 +1,7 @@
 -- What a check says of files.
 use Rattle.std.specs.Prelude.{◌≡◌, ◌⊎◌, ℕ, Bool, true, false, ◌&&◌, ◌||◌, List, length, nat_lt, if◌then◌else◌}
 use Rattle.std.specs.List.{list_any}
+use Rattle.rinqebo_findings.specs.Told.{ShowsFaults}
 use Rattle.rinqebo_load.specs.Accepted.{AreAccepted}
 use Rattle.rinqebo_load.specs.declared.session.Session.{Session}
 use Rattle.rinqebo_report.specs.declared.finding.Finding.{Finding}
@@ -23,11 +24,13 @@ abbrev pub accepted_status : Bool → List Finding → ℕ
 accepted_status denies findings =
     if list_any is_error findings || (denies && nat_lt 0 (length findings)) then 1 else 0
 
--- The status of a check: 3 only where some rule does not hold of the files, and another one only
--- where all do, which the findings of the report decide.
+-- The status of a check: 3 only where some rule does not hold of the files, and then the report shows
+-- all that is wrong with their values; and another one only where all rules hold, which the findings of
+-- the report decide.
 pub record IsCheckStatus (session : Session) (denies : Bool) (report : Report) (status : ℕ)
     : Type 0 where
   pub refused : status ≡ 3 → ¬ AreAccepted session
   pub accepted : (status ≡ 0) ⊎ (status ≡ 1) → AreAccepted session
   pub is_status : (status ≡ 0) ⊎ (status ≡ 1) ⊎ (status ≡ 3)
+  pub faults : status ≡ 3 → ShowsFaults session.layers.items report.findings.items
   pub by_findings : (status ≡ 3) ⊎ (status ≡ accepted_status denies report.findings.items)

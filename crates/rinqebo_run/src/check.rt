@@ -2,6 +2,7 @@
 ghost use Rattle.std.specs.Prelude.{◌≡◌, IfOk, IfErr};
 ghost use Rattle.nextest_sources.specs.Endings.{IsMemory};
 ghost use Rattle.rinqebo_findings.specs.Reports.{IsReportOf};
+ghost use Rattle.rinqebo_findings.specs.Told.{ShowsFaults};
 ghost use Rattle.rinqebo_load.specs.Beginning.{IsBeginningFailure};
 ghost use Rattle.rinqebo_run.specs.Checked.{IsCheckStatus, accepted_status, is_error};
 
@@ -80,6 +81,8 @@ fn refused(
 ) -> Result<Answer, AllocError>
     ensures status { IfOk result (λ answer. answer.status ≡ 3) }
     ensures cause { IfOk result (λ _. ¬ IsMemory error.now) }
+    ensures faults { IfOk result (λ answer.
+        ShowsFaults session.now.layers.items answer.report.findings.items) }
     ensures about { IfOk result (λ answer. IsReportOf session.now answer.report) }
 {
     if error.config_file().is_none() {

@@ -1,7 +1,7 @@
 use Rattle.std.proofs.Common.{◌∙◌, ap}
 use Rattle.rinqebo_codes.specs.declared.code.Code.TheVariants.{MaxDelayBelowDelay}
 use Rattle.rinqebo_findings.specs.Subjects.{error_at}
-use Rattle.rinqebo_findings.proofs.Elements.{error_below, error_here}
+use Rattle.rinqebo_findings.proofs.Values.{error_below, error_here}
 use Rattle.rinqebo_findings.proofs.delays.delays_finding.Goals as goal
 
 pub returns-in_ok-at : goal.returns-in_ok-at

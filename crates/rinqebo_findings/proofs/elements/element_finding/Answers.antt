@@ -1,5 +1,5 @@
 use Rattle.std.proofs.Common.{inr}
-use Rattle.rinqebo_findings.proofs.Elements.{element_here}
+use Rattle.rinqebo_findings.proofs.Values.{element_here}
 use Rattle.rinqebo_findings.proofs.elements.element_finding.Goals as goal
 
 pub returns-in_ok-delays_finding-in-OutOfRange : goal.returns-in_ok-delays_finding-in-OutOfRange

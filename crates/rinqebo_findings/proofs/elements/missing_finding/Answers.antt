@@ -1,5 +1,5 @@
 use Rattle.std.proofs.Common.{◌∙◌}
-use Rattle.rinqebo_findings.proofs.Elements.{error_below, error_here}
+use Rattle.rinqebo_findings.proofs.Values.{error_below, error_here}
 use Rattle.rinqebo_findings.proofs.elements.missing_finding.Goals as goal
 
 pub returns-in_ok-lack_finding-in-Some : goal.returns-in_ok-lack_finding-in-Some

@@ -9,4 +9,4 @@ returns-in-Ok-clause-status c =
 pub returns-clause-status : goal.returns-clause-status
 returns-clause-status c =
     refused_answer c.args.session.now c.args.deny_warnings c.in-Err.error c.refused.result c.in-Err.ensures.verdict
-    c.refused.ensures.status c.refused.ensures.cause
+    c.refused.ensures.status c.refused.ensures.cause c.refused.ensures.faults

@@ -1,0 +1,20 @@
+use Rattle.std.proofs.Common.{◌∙◌, take, length, refl, sym, arith}
+use Rattle.std.proofs.lemmas.List.{take_all}
+use Rattle.std.proofs.lemmas.Option.{slice_get_read}
+use Rattle.rinqebo_findings.specs.Told.{IsJoined}
+use Rattle.rinqebo_findings.proofs.Telling.{told_at_end, told_on}
+use Rattle.rinqebo_findings.proofs.value_faults.fault_findings.Goals as goal
+
+pub loop-place-preserved : goal.loop-place-preserved
+loop-place-preserved c =
+    let faults = c.args.faults.now in
+    let place = c.loop-place.place in
+    let fault = c.index-faults-place.result in
+    let at = slice_get_read faults (length faults) place fault refl c.loop-place-test.true c.index-faults-place.is in
+    told_on (IsJoined faults) faults place fault _ c.loop-place-test.true c.index-faults-place.is
+    (c.in_ok-add_finding.ensures (IsJoined faults) (take place faults)
+    (λ marked. c.in_ok-marks.ensures place fault (sym c.is_marked-is_joined.ensures ∙ marked) at) c.loop-place.invariant)
+
+pub returns : goal.returns
+returns c =
+    told_at_end (IsJoined c.args.faults.now) c.args.faults.now c.loop-place.place _ (omega arith) c.loop-place.invariant
