@@ -2,11 +2,11 @@
 use Rattle.std.proofs.Common.{◌≡◌, ◌≢◌, ◌<◌, ◌≤◌, ◌⊎◌, ℕ, List, [], ◌∷◌, ◌++◌, ◌+◌, Bool, true, false, Option, Some, None, length, take, get_or, set, map, replicate, slice_get, inl, inr, refl, sym, ap, ◌∙◌, subst, arith}
 use Rattle.std.proofs.lemmas.Bool.{cases_lt}
 use Rattle.std.proofs.lemmas.List.{get_or_past, get_or-replicate, get_or-set_other, length-replicate, map-append, take_all, take_more}
-use Rattle.nextest_faults.specs.declared.found.FoundFault.{FoundFault}
 use Rattle.nextest_places.specs.declared.step.Step.{Step}
 use Rattle.nextest_spans.specs.Paths.{path_step}
 use Rattle.nextest_spans.specs.Paths as paths
 use Rattle.nextest_tree.specs.declared.fault.ElementCause.TheVariants as causes
+use Rattle.rinqebo_findings.specs.declared.value_faults.ValueFault.{ValueFault}
 use Rattle.rinqebo_findings.specs.Told.{AreJoined, IsJoined, IsKeyIn, IsRefusedKey}
 
 -- one more step of a path
@@ -45,9 +45,9 @@ both : {b : Bool} → b ≡ false → b ≡ true → ⊥
 both no yes = cc
 
 -- what is at a place is what was read there
-pub read_again : (Holds : FoundFault → Type 0) (faults : List FoundFault) (place : ℕ) (fault : FoundFault)
+pub read_again : (Holds : ValueFault → Type 0) (faults : List ValueFault) (place : ℕ) (fault : ValueFault)
     → slice_get faults place ≡ Some fault → Holds fault
-    → (other : FoundFault) → slice_get faults place ≡ Some other → Holds other
+    → (other : ValueFault) → slice_get faults place ≡ Some other → Holds other
 read_again Holds faults place fault is holds other other_is =
     subst Holds (same_value fault other (sym is ∙ other_is)) holds
 
@@ -59,7 +59,7 @@ none_set count place =
     ]
 
 -- no mark is set
-pub none_joined : (faults : List FoundFault) (count : ℕ) → AreJoined faults (replicate count false)
+pub none_joined : (faults : List ValueFault) (count : ℕ) → AreJoined faults (replicate count false)
 none_joined faults count place fault set is = absurd (both (none_set count place) set)
 
 same_or_not : (m n : ℕ) → (m ≡ n) ⊎ (m ≢ n)
@@ -73,8 +73,8 @@ same_or_not m n =
     ]
 
 -- one more mark is set
-pub one_joined : (faults : List FoundFault) (marks : List Bool) (joined : ℕ)
-    → ((fault : FoundFault) → slice_get faults joined ≡ Some fault → IsJoined faults fault)
+pub one_joined : (faults : List ValueFault) (marks : List Bool) (joined : ℕ)
+    → ((fault : ValueFault) → slice_get faults joined ≡ Some fault → IsJoined faults fault)
     → AreJoined faults marks → AreJoined faults (set marks joined true)
 one_joined faults marks joined of_joined are place fault is_set is =
     elim (same_or_not place joined) [

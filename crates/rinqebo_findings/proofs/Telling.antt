@@ -1,5 +1,5 @@
 -- Findings that tell of faults.
-use Rattle.std.proofs.Common.{◌≡◌, ◌<◌, ◌≤◌, ℕ, List, [], ◌∷◌, ◌++◌, ◌+◌, Bool, true, false, Option, Some, None, length, take, get_or, set, slice_get, inl, inr, refl, sym, ap, ◌∙◌, subst, arith}
+use Rattle.std.proofs.Common.{◌≡◌, ◌<◌, ◌≤◌, ℕ, List, [], ◌∷◌, ◌++◌, ◌+◌, Bool, true, false, Option, Some, None, length, map, take, get_or, set, slice_get, inl, inr, refl, sym, ap, ◌∙◌, subst, arith}
 use Rattle.std.proofs.lemmas.List.{append_assoc, append-nil, take_all, take_more}
 use Rattle.nextest_documents.specs.Merge.{over}
 use Rattle.nextest_faults.specs.Found.{Adds}
@@ -10,12 +10,12 @@ use Rattle.nextest_tree.specs.Node.{Node}
 use Rattle.nextest_tree.specs.Schema.{faults}
 use Rattle.rinqebo_files.specs.declared.layers.Layer.{Layer}
 use Rattle.rinqebo_report.specs.declared.finding.Finding.{Finding}
-use Rattle.rinqebo_findings.specs.Subjects.{IsElementFinding}
-use Rattle.rinqebo_findings.specs.Told.{IsJoined, TellOfAll, TellOfDocument, TellOfFiles, TellOfValues, Told, document_in}
+use Rattle.rinqebo_findings.specs.declared.value_faults.ValueFault.{ValueFault}
+use Rattle.rinqebo_findings.specs.Told.{IsFindingOf, IsJoined, TellOfAll, TellOfDocument, TellOfFiles, TellOfValues, Told, document_in}
 
-module _ (Joined : FoundFault → Type 0) where
+module _ (Joined : ValueFault → Type 0) where
   -- one more fault, which is joined
-  pub told_joined : (faults : List FoundFault) (findings : List Finding) (fault : FoundFault)
+  pub told_joined : (faults : List ValueFault) (findings : List Finding) (fault : ValueFault)
       → Joined fault → Told Joined faults findings → Told Joined (faults ++ fault ∷ []) findings
   told_joined [] [] fault is told = (is, tt)
   told_joined [] (x ∷ xs) fault is told = absurd told
@@ -27,8 +27,8 @@ module _ (Joined : FoundFault → Type 0) where
       ]
 
   -- one more fault, with a finding of its own
-  pub told_one : (faults : List FoundFault) (findings : List Finding) (fault : FoundFault) (finding : Finding)
-      → IsElementFinding fault.cause fault.path.items finding → Told Joined faults findings
+  pub told_one : (faults : List ValueFault) (findings : List Finding) (fault : ValueFault) (finding : Finding)
+      → IsFindingOf fault finding → Told Joined faults findings
       → Told Joined (faults ++ fault ∷ []) (findings ++ finding ∷ [])
   told_one [] [] fault finding is told = inr (is, tt)
   told_one [] (x ∷ xs) fault finding is told = absurd told
@@ -40,7 +40,7 @@ module _ (Joined : FoundFault → Type 0) where
       ]
 
   -- the findings of the faults up to one, and of this one
-  pub told_on : (faults : List FoundFault) (place : ℕ) (fault : FoundFault) (findings : List Finding)
+  pub told_on : (faults : List ValueFault) (place : ℕ) (fault : ValueFault) (findings : List Finding)
       → place < length faults → fault ≡ get_or faults place fault
       → Told Joined (take place faults ++ fault ∷ []) findings → Told Joined (take (place + 1) faults) findings
   told_on faults place fault findings within is told =
@@ -48,19 +48,21 @@ module _ (Joined : FoundFault → Type 0) where
       (sym (take_more faults place fault within ∙ ap (λ f. take place faults ++ f ∷ []) (sym is))) told
 
   -- the findings of all faults
-  pub told_at_end : (faults : List FoundFault) (place : ℕ) (findings : List Finding) → length faults ≤ place
+  pub told_at_end : (faults : List ValueFault) (place : ℕ) (findings : List Finding) → length faults ≤ place
       → Told Joined (take place faults) findings → Told Joined faults findings
   told_at_end faults place findings no_more told =
       subst (λ fs. Told Joined fs findings) (take_all place faults no_more) told
 
 -- the findings of the values of a document over the defaults
-pub told_values : (document laid : Node) (found : List FoundFault) (told_of : List FoundFault) (findings : List Finding)
-    → laid ≡ over document defaults → Adds [] found (faults a_file [] laid) → told_of ≡ found
-    → Told (IsJoined told_of) told_of findings → TellOfValues document findings
-told_values document laid found told_of findings laid_is are_all same told =
+pub told_values : (document laid : Node) (found : List FoundFault) (made told_of : List ValueFault)
+    (findings : List Finding) → laid ≡ over document defaults → Adds [] found (faults a_file [] laid)
+    → map (λ f. f.fault) made ≡ found → told_of ≡ made → Told (IsJoined told_of) told_of findings
+    → TellOfValues document findings
+told_values document laid found made told_of findings laid_is are_all same same_made told =
     record {
       found = told_of;
-      are_all = subst (λ fs. Adds [] fs (faults a_file [] (over document defaults))) (sym same)
+      are_all = subst (λ fs. Adds [] fs (faults a_file [] (over document defaults)))
+          (sym (ap (map (λ f. f.fault)) same_made ∙ same))
           (subst (λ node. Adds [] found (faults a_file [] node)) laid_is are_all);
       told = told;
     }

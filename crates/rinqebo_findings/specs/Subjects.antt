@@ -1,7 +1,9 @@
 -- What findings are about.
 use Rattle.std.specs.Prelude.{◌≡◌, ◌⊎◌, ℕ, List, [], ◌∷◌, ◌++◌, Option, Some, option_map, string_bytes, codes}
+use Rattle.std.specs.Borrow.{Bor}
 use Rattle.nextest_faults.specs.Found.{step_text}
 use Rattle.nextest_places.specs.declared.step.Step.{Step}
+use Rattle.nextest_places.specs.declared.step.Step.TheVariants as steps
 use Rattle.nextest_tree.specs.declared.fault.ElementCause.{ElementCause}
 use Rattle.nextest_tree.specs.declared.fault.ElementCause.TheVariants as causes
 use Rattle.rinqebo_codes.specs.Codes.{code_word}
@@ -54,9 +56,17 @@ code_of causes.OutOfRange = OutOfRange
 code_of causes.UnknownField = RefusedKey
 code_of causes.Memory = OutOfRange
 
--- A finding is that of a value: an error with the code of what is wrong there, at its path or below
--- it. Of a table, delays are out of range.
-abbrev pub IsElementFinding : ElementCause → List Step → Finding → Type 0
-IsElementFinding causes.OutOfRange path finding =
-    IsErrorBelow OutOfRange path finding ⊎ IsErrorBelow MaxDelayBelowDelay path finding
-IsElementFinding cause path finding = IsErrorBelow (code_of cause) path finding
+-- the path of a table that lacks a key, or of the key that it has in its place
+abbrev pub lack_path : List Step → Option (Bor (List ℕ)) → List Step
+lack_path table None = table
+lack_path table (Some key) = table ++ steps.Key key ∷ []
+
+-- A finding is that of a value: an error with the code of what is wrong there, at its path. That a table
+-- lacks a key is at the key that it has in its place, if there is one. Of a table, delays are out of
+-- range: at the table, or below it.
+abbrev pub IsElementFinding : ElementCause → List Step → Option (Bor (List ℕ)) → Finding → Type 0
+IsElementFinding (causes.Missing key) path stray finding =
+    subject finding ≡ error_at MissingKey (lack_path path stray)
+IsElementFinding causes.OutOfRange path stray finding =
+    (subject finding ≡ error_at OutOfRange path) ⊎ IsErrorBelow MaxDelayBelowDelay path finding
+IsElementFinding cause path stray finding = subject finding ≡ error_at (code_of cause) path

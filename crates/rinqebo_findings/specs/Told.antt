@@ -1,6 +1,7 @@
 -- Which findings tell of which faults.
 use Rattle.std.specs.Prelude.{◌≡◌, ◌⊎◌, ℕ, List, [], ◌∷◌, ◌++◌, Bool, true, false, Contains, Option, None, Some, String, map, slice_get, slice_index_or}
 use Rattle.std.specs.Option.{option_and_then}
+use Rattle.std.specs.Borrow.{Bor}
 use Rattle.std.specs.declared.alloc.Global.{Global}
 use Rattle.nextest_documents.specs.Merge.{over}
 use Rattle.nextest_documents.specs.Text.{tree_of}
@@ -16,6 +17,7 @@ use Rattle.nextest_tree.specs.Schema.{faults}
 use Rattle.nextest_tree.specs.declared.fault.ElementCause.TheVariants as causes
 use Rattle.rinqebo_files.specs.declared.layers.Layer.{Layer}
 use Rattle.rinqebo_report.specs.declared.finding.Finding.{Finding}
+use Rattle.rinqebo_findings.specs.declared.value_faults.ValueFault.{ValueFault}
 use Rattle.rinqebo_findings.specs.Shown.{AreReported}
 use Rattle.rinqebo_findings.specs.Subjects.{IsElementFinding}
 
@@ -28,35 +30,42 @@ pub record IsRefusedKey (table : List Step) (key : List ℕ) (fault : FoundFault
   pub refused : fault.cause ≡ causes.UnknownField
   pub at_key : IsKeyIn fault.path.items table key
 
--- A fault is joined with another one: a table refuses a key, and it lacks one in its place.
-pub record IsJoined (faults : List FoundFault) (fault : FoundFault) : Type 0 where
-  pub other : FoundFault
+-- A fault is joined with another one: a table refuses a key, which it has in place of one that it
+-- lacks. The finding of that one is at the key.
+pub record IsJoined (faults : List ValueFault) (fault : ValueFault) : Type 0 where
+  pub other : ValueFault
   pub among : Contains faults other
   pub missing : String Global
-  pub lacks : other.cause ≡ causes.Missing missing
-  pub key : List ℕ
-  pub stands : IsRefusedKey other.path.items key fault
+  pub lacks : other.fault.cause ≡ causes.Missing missing
+  pub key : Bor (List ℕ)
+  pub in_place : other.stray ≡ Some key
+  pub stands : IsRefusedKey other.fault.path.items key.now fault.fault
 
 -- the faults whose marks are set are joined
-abbrev pub AreJoined : List FoundFault → List Bool → Type 0
+abbrev pub AreJoined : List ValueFault → List Bool → Type 0
 AreJoined faults marks =
-    (place : ℕ) (fault : FoundFault) → slice_index_or marks place false ≡ true
+    (place : ℕ) (fault : ValueFault) → slice_index_or marks place false ≡ true
     → slice_get faults place ≡ Some fault → IsJoined faults fault
 
+-- a finding is that of a fault
+abbrev pub IsFindingOf : ValueFault → Finding → Type 0
+IsFindingOf fault finding =
+    IsElementFinding fault.fault.cause fault.fault.path.items fault.stray finding
+
 -- Findings tell of faults, each in turn: a fault has one finding of its own, or it is joined.
-abbrev pub Told : (FoundFault → Type 0) → List FoundFault → List Finding → Type 0
+abbrev pub Told : (ValueFault → Type 0) → List ValueFault → List Finding → Type 0
 Told Joined [] [] = Unit {0}
 Told Joined [] (finding ∷ findings) = ⊥
 Told Joined (fault ∷ faults) [] = Joined fault × Told Joined faults []
 Told Joined (fault ∷ faults) (finding ∷ findings) =
     (Joined fault × Told Joined faults (finding ∷ findings))
-    ⊎ (IsElementFinding fault.cause fault.path.items finding × Told Joined faults findings)
+    ⊎ (IsFindingOf fault finding × Told Joined faults findings)
 
 -- Findings tell of the values of a document: of exactly the faults that the definitions list of it, over
 -- the table of defaults, each in turn.
 pub record TellOfValues (document : Node) (findings : List Finding) : Type 0 where
-  pub found : List FoundFault
-  pub are_all : Adds [] found (faults a_file [] (over document defaults))
+  pub found : List ValueFault
+  pub are_all : Adds [] (map (λ f. f.fault) found) (faults a_file [] (over document defaults))
   pub told : Told (IsJoined found) found findings
 
 -- of the values of a document, if there is one

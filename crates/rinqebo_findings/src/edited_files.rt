@@ -36,9 +36,10 @@ fn copy_outcome(alloc: Global, outcome: &ReadOutcome) -> Result<ReadOutcome, All
 }
 
 impl Reading {
-    /// The files as they are, with some features.
+    /// The files with edits, and with some features.
     pub fn new(
         alloc: Global,
+        edits: Edits,
         features: &BTreeSet<ConfigExperimental>,
     ) -> Result<Reading, AllocError> {
         let mut copies = BTreeSet::new(alloc);
@@ -46,7 +47,7 @@ impl Reading {
             copies.insert(*feature)?;
         }
         Ok(Reading {
-            edits: Edits::new(alloc),
+            edits,
             unread: BTreeSet::new(alloc),
             features: copies,
         })

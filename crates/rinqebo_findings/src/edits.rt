@@ -1,4 +1,5 @@
 //! Edits that leave out what is refused in the files of a run, so that the rest can be checked.
+use crate::left_out::LeftOut;
 use nextest_places::Step;
 use std::alloc::{AllocError, Global};
 use std::collections::{BTreeMap, BTreeSet};
@@ -38,6 +39,8 @@ pub struct Edits {
     replaced: BTreeMap<String, &'static str>,
     /// What is read behind the keys of the tables at paths.
     added: BTreeMap<String, String>,
+    /// The names whose definitions are left out.
+    pub left_out: LeftOut,
 }
 
 impl Edits {
@@ -48,6 +51,7 @@ impl Edits {
             removed: BTreeSet::new(alloc),
             replaced: BTreeMap::new(alloc),
             added: BTreeMap::new(alloc),
+            left_out: LeftOut::new(alloc),
         }
     }
 

@@ -1,6 +1,5 @@
 //! What files are read without where a value is refused.
 use crate::edits::Edits;
-use crate::left_out::LeftOut;
 use crate::tables::key_at;
 use nextest_config::ElementCause;
 use nextest_places::Step;
@@ -140,18 +139,17 @@ fn leave_out_needed(
 /// Leaves out a value that is refused.
 fn leave_out_value(
     edits: &mut Edits,
-    left_out: &mut LeftOut,
     place: usize,
     cause: &ElementCause,
     path: &[Step<'_>],
 ) -> Result<(), AllocError> {
     match part_at(path) {
         Part::Groups => {
-            left_out.groups.is_any = true;
+            edits.left_out.groups.is_any = true;
             edits.remove(place, path)
         }
         Part::Scripts => {
-            left_out.scripts.is_any = true;
+            edits.left_out.scripts.is_any = true;
             edits.remove(place, path)
         }
         Part::Group | Part::Script if is_bad_name(cause, path) => edits.remove(place, path),
@@ -186,10 +184,10 @@ fn add_missing(
 }
 
 /// Notes the profile of a script rule of which a value is refused.
-fn note_rules(left_out: &mut LeftOut, path: &[Step<'_>]) -> Result<(), AllocError> {
+fn note_rules(edits: &mut Edits, path: &[Step<'_>]) -> Result<(), AllocError> {
     match (key_at(path, 0), key_at(path, 1), key_at(path, 2)) {
         (Some("profile"), Some(_), Some("scripts")) => match path.get(..3) {
-            Some(rules) => left_out.rules.add_path(rules),
+            Some(rules) => edits.left_out.rules.add_path(rules),
             None => Ok(()),
         },
         _ => Ok(()),
@@ -199,19 +197,18 @@ fn note_rules(left_out: &mut LeftOut, path: &[Step<'_>]) -> Result<(), AllocErro
 /// Leaves out an element of a source that is refused.
 pub fn leave_out_element(
     edits: &mut Edits,
-    left_out: &mut LeftOut,
     place: usize,
     cause: &ElementCause,
     path: &[Step<'_>],
 ) -> Result<(), AllocError> {
-    note_rules(left_out, path)?;
+    note_rules(edits, path)?;
     match cause {
         ElementCause::Missing(key) => add_missing(edits, place, key.as_str(), path),
         ElementCause::UnknownField => edits.remove(place, path),
         ElementCause::WrongKind
         | ElementCause::BadValue { .. }
         | ElementCause::OutOfRange
-        | ElementCause::Memory => leave_out_value(edits, left_out, place, cause, path),
+        | ElementCause::Memory => leave_out_value(edits, place, cause, path),
     }
 }
 

@@ -1,6 +1,6 @@
 //! Findings of values that a file may not have where it writes them.
-ghost use Rattle.std.specs.Prelude.{◌≡◌, IfOk};
-ghost use Rattle.rinqebo_findings.specs.Subjects.{IsElementFinding, IsErrorBelow, code_of, error_at, subject};
+ghost use Rattle.std.specs.Prelude.{◌≡◌, IfOk, None};
+ghost use Rattle.rinqebo_findings.specs.Subjects.{IsElementFinding, code_of, error_at, lack_path, subject};
 
 use crate::delays::delays_finding;
 use crate::expected::expected_at;
@@ -177,7 +177,7 @@ fn element_finding(
     cause: &ElementCause,
     path: &[Step<'_>],
 ) -> Result<Finding, AllocError>
-    ensures { IfOk result (IsElementFinding cause.now path.now) }
+    ensures { IfOk result (IsElementFinding cause.now path.now None) }
 {
     match cause {
         ElementCause::OutOfRange if has_table(refused.source, path) => {
@@ -238,7 +238,8 @@ fn missing_finding<'x>(
     table: &[Step<'x>],
     stray: Option<&'x str>,
 ) -> Result<Finding, AllocError>
-    ensures { IfOk result (IsErrorBelow Code.MissingKey table.now) }
+    ensures { IfOk result (λ found. subject found
+        ≡ error_at Code.MissingKey (lack_path table.now stray.entry)) }
 {
     match stray {
         Some(stray) => {
@@ -257,7 +258,7 @@ pub fn fault_finding<'x>(
     path: &[Step<'x>],
     stray: Option<&'x str>,
 ) -> Result<Finding, AllocError>
-    ensures { IfOk result (IsElementFinding cause.now path.now) }
+    ensures { IfOk result (IsElementFinding cause.now path.now stray.entry) }
 {
     match cause {
         ElementCause::Missing(key) => { Ok(missing_finding(refused, key.as_str(), path, stray)?) }

@@ -5,11 +5,10 @@ ghost use Rattle.rinqebo_findings.specs.Told.{TellOfDocument, TellOfFiles, TellO
 
 use crate::edits::Edits;
 use crate::element_repairs::leave_out_element;
-use crate::left_out::LeftOut;
-use crate::value_faults::{fault_findings, strays_of};
+use crate::value_faults::{ValueFault, fault_findings, with_strays};
 use nextest_config::Tree;
 use nextest_documents::lay_over;
-use nextest_faults::{FoundFault, file_faults};
+use nextest_faults::file_faults;
 use nextest_tables::default_tree;
 use rinqebo_files::Layer;
 use rinqebo_load::Session;
@@ -20,16 +19,14 @@ use std::alloc::{AllocError, Global};
 /// ones.
 fn leave_out_faults(
     edits: &mut Edits,
-    left_out: &mut LeftOut,
     place: usize,
-    faults: &[FoundFault<'_>],
-    strays: &[Option<&str>],
+    faults: &[ValueFault<'_>],
 ) -> Result<(), AllocError> {
-    for (fault, stray) in faults.iter().zip(strays) {
+    for ValueFault { fault, stray } in faults {
         if let Some(stray) = stray {
             edits.remove_key(place, &fault.path, *stray)?;
         }
-        leave_out_element(edits, left_out, place, &fault.cause, &fault.path)?;
+        leave_out_element(edits, place, &fault.cause, &fault.path)?;
     }
     Ok(())
 }
@@ -52,16 +49,15 @@ fn document_findings(
     place: usize,
     document: &Tree,
     edits: &mut Edits,
-    left_out: &mut LeftOut,
 ) -> Result<Vec<Finding>, AllocError>
     ensures { IfOk result
         (λ findings. TellOfValues (tree_view document.now) findings.items) }
 {
     let tree = lay_over(alloc, document, default_tree(alloc)?)?;
     let faults = file_faults(alloc, &tree)?;
-    let strays = strays_of(alloc, &tree, &faults)?;
-    leave_out_faults(edits, left_out, place, &faults, &strays)?;
-    Ok(fault_findings(alloc, session, place, &faults, &strays)?)
+    let found = with_strays(alloc, &tree, faults)?;
+    leave_out_faults(edits, place, &found)?;
+    Ok(fault_findings(alloc, session, place, &found)?)
 }
 
 /// The findings of the values in the file of the layer at a place, if it is a document.
@@ -71,15 +67,12 @@ fn layer_findings(
     place: usize,
     layer: &Layer<'_>,
     edits: &mut Edits,
-    left_out: &mut LeftOut,
 ) -> Result<Vec<Finding>, AllocError>
     ensures { IfOk result
         (λ findings. TellOfDocument (document_in layer.now) findings.items) }
 {
     match document_of(layer) {
-        Some(document) => {
-            Ok(document_findings(alloc, session, place, document, edits, left_out)?)
-        }
+        Some(document) => { Ok(document_findings(alloc, session, place, document, edits)?) }
         None => Ok(Vec::new(alloc)),
     }
 }
@@ -91,13 +84,12 @@ pub fn value_findings(
     session: &Session<'_>,
     layers: &[Layer<'_>],
     edits: &mut Edits,
-    left_out: &mut LeftOut,
 ) -> Result<Vec<Finding>, AllocError>
     ensures { IfOk result (λ findings. TellOfFiles layers.now findings.items) }
 {
     let mut findings = Vec::new(alloc);
     for (place, layer) in layers.iter().enumerate() {
-        let mut own = layer_findings(alloc, session, place, layer, edits, left_out)?;
+        let mut own = layer_findings(alloc, session, place, layer, edits)?;
         findings.append(&mut own)?;
     }
     Ok(findings)

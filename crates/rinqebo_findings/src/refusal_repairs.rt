@@ -1,7 +1,6 @@
 //! What files are read without where a later check refuses them.
 use crate::cycles::parent_path;
 use crate::edits::Edits;
-use crate::left_out::LeftOut;
 use crate::paths::path_with;
 use crate::refusals::section_path;
 use nextest_config::{
@@ -26,14 +25,13 @@ const CONDITION: &str = "platform = \"cfg(unix)\"";
 pub fn leave_out_foreign_groups(
     alloc: Global,
     edits: &mut Edits,
-    left_out: &mut LeftOut,
     place: usize,
     groups: &BTreeSet<CustomTestGroup>,
 ) -> Result<(), AllocError> {
     for group in groups.iter() {
         let name = group.to_string(alloc)?;
         edits.remove(place, &[Step::Key("test-groups"), Step::Key(name.as_str())])?;
-        left_out.groups.add(name.as_str())?;
+        edits.left_out.groups.add(name.as_str())?;
     }
     Ok(())
 }
@@ -42,7 +40,6 @@ pub fn leave_out_foreign_groups(
 pub fn leave_out_scripts(
     alloc: Global,
     edits: &mut Edits,
-    left_out: &mut LeftOut,
     place: usize,
     scripts: &BTreeSet<ScriptId>,
 ) -> Result<(), AllocError> {
@@ -56,7 +53,7 @@ pub fn leave_out_scripts(
             )?;
         }
         edits.remove(place, &[Step::Key("script"), Step::Key(name)])?;
-        left_out.scripts.add(name)?;
+        edits.left_out.scripts.add(name)?;
     }
     Ok(())
 }
@@ -69,13 +66,12 @@ fn old_scripts(tree: Option<&Tree>) -> Option<&BTreeMap<String, Tree>> {
 /// Leaves out the old table of scripts of a source.
 pub fn leave_out_old_scripts(
     edits: &mut Edits,
-    left_out: &mut LeftOut,
     place: usize,
     tree: Option<&Tree>,
 ) -> Result<(), AllocError> {
     if let Some(scripts) = old_scripts(tree) {
         for name in scripts.keys() {
-            left_out.scripts.add(name.as_str())?;
+            edits.left_out.scripts.add(name.as_str())?;
         }
     }
     edits.remove(place, &[Step::Key("script")])

@@ -372,19 +372,19 @@ pub fn refused_place(layers: &[Layer], error: &ConfigParseError) -> Option<usize
     place_at(layers, refused_owner(error), error.config_file()?)
 }
 
-/// Adds the findings of a refusal of files without what is left out.
-pub fn add_refusal<'x>(
+/// Returns the findings of a refusal of files without what is left out.
+pub fn refusal_findings(
     alloc: Global,
-    session: &'x Session<'_>,
+    session: &Session<'_>,
     error: &ConfigParseError,
-    left_out: &'x LeftOut,
-    findings: &'x mut Vec<Finding>,
-) -> Result<(), AllocError> {
+    left_out: &LeftOut,
+) -> Result<Vec<Finding>, AllocError> {
     let position = refused_place(&session.layers, error);
     let text = match position {
         Some(position) => text_of(session.gathered, position),
         None => None,
     };
+    let mut findings = Vec::new(alloc);
     let mut refused = Refused {
         alloc,
         source: SourceAt {
@@ -394,7 +394,8 @@ pub fn add_refusal<'x>(
         text,
         upstream: error.kind().name(),
         left_out,
-        findings,
+        findings: &mut findings,
     };
-    add_kind(&mut refused, error.kind())
+    add_kind(&mut refused, error.kind())?;
+    Ok(findings)
 }

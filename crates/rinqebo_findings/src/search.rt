@@ -5,15 +5,15 @@ ghost use Rattle.rinqebo_findings.specs.Told.{TellOfAll};
 
 use crate::checks::{Check, Scope, check_of, scope_of};
 use crate::edited_files::Reading;
+use crate::edits::Edits;
 use crate::element_repairs::leave_out_setting;
 use crate::file_values::value_findings;
 use crate::findings::warning_findings;
-use crate::left_out::LeftOut;
 use crate::refusal_repairs::{
     leave_out_foreign_groups, leave_out_groups, leave_out_old_scripts, leave_out_parents,
     leave_out_script_rules, leave_out_scripts, leave_out_sections,
 };
-use crate::refusals::{add_refusal, refused_place};
+use crate::refusals::{refusal_findings, refused_place};
 use crate::unreached::{names_after, only};
 use nextest_config::{
     ConfigExperimental, ConfigParseError, ConfigParseErrorKind, DefaultConfigWarnings, Tree,
@@ -37,8 +37,6 @@ struct Search<'s, 'g> {
     session: &'s Session<'g>,
     /// What the files are read with.
     reading: Reading,
-    /// The names whose definitions are left out.
-    left_out: LeftOut,
     /// The lowest source that is not read: what it defines is not known.
     lowest_unread: Option<usize>,
     findings: Vec<Finding>,
@@ -73,13 +71,16 @@ fn warning_mark(alloc: Global, warning: &Finding) -> Result<String, AllocError> 
 }
 
 impl<'s, 'g> Search<'s, 'g> {
-    /// A search that has found nothing.
-    fn new(alloc: Global, session: &'s Session<'g>) -> Result<Search<'s, 'g>, AllocError> {
+    /// A search that has found nothing, in files with edits.
+    fn new(
+        alloc: Global,
+        session: &'s Session<'g>,
+        edits: Edits,
+    ) -> Result<Search<'s, 'g>, AllocError> {
         Ok(Search {
             alloc,
             session,
-            reading: Reading::new(alloc, &session.features)?,
-            left_out: LeftOut::new(alloc),
+            reading: Reading::new(alloc, edits, &session.features)?,
             lowest_unread: None,
             findings: Vec::new(alloc),
             unreached: Vec::new(alloc),
@@ -97,7 +98,7 @@ impl<'s, 'g> Search<'s, 'g> {
         match &warning.path {
             Some(path) => {
                 warning.code.as_str() == Code::EmptyScriptRule.word()
-                    && self.left_out.rules.has(path.as_str())
+                    && self.reading.edits.left_out.rules.has(path.as_str())
             }
             None => false,
         }
@@ -117,13 +118,10 @@ impl<'s, 'g> Search<'s, 'g> {
 
     /// Adds what a refusal says.
     fn add(&mut self, error: &ConfigParseError) -> Result<(), AllocError> {
-        add_refusal(
-            self.alloc,
-            self.session,
-            error,
-            &self.left_out,
-            &mut self.findings,
-        )
+        let left_out = &self.reading.edits.left_out;
+        let mut found = refusal_findings(self.alloc, self.session, error, left_out)?;
+        self.findings.append(&mut found)?;
+        Ok(())
     }
 
     /// Adds that a source does not reach the checks behind those that need no other source.
@@ -204,21 +202,20 @@ impl<'s, 'g> Search<'s, 'g> {
         let tree = self.tree_at(place);
         let sources = self.session.layers.len();
         let edits = &mut self.reading.edits;
-        let left_out = &mut self.left_out;
         match kind {
             ConfigParseErrorKind::InvalidTestGroupsDefined(groups)
             | ConfigParseErrorKind::InvalidTestGroupsDefinedByTool(groups)
             | ConfigParseErrorKind::InvalidTestGroupsDefinedByOrganisation(groups) => {
-                leave_out_foreign_groups(alloc, edits, left_out, place, groups)
+                leave_out_foreign_groups(alloc, edits, place, groups)
             }
             ConfigParseErrorKind::BothScriptAndScriptsDefined => {
-                leave_out_old_scripts(edits, left_out, place, tree)
+                leave_out_old_scripts(edits, place, tree)
             }
             ConfigParseErrorKind::DuplicateConfigScriptNames(scripts)
             | ConfigParseErrorKind::InvalidConfigScriptsDefined(scripts)
             | ConfigParseErrorKind::InvalidConfigScriptsDefinedByTool(scripts)
             | ConfigParseErrorKind::InvalidConfigScriptsDefinedByOrganisation(scripts) => {
-                leave_out_scripts(alloc, edits, left_out, place, scripts)
+                leave_out_scripts(alloc, edits, place, scripts)
             }
             ConfigParseErrorKind::InheritanceErrors(errors) => {
                 leave_out_parents(edits, sources, errors)
@@ -331,10 +328,9 @@ pub fn all_findings(
     ensures { IfOk result
         (λ found. TellOfAll session.now.layers.items found.findings.items) }
 {
-    let mut search = Search::new(alloc, session)?;
-    let edits = &mut search.reading.edits;
-    let left_out = &mut search.left_out;
-    let mut findings = value_findings(alloc, session, &session.layers, edits, left_out)?;
+    let mut edits = Edits::new(alloc);
+    let mut findings = value_findings(alloc, session, &session.layers, &mut edits)?;
+    let mut search = Search::new(alloc, session, edits)?;
     search.run(warnings, error)?;
     let Search {
         findings: mut others,

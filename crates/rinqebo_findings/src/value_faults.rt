@@ -1,11 +1,10 @@
 //! The findings of all faults of values of a source: one for each fault, but for a key that a table
 //! refuses in place of one that it lacks: these two are one finding.
 ghost use Rattle.std.specs.Prelude.{◌≡◌, ◌++◌, ◌∷◌, [], IfOk, IfSome, IsTrue, List, OnOk, Some, map, slice_get, slice_index_or, slice_set, true, false};
-ghost use Rattle.nextest_faults.specs.declared.found.FoundFault.{FoundFault};
 ghost use Rattle.nextest_spans.specs.Paths.{path_step};
 ghost use Rattle.nextest_spans.specs.Paths as paths;
-ghost use Rattle.rinqebo_findings.specs.Subjects.{IsElementFinding};
-ghost use Rattle.rinqebo_findings.specs.Told.{AreJoined, IsJoined, IsKeyIn, IsRefusedKey, Told};
+ghost use Rattle.rinqebo_findings.specs.Told.{AreJoined, IsFindingOf, IsJoined, IsKeyIn, IsRefusedKey, Told};
+ghost use Rattle.rinqebo_findings.specs.declared.value_faults.ValueFault.{ValueFault};
 
 use crate::elements::fault_finding;
 use crate::excerpts::text_of;
@@ -24,34 +23,46 @@ use std::alloc::{AllocError, Global};
 /// The name that nextest-runner has for a value that is refused.
 const REFUSED_VALUE: &str = "DeserializeError";
 
+/// A fault of a value.
+#[derive(Drop)]
+pub struct ValueFault<'t> {
+    /// The fault.
+    pub fault: FoundFault<'t>,
+    /// The key that a table has in place of one that it lacks, if there is one.
+    pub stray: Option<&'t str>,
+}
+
 /// The key that the table of a fault has in place of the one that it lacks, if one is near that the
 /// table does not know.
-fn stray_of<'y>(
+fn stray_of<'t>(
     alloc: Global,
-    laid: &'y Tree,
+    tree: &'t Tree,
     fault: &FoundFault<'_>,
-) -> Result<Option<&'y str>, AllocError> {
+) -> Result<Option<&'t str>, AllocError> {
     let ElementCause::Missing(key) = &fault.cause else {
         return Ok(None);
     };
-    match tree_at(laid, &fault.path) {
+    match tree_at(tree, &fault.path) {
         Some(table) => stray_key(alloc, &fault.path, table, key.as_str()),
         None => Ok(None),
     }
 }
 
-/// For each fault of a source over the defaults, the key that its table has in place of one that it
-/// lacks.
-pub fn strays_of<'y>(
+/// The faults of the values of a tree, each with the key that its table has in place of one that it
+/// lacks, if there is one.
+pub fn with_strays<'t>(
     alloc: Global,
-    laid: &'y Tree,
-    faults: &[FoundFault<'_>],
-) -> Result<Vec<Option<&'y str>>, AllocError> {
-    let mut strays = Vec::new(alloc);
+    tree: &'t Tree,
+    faults: Vec<FoundFault<'t>>,
+) -> Result<Vec<ValueFault<'t>>, AllocError>
+    ensures { IfOk result (λ found. map (λ f. f.fault) found.items ≡ faults.entry.items) }
+{
+    let mut found = Vec::new(alloc);
     for fault in faults {
-        strays.push(stray_of(alloc, laid, fault)?)?;
+        let stray = stray_of(alloc, tree, &fault)?;
+        found.push(ValueFault { fault, stray })?;
     }
-    Ok(strays)
+    Ok(found)
 }
 
 /// Whether two steps are the same.
@@ -117,20 +128,21 @@ fn is_refused_key(fault: &FoundFault<'_>, table: &[Step<'_>], key: &str) -> bool
 /// The place, before another one, of the fault that the table at a path refuses a key. The faults of
 /// keys that a table refuses come right before those of the keys that it lacks.
 fn refused_before(
-    faults: &[FoundFault<'_>],
+    faults: &[ValueFault<'_>],
     end: usize,
     table: &[Step<'_>],
     key: &str,
 ) -> Option<usize>
-    ensures { IfSome result (λ place. (fault : FoundFault) → slice_get faults.now place ≡ Some fault
-        → IsRefusedKey table.now key.now fault) }
+    ensures { IfSome result (λ place. (refused : ValueFault)
+        → slice_get faults.now place ≡ Some refused
+        → IsRefusedKey table.now key.now refused.fault) }
 {
     for place in (0..end).rev() {
-        let fault = faults.get(place)?;
-        if is_refused_key(fault, table, key) {
+        let refused = faults.get(place)?;
+        if is_refused_key(&refused.fault, table, key) {
             return Some(place);
         }
-        let ElementCause::UnknownField = &fault.cause else {
+        let ElementCause::UnknownField = &refused.fault.cause else {
             return None;
         };
     }
@@ -139,14 +151,14 @@ fn refused_before(
 
 /// The place of the fault that is joined with the one at a place, if one is: that the table refuses
 /// the key that it has in place of one that it lacks.
-fn joined_with(faults: &[FoundFault<'_>], place: usize, stray: Option<&str>) -> Option<usize>
-    ensures { IfSome result (λ joined. (fault : FoundFault)
-        → slice_get faults.now joined ≡ Some fault → IsJoined faults.now fault) }
+fn joined_with(faults: &[ValueFault<'_>], place: usize) -> Option<usize>
+    ensures { IfSome result (λ joined. (refused : ValueFault)
+        → slice_get faults.now joined ≡ Some refused → IsJoined faults.now refused) }
 {
-    let fault = faults.get(place)?;
-    let stray = stray?;
-    match &fault.cause {
-        ElementCause::Missing(_) => refused_before(faults, place, &fault.path, stray),
+    let lacking = faults.get(place)?;
+    let stray = lacking.stray?;
+    match &lacking.fault.cause {
+        ElementCause::Missing(_) => refused_before(faults, place, &lacking.fault.path, stray),
         _ => None,
     }
 }
@@ -168,45 +180,34 @@ fn is_marked(marks: &[bool], place: usize) -> bool
 }
 
 /// Adds the mark of the fault that is joined with the one at a place, if one is.
-fn mark_joined(marks: &mut Vec<bool>, faults: &[FoundFault<'_>], place: usize, stray: Option<&str>)
+fn mark_joined(marks: &mut Vec<bool>, faults: &[ValueFault<'_>], place: usize)
     requires { AreJoined faults.now marks.old.items }
     ensures { AreJoined faults.now marks.new.items }
 {
-    if let Some(joined) = joined_with(faults, place, stray) {
+    if let Some(joined) = joined_with(faults, place) {
         set_mark(marks, joined);
     }
 }
 
 /// For each fault, whether it is joined with another one.
-fn joined_marks(
-    alloc: Global,
-    faults: &[FoundFault<'_>],
-    strays: &[Option<&str>],
-) -> Result<Vec<bool>, AllocError>
+fn joined_marks(alloc: Global, faults: &[ValueFault<'_>]) -> Result<Vec<bool>, AllocError>
     ensures { IfOk result (λ marks. AreJoined faults.now marks.items) }
 {
     let mut marks = vec![in alloc; false; faults.len()]?;
-    for (place, stray) in strays.iter().enumerate() {
-        mark_joined(&mut marks, faults, place, *stray);
+    for place in 0..faults.len() {
+        mark_joined(&mut marks, faults, place);
     }
     Ok(marks)
 }
 
-/// The key at a place that stands in place of a missing one, if there is one.
-fn stray_at<'s>(strays: &[Option<&'s str>], place: usize) -> Option<&'s str> {
-    *strays.get(place)?
-}
-
-/// The finding of a fault in the source at a place among the layers. A table that lacks a key may have
-/// another one in its place.
+/// The finding of a fault in the source at a place among the layers.
 fn finding_of(
     alloc: Global,
     session: &Session<'_>,
     source: usize,
-    fault: &FoundFault<'_>,
-    stray: Option<&str>,
+    fault: &ValueFault<'_>,
 ) -> Result<Finding, AllocError>
-    ensures { IfOk result (IsElementFinding fault.now.cause fault.now.path.items) }
+    ensures { IfOk result (IsFindingOf fault.now) }
 {
     let left_out = LeftOut::new(alloc);
     let mut none = Vec::new(alloc);
@@ -221,7 +222,7 @@ fn finding_of(
         left_out: &left_out,
         findings: &mut none,
     };
-    fault_finding(&refused, &fault.cause, &fault.path, stray)
+    fault_finding(&refused, &fault.fault.cause, &fault.fault.path, fault.stray)
 }
 
 /// Adds the finding of a fault in the source at a place among the layers, unless the fault is joined
@@ -230,48 +231,36 @@ fn add_finding(
     alloc: Global,
     session: &Session<'_>,
     source: usize,
-    fault: &FoundFault<'_>,
-    stray: Option<&str>,
+    fault: &ValueFault<'_>,
     is_joined: bool,
     findings: &mut Vec<Finding>,
 ) -> Result<(), AllocError>
-    ensures { (Joined : FoundFault → Type 0) (earlier : List FoundFault)
+    ensures { (Joined : ValueFault → Type 0) (earlier : List ValueFault)
         → (is_joined ≡ true → Joined fault.now) → Told Joined earlier findings.old.items
         → OnOk result (Told Joined (earlier ++ fault.now ∷ []) findings.new.items) }
 {
     if is_joined {
         return Ok(());
     }
-    let own = finding_of(alloc, session, source, fault, stray)?;
+    let own = finding_of(alloc, session, source, fault)?;
     findings.push(own)?;
     Ok(())
 }
 
-/// The findings of all faults of values of the source at a place among the layers, in their order. A
-/// table that lacks a key may have another one in its place.
+/// The findings of all faults of the values of the source at a place among the layers, in their order.
 pub fn fault_findings(
     alloc: Global,
     session: &Session<'_>,
     source: usize,
-    faults: &[FoundFault<'_>],
-    strays: &[Option<&str>],
+    faults: &[ValueFault<'_>],
 ) -> Result<Vec<Finding>, AllocError>
     ensures { IfOk result (λ findings. Told (IsJoined faults.now) faults.now findings.items) }
 {
-    let marks = joined_marks(alloc, faults, strays)?;
+    let marks = joined_marks(alloc, faults)?;
     let mut findings = Vec::new(alloc);
     for (place, fault) in faults.iter().enumerate() {
-        let stray = stray_at(strays, place);
         let is_joined = is_marked(&marks, place);
-        add_finding(
-            alloc,
-            session,
-            source,
-            fault,
-            stray,
-            is_joined,
-            &mut findings,
-        )?;
+        add_finding(alloc, session, source, fault, is_joined, &mut findings)?;
     }
     Ok(findings)
 }

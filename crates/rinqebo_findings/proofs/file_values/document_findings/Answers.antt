@@ -6,6 +6,6 @@ use Rattle.rinqebo_findings.proofs.file_values.document_findings.Goals as goal
 
 pub returns : goal.returns
 returns c =
-    told_values _ (tree_view c.in_ok-tree.tree) c.in_ok-faults.faults.items _ _
+    told_values _ (tree_view c.in_ok-tree.tree) c.in_ok-faults.faults.items c.in_ok-found.found.items _ _
     (c.in_ok-tree.ensures.is ∙ ap (over (tree_view c.args.document.now)) c.in_ok-default_tree.ensures)
-    c.in_ok-faults.ensures c.deref-3.ensures.value c.in_ok-fault_findings.ensures
+    c.in_ok-faults.ensures c.in_ok-found.ensures c.deref-2.ensures.value c.in_ok-fault_findings.ensures
