@@ -26,7 +26,7 @@ ghost use Rattle.rinqebo_c.specs.Handles.{finished, lent_run, loaded, lent, prof
 
 use rinqebo_resolve::{Run, resolve};
 use rinqebo_session::version::{copy_version, version_number};
-use rinqebo_session::{Profile, RequestedTest, Session, SettingNumbers};
+use rinqebo_session::{CallerTest, Profile, Session, SettingNumbers};
 use std::alloc::Global;
 use std::mem::size_of;
 
@@ -71,8 +71,8 @@ pub extern "C" fn rinqebo_run_size() -> usize
     size_of::<Run>()
 }
 
-/// Makes the run that a request in JSON asks for, in room for a run. It always leaves a run there,
-/// whose status says how it ended.
+/// Makes the run of a request in JSON, in room for a run. It always leaves a run there, whose
+/// status says how it ended.
 #[unsafe(no_mangle)]
 pub unsafe extern "C" fn rinqebo_run_new(alloc: Global, request: &[u8], room: *mut u8)
     // The room has the size and the alignment of a run, and holds none.
@@ -229,7 +229,7 @@ pub unsafe extern "C" fn rinqebo_profile_status(profile: *const u8) -> u32
 #[unsafe(no_mangle)]
 pub unsafe extern "C" fn rinqebo_profile_ask(
     profile: *const u8,
-    test: &RequestedTest<'_>,
+    test: &CallerTest<'_>,
     settings: &mut SettingNumbers,
 ) -> u32
     ghost g: { List ℕ × List ℕ × Share × Share × Profile }
@@ -246,7 +246,7 @@ pub unsafe extern "C" fn rinqebo_profile_ask(
 #[unsafe(no_mangle)]
 pub unsafe extern "C" fn rinqebo_profile_argument(
     profile: *const u8,
-    test: &RequestedTest<'_>,
+    test: &CallerTest<'_>,
     index: usize,
     out: &mut [u8],
     needed: &mut usize,

@@ -1,4 +1,4 @@
--- Why a session answers nothing.
+-- Why a session has no result.
 use Rattle.std.specs.Prelude.{◌≡◌}
 use Rattle.nextest_load.specs.Config.{config_of}
 use Rattle.nextest_sources.specs.Endings.{IsMemory}
@@ -25,7 +25,7 @@ IsLoadFailure error (failures.NoTest report) = ⊥
 IsLoadFailure error (failures.SeveralTests report) = ⊥
 IsLoadFailure error failures.Memory = Unit {0}
 
--- a failure tells that a profile is missing
+-- a failure says that a profile is missing
 abbrev pub IsProfileFailure : Failure → Type 0
 IsProfileFailure (failures.Engines fault) = ⊥
 IsProfileFailure (failures.Refused report) = ⊥
@@ -41,8 +41,8 @@ pub record LacksProfile (session : Session) (name : Name) : Type 0 where
   pub absent : ¬ IsIn (names_in (config_of (readings session.engines.filters)
       (sources_in (files_view session.gathered.now))).profiles) name
 
--- A session answers nothing about a profile: files are refused only where some written rule does
--- not hold of them, and the profile is missing only where they lack it.
+-- A session has no result about a profile: files are refused only where some written rule does not
+-- hold of them, and the profile is missing only where they lack it.
 abbrev pub IsFailureAbout : Session → Name → Failure → Type 0
 IsFailureAbout session profile (failures.Engines fault) = ⊥
 IsFailureAbout session profile (failures.Refused report) = ¬ AreAccepted session
@@ -59,7 +59,7 @@ IsTestFailure (faults.SeveralTests tests) (failures.SeveralTests report) = Unit 
 IsTestFailure (faults.Input fault) (failures.Engines told) = told ≡ fault
 IsTestFailure fault failure = ⊥
 
--- A session answers nothing about the test that a request names: there is none, there are several, or
+-- A session has no result about the test that a request names: there is none, there are several, or
 -- the metadata, which would have its binary, are not understood; want of memory aside.
 abbrev pub IsFailureToFind : Session → RequestedTest → Failure → Type 0
 IsFailureToFind session requested (failures.Engines fault) = LacksTargets session requested fault

@@ -4,7 +4,7 @@ use Rattle.rinqebo_files.specs.Origins.{reported_file}
 use Rattle.rinqebo_load.specs.declared.session.Session.{Session}
 use Rattle.rinqebo_report.specs.declared.report.Report.{Report}
 
--- A report is one of a session: it tells the root of the session, and its layers as the sources, in
+-- A report is one of a session: it has the root of the session, and its layers as the sources, in
 -- their order.
 pub record IsReportOf (session : Session) (report : Report) : Type 0 where
   pub root : string_bytes report.root ≡ string_bytes session.gathered.now.paths.workspace_root

@@ -1,8 +1,8 @@
 //! The checks of a load, and the sources on which its refusals depend.
 use nextest_config::ConfigParseErrorKind;
 
-/// A check that a load makes of a source, in the order in which it makes them; the last one is of all
-/// sources together.
+/// A check that a load makes of a source, in the order in which it makes them; the last one is of
+/// all sources together.
 #[derive(Clone, Copy, Debug, PartialEq, Eq, PartialOrd, Ord)]
 pub enum Check {
     /// Values and keys.

@@ -74,8 +74,8 @@ fn cycle_words(
     Ok(text)
 }
 
-/// The parts of the refused file at which the profiles of a circle name their parents: the first one
-/// is at fault.
+/// The parts of the refused file at which the profiles of a circle name their parents: the first
+/// one is at fault.
 fn marks_of(refused: &Refused<'_, '_>, cycle: &[String]) -> Result<Vec<Mark>, AllocError> {
     let mut marks = Vec::new(refused.alloc);
     let mut sign = Sign::Fault;

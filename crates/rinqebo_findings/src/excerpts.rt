@@ -68,7 +68,7 @@ fn character_at(column: u64) -> usize {
     column.saturating_sub(1) as usize
 }
 
-/// Returns how many characters of a line stand before the first that is no white space.
+/// Returns how many characters of a line are before the first that is not white space.
 fn indent_of(line: &str) -> usize {
     line.chars().take_while(|c| c.is_whitespace()).count()
 }
@@ -196,7 +196,8 @@ fn lined(
     Ok(lined)
 }
 
-/// Returns findings with the lines of files that show them: the first ones, as many as a page shows.
+/// Returns findings with the lines of files that show them: the first ones, as many as a page
+/// shows.
 pub fn with_lines(
     alloc: Global,
     gathered: &Gathered,

@@ -73,7 +73,7 @@ fn shape_words(alloc: Global, shape: &Shape) -> Result<String, AllocError> {
     }
 }
 
-/// Several shapes, in words: `or` stands between them, and none twice in a row.
+/// Several shapes, in words: with `or` between them, and none twice in a row.
 fn words_of_each(alloc: Global, shapes: &Vec<Shape>) -> Result<String, AllocError> {
     let mut told = String::new(alloc);
     for shape in shapes {
@@ -100,7 +100,7 @@ fn says_why(cause: &ElementCause) -> bool {
     }
 }
 
-/// What is wanted at a path in place of a value that is refused, if the shape of a file says it.
+/// What is expected at a path in place of a value that is refused, if the shape of a file has it.
 pub fn expected_at(
     alloc: Global,
     cause: &ElementCause,

@@ -13,7 +13,7 @@ use rinqebo_report::{CharSpan, FilePlace, Position, Range as ReportRange, Refuse
 use std::alloc::{AllocError, Global};
 use std::ops::Range;
 
-/// How many characters stand before a byte of a text.
+/// How many characters are before a byte of a text.
 fn characters_before(text: &str, byte: usize) -> usize {
     text.char_indices().filter(|(at, _)| *at < byte).count()
 }
@@ -164,7 +164,7 @@ fn add_text(
     refused.add_finding(found)
 }
 
-/// Where the texts of a section stand: its path, and its table.
+/// Where the texts of a section are: its path, and its table.
 #[derive(Clone, Copy)]
 struct Section<'s> {
     path: &'s [Step<'s>],
@@ -198,7 +198,7 @@ fn add_filter(
     add_text(refused, Code::InvalidFilter, &path, text, refusal)
 }
 
-/// Adds what is wrong with what a rule asks of the host, if it is refused.
+/// Adds what is wrong with a rule's expression for the host, if it is refused.
 fn add_host(
     refused: &mut Refused<'_, '_>,
     section: Section<'_>,
@@ -219,7 +219,7 @@ fn target_path<'p>(alloc: Global, section: Section<'p>) -> Result<Vec<Step<'p>>,
     }
 }
 
-/// Adds what is wrong with what a rule asks of the platform which a binary runs on, if it is
+/// Adds what is wrong with a rule's expression for the platform which a binary runs on, if it is
 /// refused.
 fn add_target(
     refused: &mut Refused<'_, '_>,

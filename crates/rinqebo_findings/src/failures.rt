@@ -30,7 +30,7 @@ pub fn failure_of_load(
     Ok(Failure::Refused(report))
 }
 
-/// An error of what a request names, which stands in no file.
+/// An error of what a request names, which is in no file.
 fn request_finding(
     alloc: Global,
     code: Code,
@@ -100,7 +100,7 @@ fn missing_report(
     test_report(alloc, session, Code::UnknownTest, missing.message, help)
 }
 
-/// Why a run answers nothing whose test is not found.
+/// Why a run has no result whose test is not found.
 fn failure_of_test(
     alloc: Global,
     session: &Session<'_>,

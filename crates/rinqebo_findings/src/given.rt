@@ -3,7 +3,7 @@ use crate::findings::SourceAt;
 use nextest_config::Tree;
 use nextest_places::Step;
 
-/// What stands at a key, a name or a position below a tree.
+/// What is at a key, a name or a position below a tree.
 fn below<'t>(tree: &'t Tree, step: Step<'_>) -> Option<&'t Tree> {
     match step {
         Step::Key(key) => tree.get(key),
@@ -11,7 +11,7 @@ fn below<'t>(tree: &'t Tree, step: Step<'_>) -> Option<&'t Tree> {
     }
 }
 
-/// What stands at a path below a tree.
+/// What is at a path below a tree.
 pub fn tree_at<'t>(tree: &'t Tree, path: &[Step<'_>]) -> Option<&'t Tree> {
     let mut found = tree;
     for step in path {
@@ -33,7 +33,7 @@ pub fn kind_words(tree: &Tree) -> &'static str {
 }
 
 /// The value at a path in a source. A source that does not write the path is refused for what is
-/// below it: the highest one counts that does.
+/// below it: the highest source that writes the path counts.
 pub fn value_at<'l>(source: SourceAt<'l, '_>, path: &[Step<'_>]) -> Option<&'l Tree> {
     if let Some(found) = tree_at(source.tree()?, path) {
         return Some(found);

@@ -57,7 +57,7 @@ const FILTER_WORDS: [(&str, &str); 7] = [
     ("not(", "write `not (..)`, with a space between them"),
 ];
 
-/// Whether a character may stand in the name of a test.
+/// Whether a character may be in the name of a test.
 fn is_of_name(c: char) -> bool {
     c.is_ascii_alphanumeric() || c == '_' || c == ':'
 }

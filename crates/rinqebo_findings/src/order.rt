@@ -26,8 +26,8 @@ fn spot_in(place: FilePlace, column: Option<u64>) -> (u64, u64)
     }
 }
 
-/// Returns what findings are ordered by: the file, the line and the column. What is in no file comes
-/// last.
+/// Returns what findings are ordered by: the file, the line and the column. What is in no file
+/// comes last.
 fn spot_of(finding: &Finding) -> (usize, u64, u64)
     ensures { result ≡ spot_of finding.now }
 {
@@ -40,8 +40,8 @@ fn spot_of(finding: &Finding) -> (usize, u64, u64)
     }
 }
 
-/// Returns findings in the order of their files, lines and columns. Those at one place stay in the
-/// order in which they are given.
+/// Returns findings in the order of their files, lines and columns. Those at one place stay in
+/// their order.
 pub fn in_order(findings: Vec<Finding>) -> Result<Vec<Finding>, AllocError>
     ensures same { IfOk result (λ ordered. IsPermutation findings.items ordered.items) }
     ensures sorted { IfOk result (λ ordered. IsSortedByKey spot_of spot_cmp ordered.items) }

@@ -63,8 +63,8 @@ fn parted<'s>(alloc: Global, text: &'s str) -> Result<Vec<Step<'s>>, AllocError>
     Ok(steps)
 }
 
-/// The path that a text spells in a document. Of several it is the one that a fault is about, if the
-/// shape of a file says which.
+/// The path that a text spells in a document. Of several it is the one that a fault is about, if
+/// the shape of a file says which.
 fn spelled_in<'s>(
     alloc: Global,
     tree: &'s Tree,
@@ -84,7 +84,7 @@ fn spelled_in<'s>(
     Ok(first)
 }
 
-/// The path that a text spells in a source, or else in the highest layer that has one which it spells.
+/// The path that a text spells in a source, or else in the highest layer in which it spells one.
 pub fn spelled_path<'s>(
     alloc: Global,
     source: SourceAt<'s, '_>,

@@ -21,7 +21,7 @@ use rinqebo_report::{FileLines, Finding, Position, Range};
 use std::alloc::{AllocError, Global};
 use std::collections::BTreeSet;
 
-/// What came of reading a file.
+/// The result of reading a file.
 fn add_outcome(refused: &mut Refused<'_, '_>, outcome: &ReadOutcome) -> Result<(), AllocError> {
     match outcome {
         ReadOutcome::Text(_) => Ok(()),

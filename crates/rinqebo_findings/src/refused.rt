@@ -45,7 +45,7 @@ impl Refused<'_, '_> {
 
     /// A finding about the value at a path or about its key: the path, and what is wrong there. A
     /// source that does not write the path is refused for what it makes of those below it: the
-    /// highest one counts that does.
+    /// highest source that writes the path counts.
     pub fn part_at(
         &self,
         code: Code,

@@ -14,8 +14,8 @@ use rinqebo_load::Session;
 use rinqebo_report::{Content, Finding, Report, Unreached};
 use std::alloc::{AllocError, Global};
 
-/// A report of a session. Findings are in the order of their files, lines and columns, and the first
-/// ones have the lines of files that show them.
+/// A report of a session. Findings are in the order of their files, lines and columns, and the
+/// first ones have the lines of files that show them.
 pub fn report_of(
     alloc: Global,
     session: &Session<'_>,

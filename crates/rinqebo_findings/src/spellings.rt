@@ -53,7 +53,7 @@ fn is_number(text: &str) -> bool {
     !text.is_empty() && text.bytes().all(|byte| byte.is_ascii_digit())
 }
 
-/// The milliseconds that up to three digits behind a point stand for.
+/// The milliseconds of up to three digits behind a point.
 fn milliseconds(digits: &str) -> Option<u64> {
     let number = digits.parse::<u64>().ok()?;
     match digits.len() {

@@ -46,7 +46,7 @@ pub fn called(alloc: Global, path: &[Step<'_>]) -> Result<String, AllocError> {
     }
 }
 
-/// A step as the shape of a file has it: any position stands for all items of a list.
+/// A step as the shape of a file has it: any position is that of all items of a list.
 fn part_of<'s>(step: Step<'s>) -> &'s str {
     match step {
         Step::Key(key) => key,
@@ -131,7 +131,7 @@ pub fn script_header(
     Ok(None)
 }
 
-/// The path of the table of a kind that stands beside or around a table.
+/// The path of the table of a kind that is beside or around a table.
 fn beside<'p>(
     alloc: Global,
     profile: &[Step<'p>],

@@ -25,8 +25,8 @@ IsFailureOf fault (failures.NoTest report) = ⊥
 IsFailureOf fault (failures.SeveralTests report) = ⊥
 IsFailureOf fault failures.Memory = Unit {0}
 
--- A request has no session: what it names is not understood, for the fault that is told; want of
--- memory aside.
+-- A request has no session: the fault says which of the things that it names is not understood;
+-- want of memory aside.
 abbrev pub IsUnusable : Request → Gathered → Failure → Type 0
 IsUnusable request gathered (failures.Engines fault) = IsInputFault request gathered fault
 IsUnusable request gathered (failures.Refused report) = ⊥

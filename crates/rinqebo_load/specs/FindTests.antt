@@ -17,8 +17,8 @@ use Rattle.rinqebo_load.specs.declared.missing.TestFault.{TestFault}
 use Rattle.rinqebo_load.specs.declared.missing.TestFault.TheVariants as faults
 use Rattle.rinqebo_load.specs.declared.session.Session.{Session}
 
--- what gives the binary of a test: a list if there is one, else the metadata if they are given,
--- else the id of the binary; without an id it is a list
+-- where the program finds the binary of a test: a list if there is one, else the metadata if there
+-- are any, else the id of the binary; without an id it is a list
 abbrev pub source_of : Session → RequestedTest → TestSource
 source_of session requested =
     if is_none requested.binary || is_some session.gathered.now.list then sources.List
@@ -45,7 +45,8 @@ pub record IsTestOfTargets (metadata binary : List ℕ) (requested : RequestedTe
   pub is_test : test ≡ test_of_target target requested
 
 -- a test is one of the binary of an id by the metadata
-abbrev pub IsTestByMetadata : Option (String Global) → Option (List ℕ) → RequestedTest → ListTest → Type 0
+abbrev pub IsTestByMetadata : Option (String Global) → Option (List ℕ) → RequestedTest → ListTest
+    → Type 0
 IsTestByMetadata (Some metadata) (Some binary) requested test =
     IsTestOfTargets (string_bytes metadata) binary requested test
 IsTestByMetadata metadata binary requested test = ⊥
@@ -104,16 +105,16 @@ AreNoTargets metadata (refused.Metadata fault) = targets_of_text metadata ≡ Er
 AreNoTargets metadata (refused.Platform triple fault) = ⊥
 AreNoTargets metadata refused.Memory = Unit {0}
 
--- the same of metadata, if they are given
+-- the same of metadata, if there are any
 abbrev pub IsTargetsFault : Option (String Global) → EngineFault → Type 0
 IsTargetsFault (Some metadata) fault = AreNoTargets (string_bytes metadata) fault
 IsTargetsFault None fault = ⊥
 
 -- The metadata of a session have no targets that can be read.
-pub record LacksTargets (session : Session) (requested : RequestedTest) (fault : InputFault) : Type 0
-  where
-    pub source : source_of session requested ≡ sources.Metadata
-    pub cause : OfEngine (IsTargetsFault session.gathered.now.metadata) fault
+pub record LacksTargets (session : Session) (requested : RequestedTest) (fault : InputFault)
+    : Type 0 where
+  pub source : source_of session requested ≡ sources.Metadata
+  pub cause : OfEngine (IsTargetsFault session.gathered.now.metadata) fault
 
 -- a session does not find the test that a request names; want of memory aside
 abbrev pub IsNotFound : Session → RequestedTest → TestFault → Type 0
@@ -125,11 +126,11 @@ IsNotFound session requested faults.Memory = Unit {0}
 -- ---- what each source gives
 
 -- A test is the only one of a list that a request names.
-pub record IsOnlyOne (named : List ListTest) (requested : RequestedTest) (found : FoundTest) : Type 0
-  where
-    pub source : found.source ≡ sources.List
-    pub mode : found.mode ≡ requested.mode
-    pub only : named ≡ found_view found ∷ []
+pub record IsOnlyOne (named : List ListTest) (requested : RequestedTest) (found : FoundTest)
+    : Type 0 where
+  pub source : found.source ≡ sources.List
+  pub mode : found.mode ≡ requested.mode
+  pub only : named ≡ found_view found ∷ []
 
 -- not exactly one test of a list is named; want of memory aside
 abbrev pub IsNotOne : List ListTest → TestFault → Type 0

@@ -34,7 +34,7 @@ found_view found = record {
 abbrev pub is_end_of : List ℕ → List ℕ → Bool
 is_end_of word name = bytes_eq name word || ends_with eqb name (codes "::" ++ word)
 
--- whether a test has a name, in a binary of an id if that is given
+-- whether a test has a name, in a binary of an id if there is one
 abbrev pub is_named : Option (Bor (List ℕ)) → List ℕ → ListTest → Bool
 is_named (Some binary) name listed =
     bytes_eq listed.test.binary.binary_id binary.now && bytes_eq listed.test.name name
@@ -68,7 +68,7 @@ test_of_target target requested = record {
 
 -- ---- tests whose binary is known by its id
 
--- no `::` stands in a text
+-- a text has no `::`
 abbrev pub IsOnePart : List ℕ → Type 0
 IsOnePart id = (front back : List ℕ) → id ≢ front ++ (codes "::" ++ back)
 
@@ -76,11 +76,11 @@ IsOnePart id = (front back : List ℕ) → id ≢ front ++ (codes "::" ++ back)
 abbrev pub is_slash : ℕ → Bool
 is_slash byte = eqb byte 47
 
--- no slash stands in a text
+-- a text has no slash
 abbrev pub HasNoSlash : List ℕ → Type 0
 HasNoSlash text = position_or_len is_slash text ≡ length text
 
--- a slash stands in a text
+-- a text has a slash
 abbrev pub HasSlash : List ℕ → Type 0
 HasSlash text = position_or_len is_slash text < length text
 

@@ -18,11 +18,11 @@ host_in_lines texts = slice_get (filter_map host_of_line texts) 0
 abbrev pub host_in : List ℕ → Option (List ℕ)
 host_in printed = host_in_lines (lines printed)
 
--- the same, if that is given
+-- the same, if there is such a text
 abbrev pub printed_host : Option (String Global) → Option (List ℕ)
 printed_host printed = option_and_then (λ text. host_in (string_bytes text)) printed
 
--- what the compiler prints of itself is given, and has no line with the host; want of memory aside
+-- there is an output of `rustc -vV`, and it has no line with the host; want of memory aside
 abbrev pub IsHostFault : Option (String Global) → InputFault → Type 0
 IsHostFault (Some text) (faults.NoHost file) = host_in (string_bytes text) ≡ None
 IsHostFault printed faults.Memory = Unit {0}

@@ -70,7 +70,7 @@ pub record LacksEngines (request : Request) (gathered : Gathered) (fault : Input
         (host_for request.engines (printed_host gathered.rustc_version) (list_view tests))
         (target_for request.engines (list_view tests)) gathered fault
 
--- what a request names is not understood: its list of tests, what the compiler prints of itself, its
+-- what a request names is not understood: its list of tests, the output of `rustc -vV`, its
 -- metadata or a machine
 abbrev pub IsInputFault : Request → Gathered → InputFault → Type 0
 IsInputFault request gathered fault =

@@ -11,11 +11,11 @@ use Rattle.nextest_lists.specs.Lists.{TestList}
 use Rattle.rinqebo_load.specs.HostLines.{printed_host}
 use Rattle.rinqebo_load.specs.Triples.{host_for, target_for}
 
--- the machine of a triple, with what the compiler prints for it, where that is given
+-- the machine of a triple, with what the compiler prints for it, if a user names that
 abbrev pub machine_of : Option (String Global) → List ℕ → MachineText
 machine_of printed triple = record { triple = triple; cfg = option_map string_bytes printed }
 
--- the platforms of a build are those that are asked for, beside a list of tests
+-- the platforms of a build are those that a user requests, beside a list of tests
 abbrev pub ArePlatformsFor : EngineOptions → TestList → Gathered → BuildPlatforms Platform → Type 0
 ArePlatformsFor options list gathered =
     AreOfMachines

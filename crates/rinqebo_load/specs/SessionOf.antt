@@ -11,11 +11,11 @@ use Rattle.rinqebo_load.specs.Machines.{ArePlatformsFor}
 use Rattle.rinqebo_load.specs.Triples.{IsListFor, host_for, target_for}
 use Rattle.rinqebo_load.specs.declared.session.Session.{Session}
 
--- A session is that of a request over the files that were read: it has these files, with their texts
--- and trees upon the default table, the features that the request names or that the repository's file switches
--- on, the tests that the list says, the filters with the graph that the metadata say, or else with sets
--- of packages left open, the triples and the platforms that are asked for, beside those of the compiler
--- and of the list, and what names the profile.
+-- A session is that of a request over the files that were read: it has these files, with their
+-- texts and trees upon the default table, the features that the request names or that the
+-- repository's file enables, the tests of the list, the filters with the graph of the metadata, or
+-- else with sets of packages left open, the triples and the platforms of the request, beside those
+-- of the compiler and of the list, and what names the profile.
 pub record IsSessionOf (request : Request) (gathered : Gathered) (session : Session) : Type 0 where
   pub read : session.gathered.now ≡ gathered
   pub layers : map layer_view session.layers.items ≡ layers_read gathered

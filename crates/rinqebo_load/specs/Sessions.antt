@@ -47,7 +47,7 @@ readings filters = record {
   meets = λ spec platform. spec_value (platform_view platform) spec;
 }
 
--- A load of files answers a configuration only where every written rule holds, and it is refused,
+-- A load of files returns a configuration only where every written rule holds, and it refuses them,
 -- but for want of memory, only where some rule does not.
 abbrev pub IfLoaded : {T : Type 0} → Readings Filter Spec Platform → Features → LoadInputs
     → Result T ConfigParseError → Type 0

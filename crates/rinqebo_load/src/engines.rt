@@ -17,7 +17,7 @@ use std::alloc::{AllocError, Global};
 /// The language of filters, and the platforms of a build.
 #[derive(Drop)]
 pub struct Engines {
-    /// The language of filters, with the graph of packages where the metadata are given. Else it leaves
+    /// The language of filters, with the graph of packages if there are metadata. Else it leaves
     /// `deps` and `rdeps` open.
     pub filters: NextestFilters,
     /// The platform of the host, and the one that is built for, if there is one.
@@ -31,15 +31,15 @@ struct MachineNames<'a> {
     source: TripleSource,
     /// The path of the list of tests, which may give it.
     list: Option<&'a str>,
-    /// The path of what the compiler prints for the machine, if it is given.
+    /// The path of what the compiler prints for the machine, if a user names one.
     cfg: Option<&'a str>,
     /// The option of that path.
     option: FileOption,
 }
 
 impl MachineNames<'_> {
-    /// What a fault of the machine's platform is about: what the compiler prints for it, where that is
-    /// given, else what gives its triple.
+    /// The option that a fault of the machine's platform is about: the one with what the compiler
+    /// prints for it, if a user names that, else the one with its triple.
     fn subject(self, alloc: Global) -> Result<Subject, AllocError> {
         if self.cfg.is_some() {
             return Ok(Subject::File(NamedFile::new(alloc, self.cfg, self.option)?));
@@ -117,7 +117,7 @@ fn named_platform(
     }
 }
 
-/// The platform that is built for, if one is asked for.
+/// The platform that is built for, if a user names a target.
 fn target_of(
     alloc: Global,
     triple: &Option<String>,

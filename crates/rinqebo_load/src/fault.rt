@@ -84,16 +84,16 @@ pub enum InputFault {
     /// What was read at a path isn't a list of tests, which would say the platforms of the build.
     #[error("no list of tests in `{0}`: {1}")]
     List(String, ListFault),
-    /// What the compiler prints of itself is given, and has no line with the triple of the host.
+    /// The output of `rustc -vV` has no line with the triple of the host.
     #[error("{0}: no line `host: TRIPLE`: expected the output of `rustc -vV`")]
     NoHost(NamedFile),
     /// The metadata have no graph of packages, or no platform is known for a triple.
     #[error("{0}: {1}")]
     Engine(Subject, EngineFault),
-    /// What the compiler prints for a target is given, and there is no target.
+    /// A user names what the compiler prints for a target, and there is no target.
     #[error("`--target-cfg` goes with a target, and there is none")]
     NoTarget,
-    /// No metadata are given, and a filter that is evaluated needs them.
+    /// There are no metadata, and the program evaluates a filter that needs them.
     #[error("{0}")]
     NoMetadata(OpenFilter),
     /// Want of memory.

@@ -25,7 +25,7 @@ fn ends_with(text: &str, end: &str) -> bool
     text.ends_with(end)
 }
 
-/// Whether a word is the name of a test, or an end, which is the word behind `::`, that of its name.
+/// Whether a word is the name of a test, or its end that follows a `::`.
 fn is_end_of(word: &str, end: &str, name: &str) -> bool
     requires { end.now ≡ codes "::" ++ word.now }
     ensures { result ≡ is_end_of word.now name.now }
@@ -36,7 +36,8 @@ fn is_end_of(word: &str, end: &str, name: &str) -> bool
 /// Whether a request names a test of a list. The end is its name behind `::`.
 fn is_named(requested: &RequestedTest<'_>, end: &str, test: &ListedTest<'_>) -> bool
     requires { end.now ≡ codes "::" ++ requested.now.name.now }
-    ensures { result ≡ is_named requested.now.binary requested.now.name.now (list_test_view test.now) }
+    ensures { result
+        ≡ is_named requested.now.binary requested.now.name.now (list_test_view test.now) }
 {
     let query = &test.query;
     match requested.binary {
@@ -153,8 +154,8 @@ impl Session<'_> {
         }
     }
 
-    /// The test that a request names: one of the list, if there is a list; else one of the binary that it
-    /// names, which the metadata, which were read at a path, have, if they are given, and else is known
+    /// The test that a request names: one of the list, if there is a list; else one of the binary
+    /// that it names, which is that of the metadata at a path, if there are any, and else is known
     /// by its id.
     ///
     /// # Errors

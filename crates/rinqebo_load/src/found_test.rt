@@ -41,7 +41,7 @@ pub struct FoundTest {
     pub name: String,
     /// Whether the list says that it is ignored.
     pub ignored: bool,
-    /// For what it is run.
+    /// What the test is run for.
     pub mode: NextestRunMode,
     /// What gives all this of its binary.
     pub source: TestSource,
@@ -141,8 +141,8 @@ impl FoundTest {
     }
 }
 
-/// The platform that a binary of a kind is built for, if not the one that is stated: a proc-macro is
-/// built for the host.
+/// The platform that a binary of a kind is built for, if not the stated one: a proc-macro is built
+/// for the host.
 fn platform_for(kind: &str, stated: BuildPlatform) -> BuildPlatform
     ensures { result ≡ platform_for kind.now stated }
 {
@@ -177,8 +177,8 @@ fn kind_and_name(target: &str) -> Option<(&str, &str)>
     target.split_once('/')
 }
 
-/// What the id of a binary says of its target: `p` is the library of a package, `p::x` an integration
-/// test, and `p::bin/x` a target of the kind before the slash.
+/// The target in the id of a binary: `p` is the library of a package, `p::x` an integration test,
+/// and `p::bin/x` a target of the kind before the slash.
 fn read_id(id: &str) -> Target<'_>
     ensures { IsReadAs id.now result.kind.now result.name.now }
 {

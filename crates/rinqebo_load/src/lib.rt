@@ -1,5 +1,5 @@
-//! What all commands of the program `rinqebo` begin with: the list of tests, the engines, the features
-//! and the layers of a request's files, and the load of its configuration.
+//! What all commands of the program `rinqebo` begin with: the list of tests, the engines, the
+//! features and the layers of a request's files, and the load of its configuration.
 #![tactic(auto)]
 
 mod engines;

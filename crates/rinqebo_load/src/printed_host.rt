@@ -36,7 +36,7 @@ fn host_in_lines<'t>(lines: &[&'t str]) -> Option<&'t str>
     None
 }
 
-/// The triple of the host in what the compiler prints of itself, if that is given.
+/// The triple of the host in the output of `rustc -vV`, if there is one.
 pub fn printed_host<'g>(
     alloc: Global,
     path: Option<&str>,

@@ -152,11 +152,13 @@ pub fn triples_for(
     tests: &ListedTests,
 ) -> Result<Triples, AllocError>
     ensures host { IfOk result (λ triples. string_bytes triples.host
-        ≡ host_for options.now (option_map (λ host. host.now) printed.entry) (list_view tests.now)) }
+        ≡ host_for options.now (option_map (λ host. host.now) printed.entry)
+        (list_view tests.now)) }
     ensures target { IfOk result (λ triples.
         option_map string_bytes triples.target ≡ target_for options.now (list_view tests.now)) }
     ensures host_source { IfOk result (λ triples. triples.host_source
-        ≡ host_source options.now (option_map (λ host. host.now) printed.entry) (list_view tests.now)) }
+        ≡ host_source options.now (option_map (λ host. host.now) printed.entry)
+        (list_view tests.now)) }
     ensures target_source { IfOk result (λ triples.
         triples.target_source ≡ target_source options.now (list_view tests.now)) }
 {

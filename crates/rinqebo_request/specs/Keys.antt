@@ -7,8 +7,8 @@ use Rattle.nextest_settings.specs.Settings.{setting_name}
 use Rattle.nextest_settings.specs.declared.setting.Setting.{Setting}
 use Rattle.nextest_settings.specs.declared.setting.Setting.TheVariants as at
 
--- the table in which a setting is written, if it has one: benchmarks have a slow timeout of their
--- own, and what a report stores stands in the report's table
+-- the table that has a setting, if there is one: benchmarks have a slow timeout of their own, and
+-- what a report stores is in the report's table
 abbrev pub key_table : Setting → NextestRunMode → Option (List ℕ)
 key_table at.SlowTimeout Benchmark = Some (codes "bench")
 key_table at.JunitStoreSuccessOutput mode = Some (codes "junit")
@@ -44,7 +44,6 @@ abbrev pub is_table : Option (List ℕ) → List ℕ → Bool
 is_table None name = false
 is_table (Some table) name = bytes_eq table name
 
--- whether a key names a setting: it is the key of the setting, or that of the table in which the
--- setting is written
+-- whether a key names a setting: it is the key of the setting, or that of the table that has it
 abbrev pub is_named_by : List ℕ → NextestRunMode → Setting → Bool
 is_named_by key mode s = bytes_eq (key_text s mode) key || is_table (key_table s mode) key

@@ -1,7 +1,7 @@
-//! What a run takes of the process that it runs in.
+//! What the program reads from its process: variables, and whether its streams are terminals.
 use nextest_config::ConfigExperimental;
 
-/// The variables which a run of nextest puts above all files. Those that are not set are absent.
+/// The variables that override all files in a run of nextest. A variable that is not set is absent.
 #[derive(Debug, Default, Drop)]
 pub struct RunVariables {
     /// `NEXTEST_RETRIES`, in place of `retries`.
@@ -14,29 +14,29 @@ pub struct RunVariables {
     pub failure_output: Option<String>,
 }
 
-/// What a run takes of the process that it runs in. Variables that are not set are absent, and one
-/// that is empty counts as one that is not set.
+/// What the program reads from its process. A variable that is not set is absent, and an empty one
+/// counts as not set.
 #[derive(Debug, Drop)]
 pub struct Environment {
-    /// The absolute path of the folder in which it runs. The root is looked for from here on.
+    /// The absolute path of the current folder. The program looks for the root from here upward.
     pub folder: String,
-    /// `NEXTEST_PROFILE`, the profile where no option names one.
+    /// `NEXTEST_PROFILE`, the profile if no option names one.
     pub profile: Option<String>,
-    /// `CARGO_BUILD_TARGET`, the triple of the target where no option names one.
+    /// `CARGO_BUILD_TARGET`, the triple of the target if no option names one.
     pub target: Option<String>,
-    /// `CARGO_TERM_COLOR`, when colours are used where no option says it.
+    /// `CARGO_TERM_COLOR`, when to use colours if no option says so.
     pub colour: Option<String>,
-    /// `NO_COLOR`. Where it has a text, a terminal gets no colours by itself.
+    /// `NO_COLOR`. If it is not empty, a terminal has colours only if the user requests them.
     pub no_colour: Option<String>,
-    /// `COLUMNS`, how many columns the lines of a page have.
+    /// `COLUMNS`, how many columns a line of a page has.
     pub columns: Option<String>,
-    /// `GITHUB_WORKSPACE`, the folder that paths in commands of GitHub's workflows begin from.
+    /// `GITHUB_WORKSPACE`, the folder that `--format github` writes paths from.
     pub workflow_folder: Option<String>,
-    /// `NEXTEST_EXPERIMENTAL_SETUP_SCRIPTS`. By `1` it switches setup scripts on.
+    /// `NEXTEST_EXPERIMENTAL_SETUP_SCRIPTS`. The value `1` enables setup scripts.
     pub setup_scripts: Option<String>,
-    /// `NEXTEST_EXPERIMENTAL_WRAPPER_SCRIPTS`. By `1` it switches wrapper scripts on.
+    /// `NEXTEST_EXPERIMENTAL_WRAPPER_SCRIPTS`. The value `1` enables wrapper scripts.
     pub wrapper_scripts: Option<String>,
-    /// The variables that a run of nextest puts above all files.
+    /// The variables that override all files in a run of nextest.
     pub run: RunVariables,
     /// Whether standard output is a terminal.
     pub is_terminal: bool,
@@ -44,7 +44,7 @@ pub struct Environment {
     pub is_error_terminal: bool,
 }
 
-/// The text of a variable that is set, and not empty.
+/// Returns the text of a variable if it is set and not empty.
 pub fn set(variable: &Option<String>) -> Option<&str> {
     match variable {
         Some(value) if !value.is_empty() => Some(value.as_str()),
@@ -53,7 +53,7 @@ pub fn set(variable: &Option<String>) -> Option<&str> {
 }
 
 impl Environment {
-    /// Whether a variable switches a feature on.
+    /// Whether a variable enables a feature.
     pub fn switches_on(&self, feature: ConfigExperimental) -> bool {
         let variable = match feature {
             ConfigExperimental::SetupScripts => &self.setup_scripts,

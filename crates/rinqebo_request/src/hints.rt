@@ -1,10 +1,10 @@
-//! Hints: which known name a wrong one most likely means.
+//! Hints: the known name that a user most likely means by a wrong one.
 use crate::keys::{RUNS, SettingKey, all_keys, setting_of};
 use nextest_config::NextestRunMode;
 use rinqebo_report::nearest_name;
 use std::alloc::{AllocError, Global};
 
-/// The hint that a name is meant.
+/// The hint that names what a user means.
 fn did_you_mean(alloc: Global, name: Option<&str>) -> Result<Option<String>, AllocError> {
     match name {
         Some(name) => Ok(Some(format!(in alloc; "did you mean `{name}`?")?)),
@@ -12,12 +12,12 @@ fn did_you_mean(alloc: Global, name: Option<&str>) -> Result<Option<String>, All
     }
 }
 
-/// The hint that one of some known names is meant, if one is near.
+/// The hint that names the nearest of some known names, if one is near.
 pub fn name_hint(alloc: Global, name: &str, known: &[&str]) -> Result<Option<String>, AllocError> {
     did_you_mean(alloc, nearest_name(alloc, name, known)?)
 }
 
-/// The hint that one of some known texts is meant, if one is near.
+/// The hint that names the nearest of some known texts, if one is near.
 pub fn text_hint(
     alloc: Global,
     name: &str,
@@ -38,7 +38,7 @@ fn other_mode(mode: NextestRunMode) -> NextestRunMode {
     }
 }
 
-/// The hint that a key of a mode is meant: the one of the setting that has the key in the other mode,
+/// The hint that names a key of a mode: the one of the setting that has the key in the other mode,
 /// else a near one.
 pub fn key_hint(
     alloc: Global,

@@ -8,10 +8,10 @@ ghost use Rattle.rinqebo_request.specs.Keys.{key_table, key_name, is_named_by, i
 use nextest_config::{NextestRunMode, Setting};
 use std::alloc::{AllocError, Global};
 
-/// The key of whether a test runs, which is in no file.
+/// The key of whether a test runs, which no file has.
 pub const RUNS: &str = "runs";
 
-/// The keys of a profile whose values are those of the whole run.
+/// The keys of a profile whose values hold for the whole run.
 const RUN_KEYS: [&str; 9] = [
     "archive",
     "default-filter",
@@ -149,7 +149,7 @@ pub fn setting_of(
     Ok(None)
 }
 
-/// Whether a key names a setting: it is that of the setting, or that of the table which has it.
+/// Whether a key names a setting: it is the key of the setting, or of the table that has it.
 fn is_named_by(
     alloc: Global,
     setting: Setting,
@@ -162,7 +162,8 @@ fn is_named_by(
     Ok(is_key || SettingKey::of(setting, mode).is_in(key))
 }
 
-/// The settings that a key names, in the order of all settings: that of the key, or those of a table.
+/// The settings that a key names, in the order of all settings: the one of the key, or those of a
+/// table.
 pub fn settings_of(
     alloc: Global,
     key: &str,
@@ -179,7 +180,8 @@ pub fn settings_of(
     Ok(found)
 }
 
-/// The key by which `show-config` shows what a key sets for the whole run, if it sets that.
+/// The key by which `show-config` shows what a key sets for the whole run, if it sets something
+/// there.
 pub fn run_key(key: &str) -> Option<&'static str> {
     if key == "max-fail" {
         return Some("fail-fast");

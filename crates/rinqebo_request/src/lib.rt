@@ -1,4 +1,5 @@
-//! The requests of the program `rinqebo`: its commands and options, and the request that words are.
+//! The requests of the program `rinqebo`: its commands and options, and the request of a command
+//! line.
 #![tactic(auto)]
 
 mod environment;

@@ -41,7 +41,7 @@ pub struct NamedFile {
 }
 
 impl NamedFile {
-    /// The file at a path, which an option names.
+    /// The file at a path that an option names.
     pub fn new(
         alloc: Global,
         path: Option<&str>,

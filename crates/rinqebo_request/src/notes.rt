@@ -4,23 +4,24 @@ use crate::request::{Question, Request};
 use nextest_config::Setting;
 use std::alloc::{AllocError, Global};
 
-/// Whether the leaves below keys have the value of a setting. Without a key all leaves are listed.
+/// Whether the leaves below keys include the value of a setting. Without a key, they are all
+/// leaves.
 fn has_leaf(keys: &[&str], setting: Setting) -> bool {
     keys.is_empty() || keys.iter().any(|key| *key == setting.name())
 }
 
-/// Whether a question requests a setting of a test.
+/// Whether a user requests a setting of a test.
 fn asks_for(question: &Question<'_>, setting: Setting) -> bool {
     match question {
-        Question::Explain { asked, .. } | Question::List { asked, .. } => asked.may_tell(setting),
+        Question::Explain { asked, .. } | Question::List { asked, .. } => asked.may_report(setting),
         Question::Why { setting: asked, .. } => *asked == setting,
         Question::ShowConfig { keys, .. } => has_leaf(keys, setting),
         Question::WhyRuns { .. } | Question::Check { .. } => false,
     }
 }
 
-/// Notes on the variables which a run of nextest puts above all files: a line for each that is set,
-/// where the request includes its setting.
+/// Notes on the variables that override all files in a run of nextest: a line for each that is set,
+/// if the user requests its setting.
 pub fn notes_of(
     alloc: Global,
     request: &Request<'_>,

@@ -1,4 +1,4 @@
-//! The commands and their options, as the command line has them.
+//! The commands of the program, and their options.
 use clap::{Arg, ArgAction, Command};
 use std::alloc::{AllocError, Global};
 
@@ -17,7 +17,7 @@ const CHECK_FORMATS: &[&str] = &["text", "json", "short", "concise", "github"];
 /// The help of the option that chooses among them.
 const CHECK_FORMATS_HELP: &str = "Format: text, json, short or github\n[default: text]";
 
-/// When colours are used.
+/// When to use colours.
 const COLOURS: &[&str] = &["auto", "always", "never"];
 
 /// The run modes.
@@ -115,7 +115,7 @@ pub fn option<'a>(alloc: Global, name: &'a str, value: &'a str, help: &'a str) -
         .help(help)
 }
 
-/// An option whose value is one of some words.
+/// An option that takes one of some words.
 fn choice<'a>(
     alloc: Global,
     name: &'a str,
@@ -136,7 +136,7 @@ pub fn flag<'a>(alloc: Global, name: &'a str, help: &'a str) -> Arg<'a> {
         .help(help)
 }
 
-/// A word without an option.
+/// A word of the command line that is not an option.
 pub fn word<'a>(alloc: Global, name: &'a str, help: &'a str) -> Arg<'a> {
     Arg::new(alloc, name)
         .value_name(name)
@@ -144,7 +144,7 @@ pub fn word<'a>(alloc: Global, name: &'a str, help: &'a str) -> Arg<'a> {
         .help(help)
 }
 
-/// The options that say which files are read.
+/// Adds the options that name files.
 pub fn with_files<'a>(alloc: Global, command: Command<'a>) -> Result<Command<'a>, AllocError> {
     let tools = option(
         alloc,
@@ -187,7 +187,7 @@ pub fn with_files<'a>(alloc: Global, command: Command<'a>) -> Result<Command<'a>
         ))
 }
 
-/// The options that say how the output is written.
+/// Adds the options that choose the output.
 pub fn with_output<'a>(
     alloc: Global,
     command: Command<'a>,
@@ -219,9 +219,9 @@ const HOST_HELP: &str =
     "Host triple [default: that of\n--rustc-version, else\nx86_64-unknown-linux-gnu]";
 
 /// The help of `--target`, where there is no list.
-const TARGET_HELP: &str = "Target triple [default: CARGO_BUILD_TARGET,\nelse host]";
+const TARGET_HELP: &str = "Target triple\n[default: CARGO_BUILD_TARGET, else host]";
 
-/// The options that say on what tests run, with the help of two of them.
+/// Adds the options that describe the platforms of tests, two of them with this help.
 fn with_triples<'a>(
     alloc: Global,
     command: Command<'a>,
@@ -252,12 +252,12 @@ fn with_triples<'a>(
         ))
 }
 
-/// The options that say on what tests run, of a command that may read a list.
+/// Adds the options that describe the platforms of tests, to a command that may read a list.
 pub fn with_platforms<'a>(alloc: Global, command: Command<'a>) -> Result<Command<'a>, AllocError> {
     with_triples(alloc, command, LISTED_HOST_HELP, LISTED_TARGET_HELP)
 }
 
-/// The settings that are named, and what counts without one.
+/// The KEYs of a command. The help says what the command shows without one.
 pub fn keys<'a>(alloc: Global, help: &'a str) -> Arg<'a> {
     Arg::new(alloc, "KEY")
         .value_name("KEY")
@@ -266,7 +266,7 @@ pub fn keys<'a>(alloc: Global, help: &'a str) -> Arg<'a> {
         .help(help)
 }
 
-/// The option that says which profile counts.
+/// The option that names the profile.
 fn profile<'a>(alloc: Global) -> Arg<'a> {
     option(
         alloc,
@@ -277,7 +277,7 @@ fn profile<'a>(alloc: Global) -> Arg<'a> {
     .short('P')
 }
 
-/// The options that say which profile counts, and for what tests run.
+/// Adds the options that name the profile and the run mode.
 pub fn with_profile<'a>(alloc: Global, command: Command<'a>) -> Result<Command<'a>, AllocError> {
     let help = "Run mode: test or benchmark\n[default: test]";
     let mode = choice(alloc, "mode", "MODE", MODES, help);
@@ -286,7 +286,7 @@ pub fn with_profile<'a>(alloc: Global, command: Command<'a>) -> Result<Command<'
         .arg(mode.default_value("test").hide_default_value(true))
 }
 
-/// The words and options that name a test, and what is shown of it.
+/// Adds the words and options that name a test, and what to show of it.
 fn with_test<'a>(alloc: Global, command: Command<'a>) -> Result<Command<'a>, AllocError> {
     let list = option(
         alloc,

@@ -8,14 +8,14 @@ use std::collections::BTreeSet;
 /// The list of tests that a command reads.
 #[derive(Clone, Copy)]
 pub enum ListFile<'a> {
-    /// The one at this path.
+    /// The list at this path.
     Named(&'a str),
     /// Standard input.
     Input,
 }
 
 impl<'a> ListFile<'a> {
-    /// The one at a path that a user writes: `-` is standard input.
+    /// The list at a path that a user writes: `-` is standard input.
     pub fn at(path: &'a str) -> ListFile<'a> {
         match path {
             "-" => ListFile::Input,
@@ -23,7 +23,7 @@ impl<'a> ListFile<'a> {
         }
     }
 
-    /// Its path, as messages show it.
+    /// The path of the list, as messages show it.
     pub fn path(self) -> &'a str {
         match self {
             ListFile::Named(path) => path,
@@ -32,30 +32,30 @@ impl<'a> ListFile<'a> {
     }
 }
 
-/// A test, as the words of a command name it.
+/// A test, as a user names it on the command line.
 #[derive(Clone, Copy)]
 pub struct RequestedTest<'a> {
-    /// The id of its binary. Without it, the test is one of the list.
+    /// The id of its binary. If there is none, the program looks for the test in the list.
     pub binary: Option<&'a str>,
-    /// Its name within the binary. Without a binary, the end of its name behind `::` names it, too.
+    /// Its name in the binary. Without a binary, the end of the name behind `::` is enough.
     pub name: &'a str,
-    /// The platform that its binary is built for, where neither a list nor metadata give it.
+    /// The platform of its binary, if neither a list nor metadata have it.
     pub platform: BuildPlatform,
-    /// For what it is run.
+    /// What the test is run for.
     pub mode: NextestRunMode,
-    /// The list that has the test, if one is named.
+    /// The list that has the test, if the user names one.
     pub list: Option<ListFile<'a>>,
 }
 
-/// Which settings of a test are reported.
+/// Which settings of a test a report lists.
 #[derive(Drop)]
 pub enum RequestedSettings {
-    /// The settings that rules decide, in the order of all settings; before them, where the test does
-    /// not run, that it does not.
+    /// The settings that rules decide, in the order of all settings. Before them the report shows
+    /// that the test does not run, if it does not.
     Decided,
-    /// Settings, whatever decides them.
+    /// These settings, whatever decides them.
     These {
-        /// Whether pages show whether the test runs. A document of JSON always has it.
+        /// Whether a page shows whether the test runs. A document of JSON always does.
         runs: bool,
         /// The settings, in this order.
         settings: Vec<Setting>,
@@ -63,8 +63,8 @@ pub enum RequestedSettings {
 }
 
 impl RequestedSettings {
-    /// Whether a setting is reported, if rules decide it.
-    pub fn may_tell(&self, setting: Setting) -> bool {
+    /// Whether a report lists a setting, if rules decide it.
+    pub fn may_report(&self, setting: Setting) -> bool {
         match self {
             RequestedSettings::Decided => true,
             RequestedSettings::These { settings, .. } => settings.iter().any(|one| *one == setting),
@@ -72,7 +72,7 @@ impl RequestedSettings {
     }
 }
 
-/// What a command reports.
+/// What a user requests.
 #[derive(Drop)]
 pub enum Question<'a> {
     /// The settings of a test.
@@ -81,7 +81,7 @@ pub enum Question<'a> {
         profile: &'a str,
         /// The test.
         test: RequestedTest<'a>,
-        /// Which of its settings are reported.
+        /// Which of its settings the report lists.
         asked: RequestedSettings,
     },
     /// The rules of a setting of a test.
@@ -90,10 +90,10 @@ pub enum Question<'a> {
         profile: &'a str,
         /// The test.
         test: RequestedTest<'a>,
-        /// The setting whose rules are reported.
+        /// The setting whose rules the report lists.
         setting: Setting,
     },
-    /// The rules that may say whether a test runs.
+    /// The rules that decide whether a test runs.
     WhyRuns {
         /// The name of the profile.
         profile: &'a str,
@@ -104,25 +104,25 @@ pub enum Question<'a> {
     List {
         /// The name of the profile.
         profile: &'a str,
-        /// For what the tests are run.
+        /// What the tests are run for.
         mode: NextestRunMode,
-        /// Where the list is read.
+        /// The list of tests.
         list: ListFile<'a>,
-        /// Which settings of each test are reported.
+        /// Which settings of each test the report lists.
         asked: RequestedSettings,
     },
     /// The leaves of the configuration.
     ShowConfig {
         /// The name of the profile.
         profile: &'a str,
-        /// The keys below which leaves are listed. Without one, all leaves are.
+        /// The report lists the leaves below these keys. If there is no key, it lists all leaves.
         keys: Vec<&'a str>,
-        /// Whether leaves are listed that others hide.
+        /// Whether the report also lists leaves that others hide.
         with_hidden: bool,
     },
     /// What is wrong with the files.
     Check {
-        /// Whether a warning is no success.
+        /// Whether a check with warnings ends with status 1.
         deny_warnings: bool,
     },
 }
@@ -130,11 +130,11 @@ pub enum Question<'a> {
 /// The repository's file.
 #[derive(Clone, Copy)]
 pub enum ConfigFile<'a> {
-    /// The one below the workspace's root, if it is there.
+    /// The file below the workspace's root, if it exists.
     Discovered,
-    /// The one at this path.
+    /// The file at this path.
     Named(&'a str),
-    /// Standard input, which is shown as if it had this path.
+    /// Standard input, which messages show with this path.
     Input(&'a str),
 }
 
@@ -147,67 +147,70 @@ pub struct ToolFile<'a> {
     pub path: &'a str,
 }
 
-/// Which files are read.
+/// Which files the program reads.
 #[derive(Drop)]
 pub struct FileOptions<'a> {
-    /// The root of the workspace. Without it, it is looked for.
+    /// The root of the workspace. If there is none, the program looks for it.
     pub root: Option<&'a str>,
     /// The repository's file.
     pub config_file: ConfigFile<'a>,
     /// The path of the organisation's file, if there is one.
     pub organisation_config_file: Option<&'a str>,
-    /// The files of tools, in the order of the words: the first is the highest.
+    /// The files of tools, in the order of the command line: the first has the highest precedence.
     pub tools: Vec<ToolFile<'a>>,
 }
 
-/// The triple of the host where nothing else says it.
+/// The triple of the host if nothing names one.
 pub const HOST: &str = "x86_64-unknown-linux-gnu";
 
-/// What the languages of filters and platforms know.
+/// What the program knows of the platforms and packages of a workspace.
 #[derive(Clone, Copy)]
 pub struct EngineOptions<'a> {
-    /// The triple of the host. Without it, what the compiler prints of itself or a list of tests may
-    /// give it, and else it is [`HOST`].
+    /// The triple of the host. If there is none, it is that of `rustc -vV`, else that of the list
+    /// of tests, else [`HOST`].
     pub host: Option<&'a str>,
-    /// The path of what the compiler prints of itself, which has the triple of the host.
+    /// The path of the output of `rustc -vV`, which has the triple of the host.
     pub rustc_version: Option<&'a str>,
-    /// The triple of the target. Without it, a list of tests may say it.
+    /// The triple of the target. If there is none, it is that of the list of tests.
     pub target: Option<&'a str>,
-    /// The triple of the target where neither words nor a list say it. Without it, what is built for
-    /// the target runs on the host.
+    /// The triple of the target if neither an option nor a list names one. Without it, what is
+    /// built for the target runs on the host.
     pub build_target: Option<&'a str>,
-    /// The path of what the compiler prints for the host. Without it, a table knows the triple.
+    /// The path of the output of `rustc --print cfg` for the host. Without it, the program uses its
+    /// table of triples.
     pub host_cfg: Option<&'a str>,
-    /// The path of what the compiler prints for the target. Without it, a table knows the triple.
+    /// The path of the output of `rustc --print cfg` for the target. Without it, the program uses
+    /// its table of triples.
     pub target_cfg: Option<&'a str>,
-    /// The path of what `cargo metadata` prints. Without it, `deps` and `rdeps` are left open.
+    /// The path of the output of `cargo metadata`. Without it, the program does not look up
+    /// `deps()` and `rdeps()`.
     pub metadata: Option<&'a str>,
 }
 
 /// The request of a user.
 #[derive(Drop)]
 pub struct Request<'a> {
-    /// What the command reports.
+    /// What the user requests.
     pub question: Question<'a>,
-    /// What names the profile, where the question has one.
+    /// What names the profile, if the request has one.
     pub profile_source: ProfileSource,
-    /// Which files are read.
+    /// Which files the program reads.
     pub files: FileOptions<'a>,
-    /// What the languages of filters and platforms know.
+    /// What the program knows of the platforms and packages of the workspace.
     pub engines: EngineOptions<'a>,
-    /// The experimental features that are switched on beside those of the repository's file.
+    /// The experimental features that are enabled in addition to those of the repository's file.
     pub features: BTreeSet<ConfigExperimental>,
-    /// How the output is written.
+    /// The format of the output.
     pub format: Format<'a>,
-    /// What the output is written on: whether it has colours, and how many columns its lines have.
+    /// Whether the output has colours, and how many columns its lines have.
     pub paper: Paper,
-    /// Whether standard error shows how far a list is: where it is a terminal, and standard output
-    /// is none.
+    /// Whether standard error shows how far a list is: only if it is a terminal and standard output
+    /// is not.
     pub shows_progress: bool,
 }
 
 impl<'a> Request<'a> {
-    /// The list of tests that it names, if it names one.
+    /// The list of tests that the user names, if there is one.
     pub fn list(&self) -> Option<ListFile<'a>> {
         match &self.question {
             Question::List { list, .. } => Some(*list),
@@ -218,22 +221,22 @@ impl<'a> Request<'a> {
         }
     }
 
-    /// Whether standard input is read.
+    /// Whether the program reads standard input.
     pub fn reads_input(&self) -> bool {
         matches!(self.files.config_file, ConfigFile::Input(_))
             || matches!(self.list(), Some(ListFile::Input))
     }
 }
 
-/// What words ask for.
+/// What a command line requests.
 #[derive(Drop)]
 pub enum Command<'a> {
-    /// The JSON schema of a file. Nothing is read for it.
+    /// The JSON schema of a file. The program reads no file for it.
     Schema,
-    /// The list of the codes of findings. Nothing is read for it.
+    /// The list of the codes of findings. The program reads no file for it.
     Codes,
-    /// The page of a code. Nothing is read for it.
+    /// The page of a code. The program reads no file for it.
     CodePage(Code),
-    /// A request for a report.
+    /// A report.
     Answer(Request<'a>),
 }

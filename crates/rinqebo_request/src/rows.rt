@@ -1,4 +1,4 @@
-//! What words name of a test: whether it runs, and settings.
+//! The rows of a test that a command line names: whether the test runs, and settings.
 use crate::hints::key_hint;
 use crate::keys::{RUNS, run_key, setting_of, settings_of};
 use crate::request::RequestedSettings;
@@ -33,7 +33,7 @@ fn named_settings(
     Ok(settings)
 }
 
-/// The setting that the value of an option names, which takes one.
+/// The setting that the value of an option names. The option takes one setting.
 pub fn one_setting(
     alloc: Global,
     option: &str,
@@ -50,7 +50,7 @@ pub fn one_setting(
     Err(usage(alloc, message.as_str(), None)?)
 }
 
-/// What is named of a test: whether it runs, and settings.
+/// The rows of a test that a user names: whether the test runs, and settings.
 #[derive(Drop)]
 struct NamedRows {
     runs: bool,
@@ -58,12 +58,12 @@ struct NamedRows {
 }
 
 impl NamedRows {
-    /// Whether nothing is named.
+    /// Whether the user names no row.
     fn is_empty(&self) -> bool {
         !self.runs && self.settings.is_empty()
     }
 
-    /// Adds what a key names.
+    /// Adds the rows that a key names.
     fn add(&mut self, alloc: Global, key: &str, mode: NextestRunMode) -> Result<(), ParseStop> {
         if key == RUNS {
             self.runs = true;
@@ -75,7 +75,7 @@ impl NamedRows {
         Ok(())
     }
 
-    /// Adds what the value of an option names, which takes one.
+    /// Adds the row that the value of an option names. The option takes one row.
     fn add_one(
         &mut self,
         alloc: Global,
@@ -92,14 +92,14 @@ impl NamedRows {
         Ok(())
     }
 
-    /// The same, as it is requested.
+    /// The rows, as a request has them.
     fn requested(self) -> RequestedSettings {
         let NamedRows { runs, settings } = self;
         RequestedSettings::These { runs, settings }
     }
 }
 
-/// What the words and the options of a command name of a test.
+/// The rows of a test that the words and options of a command line name.
 fn named_rows(
     alloc: Global,
     matches: &ArgMatches<'_>,
@@ -117,7 +117,7 @@ fn named_rows(
     Ok(named)
 }
 
-/// Whether a test runs, and all settings.
+/// All rows: whether a test runs, and all settings.
 fn all_rows(alloc: Global) -> Result<RequestedSettings, AllocError> {
     let mut settings = Vec::new(alloc);
     for setting in Setting::ALL.iter() {
@@ -129,7 +129,7 @@ fn all_rows(alloc: Global) -> Result<RequestedSettings, AllocError> {
     })
 }
 
-/// The requested settings of a test: all, where nothing is named.
+/// The requested rows of a test: all, if the user names none.
 pub fn explained_rows(
     alloc: Global,
     matches: &ArgMatches<'_>,
@@ -142,7 +142,7 @@ pub fn explained_rows(
     Ok(named.requested())
 }
 
-/// The requested settings of each test: without a word, the settings that rules decide.
+/// The requested rows of each test: if the user names none, the settings that rules decide.
 pub fn listed_rows(
     alloc: Global,
     matches: &ArgMatches<'_>,

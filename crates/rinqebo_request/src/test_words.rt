@@ -1,4 +1,4 @@
-//! Reads the words of the command that is about one test.
+//! Reads the command line of `explain`, which is about one test.
 use crate::environment::Environment;
 use crate::keys::RUNS;
 use crate::request::{ListFile, Question, Request, RequestedTest};
@@ -11,14 +11,14 @@ use clap::ArgMatches;
 use nextest_config::BuildPlatform;
 use std::alloc::Global;
 
-/// The words that name a test: its name, and before it the id of its binary.
+/// The words that name a test: the id of its binary, if there is one, and its name.
 #[derive(Clone, Copy)]
 struct TestWords<'a> {
     binary: Option<&'a str>,
     name: &'a str,
 }
 
-/// The words that name a test. One word alone is its name.
+/// The words of a command line that name a test. A single word is its name.
 fn test_words<'a>(alloc: Global, matches: &ArgMatches<'a>) -> Result<TestWords<'a>, ParseStop> {
     match (matches.get_str("BINARY"), matches.get_str("TEST")) {
         (Some(name), None) => Ok(TestWords { binary: None, name }),
@@ -27,12 +27,12 @@ fn test_words<'a>(alloc: Global, matches: &ArgMatches<'a>) -> Result<TestWords<'
     }
 }
 
-/// Whether a list of tests is named.
+/// Whether the user names a list of tests.
 fn has_list(matches: &ArgMatches<'_>) -> bool {
     matches.get_str("list").is_some()
 }
 
-/// The platform of the binary, where neither a list nor metadata give it.
+/// The platform of the binary, if neither a list nor metadata have it.
 fn named_platform(matches: &ArgMatches<'_>) -> BuildPlatform {
     if matches.get_flag("host-binary") {
         BuildPlatform::Host
@@ -41,7 +41,7 @@ fn named_platform(matches: &ArgMatches<'_>) -> BuildPlatform {
     }
 }
 
-/// Why a test whose binary is not named is not looked for.
+/// The usage error for a test without a binary and without a list to find it in.
 fn no_list(alloc: Global, name: &str) -> Result<ParseStop, ParseStop> {
     let message = format!(in alloc; "LIST is needed to find the binary of `{name}`")?;
     let hint = "name LIST by `--list FILE`, or write BINARY before TEST";
@@ -72,7 +72,7 @@ fn requested_test<'a>(
     })
 }
 
-/// The question about a test.
+/// What a user requests of a test.
 fn explain_question<'a>(
     alloc: Global,
     matches: &ArgMatches<'a>,

@@ -1,4 +1,4 @@
-//! Reads the words of the command line.
+//! Reads a command line.
 ghost use Rattle.std.specs.Prelude.{◌≤◌};
 
 use crate::environment::{Environment, set};
@@ -19,20 +19,20 @@ use rinqebo_report::{Colour, Format, Paper};
 use std::alloc::{AllocError, Global};
 use std::collections::BTreeSet;
 
-/// How many columns the lines of a page have where no variable says it.
+/// How many columns a line of a page has if no variable says so.
 const COLUMNS: usize = 80;
 
-/// How many columns the lines of a page have at least.
+/// The least number of columns that a line of a page may have.
 const LEAST_COLUMNS: usize = 20;
 
-/// Why words are no request.
+/// Why a command line is not a request.
 #[derive(Debug, Drop)]
 pub enum ParseStop {
-    /// They ask for help, which is this text.
+    /// It requests help, which is this text.
     Help(String),
-    /// They are not as the commands want them. The text says why.
+    /// It is not valid. The text says why.
     Usage(String),
-    /// Want of memory.
+    /// Memory ran out.
     Memory,
 }
 
@@ -42,7 +42,7 @@ impl From<AllocError> for ParseStop {
     }
 }
 
-/// A fault of usage, with a hint if there is one.
+/// A usage error, with a hint if there is one.
 pub fn usage(alloc: Global, message: &str, hint: Option<String>) -> Result<ParseStop, AllocError> {
     match hint {
         Some(hint) => Ok(ParseStop::Usage(format!(in alloc; "error: {message}\n  {hint}\n")?)),
@@ -98,7 +98,7 @@ pub fn tool_files<'a>(alloc: Global, values: &[&'a str]) -> Result<Vec<ToolFile<
     Ok(tools)
 }
 
-/// The experimental features that variables and options switch on.
+/// The experimental features that variables and options enable.
 pub fn features(
     alloc: Global,
     matches: &ArgMatches<'_>,
@@ -121,7 +121,7 @@ pub fn features(
     Ok(features)
 }
 
-/// The files that are read, beside the repository's.
+/// The files that options name, with the repository's file.
 pub fn files<'a>(
     alloc: Global,
     matches: &ArgMatches<'a>,
@@ -143,8 +143,8 @@ pub fn named_file<'a>(matches: &ArgMatches<'a>) -> ConfigFile<'a> {
     }
 }
 
-/// The repository's file that a check names. It is named once, and only standard input is shown
-/// with a path of its own.
+/// The repository's file that a user names for a check, by FILE or by its option. Only standard
+/// input takes `--stdin-path`.
 fn checked_file<'a>(alloc: Global, matches: &ArgMatches<'a>) -> Result<ConfigFile<'a>, ParseStop> {
     let file = matches.get_str("FILE");
     let shown = matches.get_str("stdin-path");
@@ -162,8 +162,8 @@ fn checked_file<'a>(alloc: Global, matches: &ArgMatches<'a>) -> Result<ConfigFil
     }
 }
 
-/// What the languages of filters and platforms know. For a list of tests that may say the target,
-/// whether there is one is decided later.
+/// What options say of platforms and packages. A list of tests may name the target, so that the
+/// program decides later whether there is one.
 pub fn engines<'a>(matches: &ArgMatches<'a>, environment: &'a Environment) -> EngineOptions<'a> {
     EngineOptions {
         host: matches.get_str("host"),
@@ -176,7 +176,7 @@ pub fn engines<'a>(matches: &ArgMatches<'a>, environment: &'a Environment) -> En
     }
 }
 
-/// What the languages of a command know that reads no list: `cfg` of a target go with a target.
+/// The same for a command without a list. `--target-cfg` needs a target.
 pub fn target_engines<'a>(
     alloc: Global,
     matches: &ArgMatches<'a>,
@@ -190,7 +190,7 @@ pub fn target_engines<'a>(
     Ok(engines)
 }
 
-/// The languages of a command that is about no test.
+/// What options say of packages, for a command that is about no test.
 fn file_engines<'a>(matches: &ArgMatches<'a>) -> EngineOptions<'a> {
     EngineOptions {
         host: None,
@@ -203,7 +203,7 @@ fn file_engines<'a>(matches: &ArgMatches<'a>) -> EngineOptions<'a> {
     }
 }
 
-/// How the output is written.
+/// The format of the output.
 pub fn format<'a>(matches: &ArgMatches<'a>, environment: &'a Environment) -> Format<'a> {
     match matches.get_str("format") {
         Some("json") => Format::Json,
@@ -231,7 +231,7 @@ fn colour(matches: &ArgMatches<'_>, environment: &Environment) -> Colour {
     }
 }
 
-/// How many columns the lines of a page have: what `COLUMNS` says, if it is a number that is large
+/// How many columns a line of a page has: those of `COLUMNS`, if that is a number that is large
 /// enough.
 fn columns(environment: &Environment) -> usize
     ensures { 20 ≤ result }
@@ -245,7 +245,7 @@ fn columns(environment: &Environment) -> usize
     }
 }
 
-/// What the output is written on.
+/// Whether the output has colours, and how many columns its lines have.
 pub fn paper(matches: &ArgMatches<'_>, environment: &Environment) -> Paper {
     Paper {
         colour: colour(matches, environment),
@@ -253,7 +253,7 @@ pub fn paper(matches: &ArgMatches<'_>, environment: &Environment) -> Paper {
     }
 }
 
-/// The mode of a word.
+/// The mode that a word names.
 pub fn mode_of(word: &str) -> NextestRunMode {
     match word {
         "benchmark" => NextestRunMode::Benchmark,
@@ -285,7 +285,7 @@ pub fn profile_source(matches: &ArgMatches<'_>, environment: &Environment) -> Pr
     }
 }
 
-/// The question about a list of tests.
+/// What a user requests of a list of tests.
 fn list_question<'a>(
     alloc: Global,
     matches: &ArgMatches<'a>,
@@ -303,7 +303,7 @@ fn list_question<'a>(
     })
 }
 
-/// How a list is written.
+/// The format of the output of `list`.
 fn list_format<'a>(matches: &ArgMatches<'a>, environment: &'a Environment) -> Format<'a> {
     match format(matches, environment) {
         Format::Text if matches.contains_id("by") => Format::Grouped,
@@ -329,7 +329,7 @@ fn list_request<'a>(
     })
 }
 
-/// The keys below which leaves are listed.
+/// The KEYs of `show-config`.
 fn leaf_keys<'a>(alloc: Global, matches: &ArgMatches<'a>) -> Result<Vec<&'a str>, AllocError> {
     Vec::from_slice(alloc, matches.get_strs("KEY").unwrap_or(&[]))
 }
@@ -356,7 +356,7 @@ fn show_request<'a>(
     })
 }
 
-/// Whether a warning is no success.
+/// Whether a check with warnings ends with status 1.
 fn denies_warnings(alloc: Global, matches: &ArgMatches<'_>) -> Result<bool, ParseStop> {
     match matches.get_str("deny") {
         Some("warnings") => Ok(true),
@@ -386,7 +386,7 @@ fn code_named(alloc: Global, word: &str) -> Result<Code, ParseStop> {
     }
 }
 
-/// What the words of `check` ask for.
+/// What a command line of `check` requests.
 fn check_command<'a>(
     alloc: Global,
     matches: &ArgMatches<'a>,
@@ -422,7 +422,7 @@ fn check_request<'a>(
     })
 }
 
-/// The command that words ask for, which were matched.
+/// The command of a command line that clap accepts.
 pub fn command_of<'a>(
     alloc: Global,
     matches: &ArgMatches<'a>,
@@ -439,7 +439,7 @@ pub fn command_of<'a>(
     Ok(Command::Answer(request))
 }
 
-/// Reads the words, with the program's name, and what the environment says in their place.
+/// Reads a command line, which begins with the program's name, and the environment.
 pub fn parse<'a>(
     alloc: Global,
     words: &'a [String],

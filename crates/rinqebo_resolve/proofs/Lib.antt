@@ -1,3 +1,3 @@
 mod Taking
-mod Telling
+mod Reporting
 mod Reading

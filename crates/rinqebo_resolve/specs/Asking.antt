@@ -1,4 +1,4 @@
--- A run as the program is asked for it.
+-- A run as a request of the program.
 use Rattle.std.specs.Prelude.{◌≡◌, ℕ, true, List, Option, None, Some, option_and_then, option_map, string_bytes}
 use Rattle.nextest_elements.specs.declared.experimental.ConfigExperimental.{ConfigExperimental}
 use Rattle.nextest_elements.specs.declared.run_mode.NextestRunMode.{NextestRunMode}
@@ -17,7 +17,7 @@ use Rattle.rinqebo_forms.specs.Runs.{RunText}
 use Rattle.rinqebo_forms.specs.declared.request.Switches.{Switches}
 use Rattle.rinqebo_resolve.specs.declared.asking.Asked.{Asked}
 
--- What is asked of files: a profile and a mode, the triples of the machines, and features.
+-- What a run requests of files: a profile and a mode, the triples of the machines, and features.
 pub record RequestedText : Type 0 where
   pub profile : List ℕ
   pub mode : NextestRunMode
@@ -25,7 +25,7 @@ pub record RequestedText : Type 0 where
   pub target : Option (List ℕ)
   pub features : Switches
 
--- what contracts see of what is asked
+-- what contracts see of a request
 abbrev pub requested_view : Asked → RequestedText
 requested_view asked = record {
   profile = string_bytes asked.profile;
@@ -35,7 +35,7 @@ requested_view asked = record {
   features = asked.features;
 }
 
--- what a run asks of its files
+-- what a run requests of its files
 abbrev pub requested_of : RunText → RequestedText
 requested_of run = record {
   profile = run.profile;
@@ -45,12 +45,12 @@ requested_of run = record {
   features = run.load.features;
 }
 
--- what is told of each test is whether it runs, and all settings
+-- of each test a report lists whether it runs, and all settings
 abbrev pub AreAll : RequestedSettings → Type 0
 AreAll Decided = ⊥
 AreAll (These runs asked) = (runs ≡ true) × (asked.items ≡ settings)
 
--- a question asks for all settings of each test of a list, in a profile and a mode
+-- a request is for all settings of each test of a list, in a profile and a mode
 abbrev pub AsksForAll : RequestedText → Question → Type 0
 AsksForAll asked (questions.Explain profile test shown) = ⊥
 AsksForAll asked (questions.Why profile test setting) = ⊥
@@ -60,13 +60,13 @@ AsksForAll asked (questions.List profile mode list shown) =
 AsksForAll asked (questions.ShowConfig profile keys with_hidden) = ⊥
 AsksForAll asked (questions.Check deny_warnings) = ⊥
 
--- The languages know the triples that are asked for, and none of an environment.
+-- The languages know the requested triples, and none of an environment.
 pub record AreEnginesFor (asked : RequestedText) (engines : EngineOptions) : Type 0 where
   pub host : option_map (λ host. host.now) engines.host ≡ Some asked.host
   pub target : option_map (λ target. target.now) engines.target ≡ asked.target
   pub build_target : engines.build_target ≡ None
 
--- A request of the program asks for this.
+-- A request of the program is the one of a run.
 pub record IsRequestFor (asked : RequestedText) (request : Request) : Type 0 where
   pub question : AsksForAll asked request.question
   pub engines : AreEnginesFor asked request.engines

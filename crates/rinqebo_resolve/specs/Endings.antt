@@ -1,4 +1,4 @@
--- How a run ends, and what is told of it.
+-- How a run ends, and what a caller receives of it.
 use Rattle.std.specs.Prelude.{◌≡◌, ◌⊎◌, ◌<◌, ◌≤◌, ◌++◌, ℕ, List, [], None, Some, Result, Ok, Err, drop, length, string_bytes}
 use Rattle.std.specs.Str.{IsUtf8}
 use Rattle.rinqebo_files.specs.declared.files.Gathered.{Gathered}
@@ -16,7 +16,8 @@ use Rattle.rinqebo_resolve.specs.Asking.{RequestedText, AreFilesOf, IsRequestFor
 use Rattle.rinqebo_resolve.specs.declared.ending.Ending.{Ending}
 use Rattle.rinqebo_resolve.specs.declared.ending.Ending.TheVariants as ends
 
--- A text is the document of a report, in JSON, of which something holds for what is asked of files.
+-- A text is the document of a report, in JSON, of which something holds for what a run requests of
+-- files.
 pub record TellsOf (asked : RequestedText) (gathered : Gathered)
     (Holds : Request → Gathered → Report → Type 0) (text : List ℕ) : Type 0 where
   pub request : Request
@@ -25,7 +26,7 @@ pub record TellsOf (asked : RequestedText) (gathered : Gathered)
   pub holds : Holds request gathered report
   pub document : text ≡ json_text report
 
--- a text is the document of the answer
+-- a text is the document of the result
 abbrev pub IsAnswerOf : RequestedText → Gathered → List ℕ → Type 0
 IsAnswerOf asked gathered =
     TellsOf asked gathered (λ request files report. IsAnswer request files report 0)
@@ -40,7 +41,7 @@ abbrev pub TellsNoProfileOf : RequestedText → Gathered → List ℕ → Type 0
 TellsNoProfileOf asked gathered =
     TellsOf asked gathered (λ request files report. LackProfileFor request files)
 
--- how what is asked of files ends, want of memory aside
+-- how what a run requests of files ends, want of memory aside
 abbrev pub IsEndingIn : RequestedText → Gathered → Ending → Type 0
 IsEndingIn asked gathered (ends.Answered text) = IsAnswerOf asked gathered (string_bytes text)
 IsEndingIn asked gathered (ends.Refused text) = IsRefusalOf asked gathered (string_bytes text)
@@ -51,14 +52,14 @@ IsEndingIn asked gathered (ends.NotUnderstood reason) = ⊥
 IsEndingIn asked gathered ends.NotText = ⊥
 IsEndingIn asked gathered ends.Memory = Unit {0}
 
--- A run ends so: what it asks of its files does.
+-- A run ends so: what it requests of its files does.
 pub record IsEndingOf (run : RunText) (ending : Ending) : Type 0 where
   pub gathered : Gathered
   pub are_files : AreFilesOf run gathered
   pub is_ending : IsEndingIn (requested_of run) gathered ending
 
--- an ending tells why the program answers nothing: the report of the refusal, or of the profile that
--- is missing, in JSON; a run of a list asks for no test that may be missing
+-- an ending says why the program has no result: the report of the refusal, or of the profile that
+-- is missing, in JSON; a run of a list names no test that may be missing
 abbrev pub TellsFailure : Failure → Ending → Type 0
 TellsFailure (failures.Engines fault) (ends.NoEngines reason) = Unit {0}
 TellsFailure (failures.Refused report) (ends.Refused text) =
@@ -69,20 +70,20 @@ TellsFailure (failures.NoTest report) (ends.NoEngines reason) = Unit {0}
 TellsFailure (failures.SeveralTests report) (ends.NoEngines reason) = Unit {0}
 TellsFailure failure ending = ⊥
 
--- an ending tells what the program answers: its report in JSON, or why there is none
+-- an ending has what the program returns: its report in JSON, or why there is none
 abbrev pub TellsOutcome : Result Answer Failure → Ending → Type 0
 TellsOutcome (Ok answer) (ends.Answered text) =
     string_bytes text ≡ json_text answer.report
 TellsOutcome (Ok answer) ending = ⊥
 TellsOutcome (Err failure) ending = TellsFailure failure ending
 
--- the bytes of a request are understood, and what they ask for ends so
+-- the bytes of a request are understood, and their run ends so
 abbrev pub EndsUnderstood : List ℕ → Ending → Type 0
 EndsUnderstood request ending =
     (run : RunText) × (run_of request ≡ Some run) × IsEndingOf run ending
 
--- how the run that bytes ask for ends: as what they say does, or they are not understood, or no
--- UTF-8; want of memory aside
+-- how the run of the bytes of a request ends: as the run that they describe does, or they are not
+-- understood, or are not UTF-8; want of memory aside
 abbrev pub IsEndingFor : List ℕ → Ending → Type 0
 IsEndingFor request (ends.Answered text) = EndsUnderstood request (ends.Answered text)
 IsEndingFor request (ends.Refused text) = EndsUnderstood request (ends.Refused text)
@@ -102,7 +103,7 @@ ending_status (ends.NotUnderstood reason) = NOT_UNDERSTOOD
 ending_status ends.NotText = NOT_TEXT
 ending_status ends.Memory = MEMORY
 
--- what an ending tells
+-- what a caller receives of an ending
 abbrev pub ending_text : Ending → List ℕ
 ending_text (ends.Answered text) = string_bytes text
 ending_text (ends.Refused text) = string_bytes text
@@ -112,9 +113,9 @@ ending_text (ends.NotUnderstood reason) = string_bytes reason
 ending_text ends.NotText = []
 ending_text ends.Memory = []
 
--- An ending is told: where the buffer has room for its text, that stands at the buffer's start, what
--- was behind it stays, and its number is answered; else the buffer is left as it was. The length of
--- the text is told either way.
+-- A caller receives an ending: where the buffer has room for its text, that is at the buffer's
+-- start, what was behind it stays, and its number is returned; else the buffer is left as it was.
+-- The length of the text is written either way.
 pub record IsReported (ending : Ending) (old new : List ℕ) (needed status : ℕ) : Type 0 where
   pub told : needed ≡ length (ending_text ending)
   pub written : length (ending_text ending) ≤ length old
@@ -122,14 +123,14 @@ pub record IsReported (ending : Ending) (old new : List ℕ) (needed status : �
       × (new ≡ ending_text ending ++ drop (length (ending_text ending)) old)
   pub small : length old < length (ending_text ending) → (status ≡ SMALL) × (new ≡ old)
 
--- A run is resolved: it ends so for the bytes of the request, and that is told.
+-- A run is resolved: it ends so for the bytes of the request, and the caller receives that.
 pub record IsResolved (request old new : List ℕ) (needed status : ℕ) : Type 0 where
   pub ending : Ending
   pub is_ending : IsEndingFor request ending
   pub is_told : IsReported ending old new needed status
 
--- A text is the answer to the bytes of a request: they are understood, and it is the document of the answer
--- over the files that they say.
+-- A text is the result for the bytes of a request: they are understood, and it is the document of
+-- the result over the files that they describe.
 pub record IsAnswerTo (request text : List ℕ) : Type 0 where
   pub run : RunText
   pub reads : run_of request ≡ Some run
@@ -137,6 +138,6 @@ pub record IsAnswerTo (request text : List ℕ) : Type 0 where
   pub are_files : AreFilesOf run gathered
   pub is_answer : IsAnswerOf (requested_of run) gathered text
 
--- a status beside which nothing is told
+-- a status beside which a caller receives nothing
 abbrev pub IsSilent : ℕ → Type 0
 IsSilent status = (status ≡ SMALL) ⊎ (status ≡ NOT_TEXT) ⊎ (status ≡ MEMORY)

@@ -24,11 +24,11 @@ pub const LIST: &str = "list";
 pub struct Asked {
     /// The name of the profile.
     pub profile: String,
-    /// For what the tests are run.
+    /// What the tests are run for.
     pub mode: NextestRunMode,
     /// The triple of the machine that builds.
     pub host: String,
-    /// The triple of the machine that is built for, if it is given.
+    /// The triple of the machine that is built for, if there is one.
     pub target: Option<String>,
     /// The experimental features that are switched on beside those of the repository's file.
     pub features: Switches,

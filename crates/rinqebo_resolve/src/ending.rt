@@ -58,7 +58,7 @@ impl Ending {
 
     /// Writes its text at the start of a buffer, and returns its number; or returns that the
     /// buffer is too small.
-    pub fn tell(&self, out: &mut [u8], needed: &mut usize) -> u32
+    pub fn report(&self, out: &mut [u8], needed: &mut usize) -> u32
         ensures { IsReported self.now out.old out.new needed.new result }
     {
         if copy_out(self.text().as_bytes(), out, needed) == SMALL {

@@ -23,7 +23,8 @@ fn document_of(alloc: Global, report: &Report) -> Result<String, AllocError>
     render_json(alloc, report)
 }
 
-/// Why there are no engines. A request in JSON has members and no options, so that no option is named.
+/// Why there are no engines. A request in JSON has members and no options, so that the text names
+/// no option.
 fn reason_of(alloc: Global, fault: &InputFault) -> Result<String, AllocError> {
     match fault {
         InputFault::Engine(_, fault) => format!(in alloc; "{fault}"),
@@ -42,7 +43,7 @@ fn reason_of(alloc: Global, fault: &InputFault) -> Result<String, AllocError> {
     }
 }
 
-/// The ending of a run that answers nothing.
+/// The ending of a run that has no result.
 fn failed(alloc: Global, failure: &Failure) -> Result<Ending, AllocError>
     ensures { IfOk result (TellsFailure failure.now) }
 {
@@ -57,7 +58,7 @@ fn failed(alloc: Global, failure: &Failure) -> Result<Ending, AllocError>
     }
 }
 
-/// The ending of a run with what the program answers.
+/// The ending of a run with what the program returns.
 fn ended(alloc: Global, outcome: &Result<Answer, Failure>) -> Result<Ending, AllocError>
     ensures { IfOk result (TellsOutcome outcome.now) }
 {
@@ -67,7 +68,7 @@ fn ended(alloc: Global, outcome: &Result<Answer, Failure>) -> Result<Ending, All
     }
 }
 
-/// How what is asked of files ends.
+/// How what a run requests of files ends.
 fn ending_in(alloc: Global, asked: &Asked, gathered: &Gathered) -> Result<Ending, AllocError>
     ensures { IfOk result (IsEndingIn (requested_view asked.now) gathered.now) }
 {
@@ -84,7 +85,7 @@ fn ending_of(alloc: Global, run: RunRequest) -> Result<Ending, AllocError>
     ending_in(alloc, &asked, &gathered)
 }
 
-/// How the run ends that the bytes of a request ask for, where memory suffices.
+/// How the run of the bytes of a request ends, if memory suffices.
 fn ending_with_memory(alloc: Global, request: &[u8]) -> Result<Ending, AllocError>
     ensures { IfOk result (IsEndingFor request.now) }
 {
@@ -98,7 +99,7 @@ fn ending_with_memory(alloc: Global, request: &[u8]) -> Result<Ending, AllocErro
     }
 }
 
-/// How the run ends that the bytes of a request ask for.
+/// How the run of the bytes of a request ends.
 pub fn ending_for(alloc: Global, request: &[u8]) -> Ending
     ensures { IsEndingFor request.now result }
 {
@@ -116,5 +117,5 @@ pub fn resolve(alloc: Global, request: &[u8], answer: &mut [u8], needed: &mut us
     ensures done { result ≡ DONE → IsAnswerTo request.now (take needed.new answer.new) }
     ensures kept { IsSilent result → answer.new ≡ answer.old }
 {
-    ending_for(alloc, request).tell(answer, needed)
+    ending_for(alloc, request).report(answer, needed)
 }

@@ -28,8 +28,7 @@ fn copy_from(text: &[u8], offset: usize, out: &mut [u8]) -> usize
 }
 
 impl Run {
-    /// The run that the bytes of a request ask for. There always is one: its status says how it
-    /// ended.
+    /// The run of the bytes of a request. There always is one: its status says how it ended.
     pub fn new(alloc: Global, request: &[u8]) -> Run
         ensures { IsRunOf request.now result }
     {

@@ -42,8 +42,8 @@ are_defaults [] = true
 are_defaults (kinds.DefaultTable ∷ []) = true
 are_defaults origins = false
 
--- what one file alone has for a value that comes from some origins, beside what the defaults add: there
--- is nothing where several files write the value
+-- what one file alone has for a value that comes from some origins, beside what the defaults add:
+-- there is nothing where several files write the value
 abbrev pub node_alone : List Layer → List PathStep → List Origin → Option Node
 node_alone layers steps [] = None
 node_alone layers steps (origin ∷ others) =

@@ -15,13 +15,13 @@ use Rattle.platform_table.specs.Platforms.{platform_view}
 use Rattle.platform_table.specs.declared.Platform.{Platform}
 use Rattle.rinqebo_rules.specs.declared.verdict.RuleFacts.{RuleFacts}
 
--- an answer that may be unknown, as it is told
+-- an answer that may be unknown, as a report shows it
 abbrev pub reported_answer : Option Bool → ConditionAnswer
 reported_answer (Some true) = says.Yes
 reported_answer (Some false) = says.No
 reported_answer None = says.Unknown
 
--- the answer of a condition that may be absent, as it is told
+-- the answer of a condition that may be absent, as a report shows it
 abbrev pub reported_condition : {X : Type 0} → (X → Option Bool) → Option X → ConditionAnswer
 reported_condition answer None = says.Absent
 reported_condition answer (Some condition) = reported_answer (answer condition)
@@ -35,7 +35,7 @@ abbrev pub filter_matches : Filterset FieldMatcher → Test → Filterset FieldM
 filter_matches filter test default =
     filter_holds (marks_view names_of filter) test (marks_view names_of default)
 
--- A filter is asked where the platforms hold.
+-- A filter is evaluated where the platforms hold.
 abbrev pub requested_if : Bool → ConditionAnswer → ConditionAnswer
 requested_if true answer = answer
 requested_if false answer = says.Unrequested

@@ -1,4 +1,4 @@
--- The filters that a profile evaluates on the platforms of a build, by what they ask about.
+-- The filters that a profile evaluates on the platforms of a build, by the fields that they use.
 use Rattle.std.specs.Prelude.{ℕ, Bool, ◌||◌, codes, List, [], ◌∷◌, ◌++◌, Option, None, Some, if◌then◌else◌}
 use Rattle.std.specs.List.{flat_map, list_any}
 use Rattle.filter_engine.specs.Compiling.{names_of}
@@ -45,7 +45,7 @@ site_key chain_default = codes "default-filter"
 site_key (default_of place) = codes "default-filter"
 site_key (filter_of place) = codes "filter"
 
--- whether a filter asks about one of some fields
+-- whether a filter uses one of some fields
 abbrev pub asks_any : List Field → Filter → Bool
 asks_any fields filter = list_any (λ field. asks field filter) fields
 
@@ -67,15 +67,15 @@ abbrev pub default_site : Option Place → Site
 default_site None = chain_default
 default_site (Some place) = default_of place
 
--- The filters of a profile that are evaluated and have something: the default filter that counts, then
--- those of overrides in order, and then those of script rules in order.
+-- The filters of a profile that are evaluated and have something: the default filter that counts,
+-- then those of overrides in order, and then those of script rules in order.
 abbrev pub evaluated_filters : {M : Type 0} → (M → Bool) → EvaluatableModel M → List (Site × M)
 evaluated_filters P profile =
     which_has P (default_site (filtering_place profile)) (Some profile.default_filter.filter)
     ++ flat_map (evaluated_of P (λ w. id_place w.id)) profile.overrides
     ++ flat_map (evaluated_of P (λ w. script_place w.id)) profile.script_rules
 
--- The filters of a profile that are evaluated and have sets of packages that were not looked up, by what
--- is known of packages.
+-- The filters of a profile that are evaluated and have sets of packages that were not looked up, by
+-- what is known of packages.
 abbrev pub open_filters : Packages → EvaluatableModel Filter → List (Site × Filter)
 open_filters packages profile = evaluated_filters (leaves_open packages) profile

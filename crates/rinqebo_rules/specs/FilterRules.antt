@@ -15,16 +15,17 @@ use Rattle.rinqebo_rules.specs.RulePlaces.{Place, id_place, place_view}
 use Rattle.rinqebo_rules.specs.declared.chain_rules.SettingRule.{SettingRule}
 use Rattle.rinqebo_rules.specs.declared.verdict.RuleFacts.{RuleFacts}
 
--- What is found out of an override that has a default filter: its place, what is known of it, and what
--- the host and the target say to its platforms.
+-- What is known of an override that has a default filter: its place, its verdict, and whether its
+-- platforms hold for the host and for the target.
 pub record FilterRule : Type 0 where
   pub place : Place
   pub facts : RuleFacts
   pub host : ConditionAnswer
   pub target : ConditionAnswer
 
--- what is known of an override that has a default filter, by whether its platforms hold for binaries of
--- the target: its default filter counts for all tests or for none, whatever its own filter says
+-- what is known of an override that has a default filter, by whether its platforms hold for
+-- binaries of the target: its default filter counts for all tests or for none, whatever its own
+-- filter says
 abbrev pub filter_facts : Bool → RuleFacts
 filter_facts holds = record { is_on = holds; holds = holds; writes = true }
 
@@ -65,7 +66,8 @@ filter_rule_view rule = record {
 }
 
 -- whether an override has a default filter, as code holds it
-abbrev pub held_default : {F S E T N P : Type 0} → EvaluatedRule (CompiledOverride F S E T N P) → Bool
+abbrev pub held_default :
+    {F S E T N P : Type 0} → EvaluatedRule (CompiledOverride F S E T N P) → Bool
 held_default rule = has_default (override_ref_view rule.rule)
 
 -- what is found out of an override, as code holds it

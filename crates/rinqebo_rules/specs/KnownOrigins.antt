@@ -22,7 +22,7 @@ IsKnown basis known =
     AreOriginsAt basis (option_map place_view known.rule)
     (option_map (λ table. table.now) known.key.table) known.key.key.now known.origins.items
 
--- an origin tells the same as another
+-- an origin says the same as another
 abbrev pub IsCopyOf : Origin → Origin → Type 0
 IsCopyOf (kinds.Written from) (kinds.Written copy) =
     (copy.place ≡ from.place) × (string_bytes copy.profile ≡ string_bytes from.profile)

@@ -33,7 +33,8 @@ are_texts no_nodes = true
 are_texts (node (text t) items) = are_texts items
 are_texts (node item items) = false
 
--- Whether the value of a leaf is told: a text, a number, a truth value, or a list of texts.
+-- Whether a report can show the value of a leaf: a text, a number, a truth value, or a list of
+-- texts.
 abbrev pub is_tellable : Node → Bool
 is_tellable (table es) = false
 is_tellable (array items) = are_texts items

@@ -1,4 +1,4 @@
--- Where values and rules are written, as it is told.
+-- Where values and rules are written, as a report shows it.
 use Rattle.std.specs.Prelude.{◌≡◌, ℕ, List, [], ◌∷◌, ◌++◌, Option, None, Some, codes, map, string_bytes}
 use Rattle.nextest_places.specs.declared.step.Step.{Step}
 use Rattle.nextest_places.specs.declared.step.Step.TheVariants as steps
@@ -12,7 +12,7 @@ use Rattle.rinqebo_report.specs.declared.origin.Part.TheVariants as parts
 use Rattle.rinqebo_report.specs.declared.origin.Written.{Written}
 use Rattle.rinqebo_rules.specs.RulePlaces.{Place}
 
--- a step of a path: to what stands at a key, or at a position
+-- a step of a path: to what is at a key, or at a position
 pub data PathStep : Type 0 where
   key : List ℕ → PathStep
   position : ℕ → PathStep
@@ -37,8 +37,8 @@ abbrev pub key_steps : Option (List ℕ) → List ℕ → List PathStep
 key_steps None name = key name ∷ []
 key_steps (Some table) name = key table ∷ key name ∷ []
 
--- What is told to be written is told rightly: the profile under which it stands, which part of the
--- profile it is, and the place of its path in the layer at a position.
+-- What is written has the right place: the profile that has it, which part of the profile it is,
+-- and the place of its path in the layer at a position.
 pub record IsWrittenAt (layers : List Layer) (at : ℕ) (profile : Name) (part : Part)
     (rest : List PathStep) (written : Written) : Type 0 where
   pub profile_reported : string_bytes written.profile ≡ profile
@@ -47,15 +47,15 @@ pub record IsWrittenAt (layers : List Layer) (at : ℕ) (profile : Name) (part :
   pub spelled : map step_view path ≡ profile_steps profile part ++ rest
   pub place_reported : IsPathPlace layers at path written.place
 
--- What stands at some steps from a rule is told to be written in the file of the rule's source.
+-- What is at some steps from a rule is written in the file of the rule's source.
 pub record IsWrittenInFile (layers : List Layer) (place : Place) (rest : List PathStep)
     (written : Written) : Type 0 where
   pub at : ℕ
   pub is_file : IsFileAt layers place.source at
   pub is_written : IsWrittenAt layers at place.profile place.part rest written
 
--- An origin tells what stands at some steps from a rule. One of a source that is none of the layers
--- is told by none.
+-- An origin is that of what is at some steps from a rule. A rule of a source that is none of the
+-- layers has none.
 abbrev pub IsOriginOf : List Layer → Place → List PathStep → Origin → Type 0
 IsOriginOf layers place rest (kinds.Written written) = IsWrittenInFile layers place rest written
 IsOriginOf layers place rest kinds.BuiltIn = HasNoFile layers place.source

@@ -1,4 +1,4 @@
--- Where values of profiles come from, as it is told.
+-- Where values of profiles come from, as a report shows it.
 use Rattle.std.specs.Prelude.{◌≡◌, ◌≢◌, ◌⊎◌, ◌++◌, ℕ, zero, suc, List, [], ◌∷◌, Option, None, Some, Vec, Bool, true, false, codes, if◌then◌else◌}
 use Rattle.std.specs.declared.alloc.Global.{Global}
 use Rattle.std.specs.List.{AllByRecursion, AllZip}
@@ -36,8 +36,8 @@ report_path = codes "junit" ∷ codes "path" ∷ []
 abbrev pub IsUnwritten : List Node → List Name → Path → Type 0
 IsUnwritten trees chain path = AllByRecursion (λ name. ¬ Writes trees path name) chain
 
--- An origin tells what a profile writes for a setting in the layer at a position: the lowest one is
--- the default table, and any other one is told with the place of the setting.
+-- An origin is that of what a profile writes for a setting in the layer at a position: the lowest
+-- one is the default table, and in any other one it has the place of the setting.
 abbrev pub IsLayerOrigin : List Layer → Name → Option (List ℕ) → List ℕ → ℕ → Origin
     → Type 0
 IsLayerOrigin layers profile table name zero origin = origin ≡ kinds.DefaultTable
@@ -45,8 +45,8 @@ IsLayerOrigin layers profile table name (suc n) (kinds.Written written) =
     IsWrittenAt layers (suc n) profile parts.Fields (key_steps table name) written
 IsLayerOrigin layers profile table name (suc n) origin = ⊥
 
--- What a chain writes for a setting is told: the nearest profile of it that writes the setting, and
--- exactly the layers that show leaves of that, the highest first.
+-- Origins are those of what a chain writes for a setting: the nearest profile of it that writes the
+-- setting, and exactly the layers that show leaves of that, the highest first.
 pub record AreWrittenOrigins (layers : List Layer) (chain : List Name) (table : Option (List ℕ))
     (name : List ℕ) (origins : List Origin) : Type 0 where
   pub nearer : List Name
@@ -64,17 +64,17 @@ pub record AreWrittenOrigins (layers : List Layer) (chain : List Name) (table : 
 abbrev pub HasNoReport : List Node → List Name → Option (List ℕ) → Type 0
 HasNoReport trees chain table = (is_report table ≡ true) × IsUnwritten trees chain report_path
 
--- What a chain writes for a setting is told, or it writes only a table without leaves, and the value
--- is told to be built in.
+-- Origins are those of what a chain writes for a setting, or it writes only a table without leaves,
+-- and the value is built in.
 abbrev pub AreOriginsWritten : List Layer → List Name → Option (List ℕ) → List ℕ
     → Vec Origin Global → Type 0
 AreOriginsWritten layers chain table name origins =
     (AreWrittenOrigins layers chain table name origins.items × (origins.items ≢ []))
     ⊎ (AreWrittenOrigins layers chain table name [] × (origins.items ≡ kinds.BuiltIn ∷ []))
 
--- Nothing that is written counts for a setting: rules alone write it, or it is one of a report and no
--- profile of the chain has one written, or no profile writes the setting, or only a table without
--- leaves.
+-- Nothing that is written counts for a setting: rules alone write it, or it is one of a report and
+-- no profile of the chain has one written, or no profile writes the setting, or only a table
+-- without leaves.
 pub data IsBuiltIn (layers : List Layer) (chain : List Name) (table : Option (List ℕ))
     (name : List ℕ) : Type 0 where
   no_key : is_rule_key table name ≡ true → IsBuiltIn layers chain table name
@@ -93,8 +93,8 @@ pub data AreProfileOrigins (layers : List Layer) (chain : List Name) (table : Op
       → AreWrittenOrigins layers chain table name origins → origins ≢ []
       → AreProfileOrigins layers chain table name origins
 
--- What is written for a setting of the report has no effect where no profile of the chain has a report
--- written: where it comes from is told, or that it is built in. Else nothing is told.
+-- What is written for a setting of the report has no effect where no profile of the chain has a
+-- report written: origins are those of what is written, or built in. Else there are none.
 pub data AreIdleOrigins (layers : List Layer) (chain : List Name) (table : Option (List ℕ))
     (name : List ℕ) (origins : Vec Origin Global) : Type 0 where
   counted : ¬ HasNoReport (trees_of layers) chain table → origins.items ≡ []

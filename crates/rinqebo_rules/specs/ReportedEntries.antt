@@ -17,7 +17,7 @@ abbrev pub step_key : Step → Option (List ℕ)
 step_key (steps.Key key) = Some key.now
 step_key (steps.Position position) = None
 
--- the profile under which a region stands, if it stands under one
+-- the profile that has a region, if one has it
 abbrev pub profile_of : Region → Option (List ℕ)
 profile_of (of_profile nearer name) = Some name
 profile_of beside = None
@@ -35,15 +35,15 @@ pub record IsBesideProfiles (leaf : Leaf) (place found : FilePlace) : Type 0 whe
   pub place_is : found ≡ place
   pub region : profile_of leaf.region ≡ None
 
--- An origin tells what writes a leaf: the lowest layer is the table of defaults, and each other one
--- is a file.
+-- An origin is that of a leaf: the lowest layer is the table of defaults, and each other one is a
+-- file.
 abbrev pub IsOriginOf : Leaf → FilePlace → Origin → Type 0
 IsOriginOf leaf place origins.BuiltIn = ⊥
 IsOriginOf leaf place origins.DefaultTable = leaf.layer ≡ 0
 IsOriginOf leaf place (origins.Written written) = IsUnderProfile leaf place written
 IsOriginOf leaf place (origins.File found) = IsBesideProfiles leaf place found
 
--- An entry tells a leaf whose layer has it at a place: its key, its value, what writes it, and
+-- An entry shows a leaf whose layer has it at a place: its key, its value, what writes it, and
 -- whether it is hidden.
 pub record IsEntryOf (leaf : Leaf) (place : FilePlace) (entry : Entry) : Type 0 where
   pub key : string_bytes entry.key ≡ dotted leaf.path

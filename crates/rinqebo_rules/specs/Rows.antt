@@ -1,4 +1,4 @@
--- What is told of a test of a list.
+-- A test of a list, as a report lists it.
 use Rattle.std.specs.Prelude.{◌≡◌, Bool, List, string_bytes}
 use Rattle.std.specs.List.{AllZip}
 use Rattle.nextest_elements.specs.declared.run_mode.NextestRunMode.{NextestRunMode}
@@ -15,16 +15,16 @@ use Rattle.rinqebo_request.specs.declared.request.RequestedSettings.{RequestedSe
 use Rattle.rinqebo_report.specs.declared.report.SettingRow.{SettingRow}
 use Rattle.rinqebo_report.specs.declared.report.TestRows.{TestRows}
 
--- Settings of a test are told in their order, each with the value that the profile gives it, and with
--- where that comes from.
+-- A report lists settings of a test in their order, each with the value that the profile gives it,
+-- and with its origins.
 abbrev pub AreSettingsReported : {M : Type 0} → Basis → QueryContext M → NextestRunMode
     → EvaluatableModel M → List Setting → List SettingRow → Type 0
 AreSettingsReported basis query mode profile = AllZip
     (IsSettingReported basis (wrapping_id query profile) (setting_value query mode profile)
     (setting_origin query mode profile) mode)
 
--- A test is told: its binary, its name, whether it runs, whether a list says that it is ignored, and
--- the settings that rules decide, or that are asked for.
+-- A report lists a test: its binary, its name, whether it runs, whether a list says that it is
+-- ignored, and the settings that rules decide, or the requested ones.
 pub record IsTestReported {M : Type 0} (basis : Basis) (query : QueryContext M)
     (mode : NextestRunMode) (profile : EvaluatableModel M) (asked : RequestedSettings)
     (listed : ListTest) (told : TestRows) : Type 0
@@ -38,7 +38,7 @@ pub record IsTestReported {M : Type 0} (basis : Basis) (query : QueryContext M)
     pub settings_reported : AreSettingsReported basis query mode profile
         (reported_settings asked (setting_origin query mode profile)) told.settings.items
 
--- tests are told in their order, each as a profile gives it settings
+-- a report lists tests in their order, each as a profile gives it settings
 abbrev pub AreTestsReported : {M : Type 0} → Basis → (M → Test → M → Bool) → NextestRunMode
     → EvaluatableModel M → RequestedSettings → List ListTest → List TestRows → Type 0
 AreTestsReported basis matches mode profile asked = AllZip

@@ -33,7 +33,7 @@ abbrev pub answers_by : {M K P W : Type 0} → (K → P → Option Bool) → Bui
 answers_by meets platforms query rule =
     answers_on meets platforms query rule (rule_on meets platforms rule)
 
--- the test that is asked about, as rules are judged for it
+-- the test of a request, as rules are judged for it
 abbrev pub requested_query : Asking → QueryContext (Filterset FieldMatcher)
 requested_query asking =
     test_query filter_matches asking.default_filter.now (test_view asking.query.now)

@@ -1,4 +1,4 @@
--- Where rules stand.
+-- The places of rules.
 use Rattle.std.specs.Prelude.{ℕ, List, codes}
 use Rattle.nextest_rules.specs.Rules.{RuleId}
 use Rattle.nextest_sources.specs.Sources.{Source, source_view}
@@ -9,7 +9,7 @@ use Rattle.rinqebo_rules.specs.declared.rule_places.RuleKind.{RuleKind}
 use Rattle.rinqebo_rules.specs.declared.rule_places.RuleKind.TheVariants as kinds
 use Rattle.rinqebo_rules.specs.declared.rule_places.RulePlace.{RulePlace}
 
--- where a rule stands: its source, its profile, and which rule of it in that source it is
+-- the place of a rule: its source, its profile, and which rule of it in that source it is
 pub record Place : Type 0 where
   pub source : Source
   pub profile : Name
@@ -33,12 +33,12 @@ place_view p = record {
   part = part_of p.kind p.index;
 }
 
--- where the override of an id stands
+-- the place of the override of an id
 abbrev pub id_place : RuleId → Place
 id_place id =
     record { source = id.source; profile = id.profile; part = parts.Override id.index }
 
--- where the script rule of an id stands
+-- the place of the script rule of an id
 abbrev pub script_place : RuleId → Place
 script_place id =
     record { source = id.source; profile = id.profile; part = parts.Script id.index }

@@ -17,7 +17,7 @@ use Rattle.rinqebo_report.specs.declared.report.SettingRow.{SettingRow}
 abbrev pub is_selected : {M : Type 0} → QueryContext M → EvaluatableModel M → Bool
 is_selected query profile = query.matches profile.default_filter.filter
 
--- whether a test runs that the default filter matches, or does not: it runs where the filter matches
+-- whether a test runs, by whether the default filter matches it: it runs where the filter matches
 -- it, and no list says that it is ignored
 abbrev pub runs_if : Bool → Bool → Bool
 runs_if true ignored = not ignored
@@ -28,18 +28,18 @@ runs_if false ignored = false
 abbrev pub filtering_id : {M : Type 0} → EvaluatedRule M (OverrideUse M) → Option RuleId
 filtering_id rule = option_map (λ choice. rule.writes.id) (filter_of_override rule)
 
--- where the override stands whose default filter counts: the first one whose would. Where there is
+-- the place of the override whose default filter counts: the first one whose would. Where there is
 -- none, the default filter of the chain of profiles counts.
 abbrev pub filtering_place : {M : Type 0} → EvaluatableModel M → Option Place
 filtering_place profile = option_map id_place (first_of filtering_id profile.overrides)
 
--- whether pages show whether a test runs: where that is asked for, and beside the settings that rules
--- decide where it does not
+-- whether pages show whether a test runs: where a user requests that, and beside the settings that
+-- rules decide where it does not
 abbrev pub shows_runs : RequestedSettings → Bool → Bool
 shows_runs asks.Decided runs = not runs
 shows_runs (asks.These asked settings) runs = asked
 
--- A row tells whether a test runs, with where the default filter is written: in the override at a
+-- A row shows whether a test runs, with where the default filter is written: in the override at a
 -- place, or without one in the chain of profiles.
 pub record IsRunsRow (basis : Basis) (place : Option Place) (runs : Bool) (told : SettingRow)
     : Type 0 where
@@ -48,8 +48,8 @@ pub record IsRunsRow (basis : Basis) (place : Option Place) (runs : Bool) (told 
       ≡ Some (ReportedValue.scalar (ReportedScalar.boolean runs))
   pub origins_reported : AreOriginsAt basis place None (codes "default-filter") told.origins.items
 
--- It is told whether a test runs, which a list may say to be ignored: whether the default filter that
--- counts matches it, and it is not ignored, with where that filter is written.
+-- A report shows whether a test runs, which a list may say to be ignored: whether the default
+-- filter that counts matches it, and it is not ignored, with where that filter is written.
 abbrev pub IsRunReported : {M : Type 0} → Basis → QueryContext M → EvaluatableModel M → Bool
     → SettingRow → Type 0
 IsRunReported basis query profile ignored =

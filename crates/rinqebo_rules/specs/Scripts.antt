@@ -1,4 +1,4 @@
--- What is told of the scripts of a list.
+-- The scripts of a list, as a report lists them.
 use Rattle.std.specs.Prelude.{◌≡◌, ℕ, Bool, List, filter_map, map, Option, option_map, string_bytes}
 use Rattle.nextest_engines.specs.Engines.{Binary, Test}
 use Rattle.nextest_load.specs.Closed.{BinaryMatch}
@@ -26,13 +26,13 @@ wrapper_at matches profile binary =
     option_map (λ id. (binary.binary_id, id))
     (list_wrapper_of (binary_in matches profile binary) profile)
 
--- a list wrapper as it is told: the binary's id and the wrapper's
+-- a list wrapper, as a report shows it: the binary's id and the wrapper's
 abbrev pub wrapper_view : ListWrapper → List ℕ × Name
 wrapper_view wrapper = (string_bytes wrapper.binary, string_bytes wrapper.value)
 
--- Scripts are told as a profile gives them to tests and binaries: the setup scripts that the tests
--- enable, in the order in which they run, and the list wrapper of each binary that has one, in the
--- order of the binaries.
+-- A report lists scripts as a profile gives them to tests and binaries: the setup scripts that the
+-- tests enable, in the order in which they run, and the list wrapper of each binary that has one,
+-- in the order of the binaries.
 pub record AreScriptsReported {M : Type 0} (matches : M → Test → M → Bool)
     (matches_binary : BinaryMatch M) (profile : EvaluatableModel M) (tests : List Test)
     (binaries : List Binary) (told : ListScripts) : Type 0 where

@@ -1,4 +1,4 @@
--- Which settings are told of a test, and how.
+-- Which settings of a test a report lists, and how.
 use Rattle.std.specs.Prelude.{◌≡◌, List, filter, Bool, true, false, IfSome, Option, None, Some, option_map, string_bytes}
 use Rattle.nextest_elements.specs.declared.run_mode.NextestRunMode.{NextestRunMode}
 use Rattle.nextest_rules.specs.Rules.{RuleId}
@@ -22,14 +22,14 @@ is_by_rule (Some by_profile) = false
 is_by_rule (Some (by_override id)) = true
 is_by_rule (Some by_script) = true
 
--- the settings that are told: those that rules decide, or those that are asked for, in order
+-- the settings that a report lists: those that rules decide, or the requested ones, in order
 abbrev pub reported_settings : RequestedSettings → (Setting → Option Origin) → List Setting
 reported_settings asks.Decided origin = filter (λ s. is_by_rule (origin s)) settings
 reported_settings (asks.These runs asked) origin = asked.items
 
--- A setting is told: by its key in files, with its value, and with where that comes from, for the
--- script rule that wraps the run of the test. Durations are as a file writes them, where one file
--- alone writes the value.
+-- A report shows a setting: its key in files, its value, and its origins, for the script rule that
+-- wraps the run of the test. Durations are as a file writes them, where one file alone writes the
+-- value.
 pub record IsSettingReported (basis : Basis) (wrapping : Option RuleId)
     (value : (s : Setting) → Option (ValueOf s)) (origin : Setting → Option Origin)
     (mode : NextestRunMode) (s : Setting) (told : SettingRow) : Type 0 where

@@ -1,5 +1,5 @@
--- What files write at keys that are shown as they are written: the rules and the archive of a profile,
--- and beside the profiles features and the version of nextest.
+-- What files write at keys that are shown as they are written: the rules and the archive of a
+-- profile, and beside the profiles features and the version of nextest.
 use Rattle.std.specs.Prelude.{◌≡◌, ℕ, suc, List, [], ◌∷◌, ◌++◌, Bool, true, false, ◌&&◌, ◌==◌, Option, None, Some, option_map, option_and_then, map, filter, flat_map, slice_get, length, take, drop, codes, decimal, string_bytes, if◌then◌else◌}
 use Rattle.std.specs.List.{AllZip, join_by, list_any}
 use Rattle.std.specs.Str.{bytes_eq}
@@ -23,8 +23,8 @@ use Rattle.rinqebo_rules.specs.Origins.{PathStep, key, position, step_view}
 use Rattle.rinqebo_rules.specs.declared.spelled.SpelledLeaf.{SpelledLeaf}
 use Rattle.rinqebo_rules.specs.declared.spelled.Spot.{Spot as HeldSpot}
 
--- where something is written as it is shown: under a profile, or without one beside the profiles, at a
--- key, in the layer at a position
+-- where something is written as it is shown: under a profile, or without one beside the profiles,
+-- at a key, in the layer at a position
 pub record Spot : Type 0 where
   pub profile : Option Name
   pub key_is : List ℕ
@@ -92,20 +92,20 @@ abbrev mutual
   item_leaves spot steps at (node n ns) =
       leaves_in spot (steps ++ position at ∷ []) n ++ item_leaves spot steps (suc at) ns
 
--- what a profile has at a key in a tree, or without one what stands there beside the profiles
+-- what a profile has at a key in a tree, or without one what is there beside the profiles
 abbrev pub value_at : Option Name → List ℕ → Node → Option Node
 value_at None name tree = member_of name tree
 value_at (Some profile) name tree =
     option_and_then (member_of name)
     (option_and_then (member_of profile) (member_of (codes "profile") tree))
 
--- what stands at a place in the layers
+-- what is at a place in the layers
 abbrev pub spot_node : List Layer → Spot → Option Node
 spot_node layers spot =
     option_and_then (value_at spot.profile spot.key_is)
     (option_and_then layer_tree (slice_get layers spot.layer))
 
--- the leaves of what may stand at a place
+-- the leaves of what may be at a place
 abbrev pub leaves_of : Spot → Option Node → List Spelled
 leaves_of spot None = []
 leaves_of spot (Some n) = leaves_in spot (key spot.key_is ∷ []) n
@@ -137,7 +137,7 @@ abbrev pub is_under : List ℕ → List ℕ → Bool
 is_under text name =
     bytes_eq (take (length name) text) name && ends_or_dot (drop (length name) text)
 
--- whether a leaf is asked for by some keys, and its value can be told
+-- whether some keys select a leaf, and a report can show its value
 abbrev pub is_spelled_out : List (List ℕ) → Spelled → Bool
 is_spelled_out keys leaf =
     list_any (λ name. is_under (steps_text leaf.steps) name) keys && is_tellable leaf.value
@@ -159,7 +159,8 @@ abbrev pub base_steps : Option Name → List PathStep
 base_steps None = []
 base_steps (Some profile) = key (codes "profile") ∷ key profile ∷ []
 
--- An origin tells what is written at a place: under a profile in a part of it, or beside the profiles.
+-- An origin is that of what is written at a place: under a profile in a part of it, or beside the
+-- profiles.
 abbrev pub IsPlacedOrigin : Option Name → Part → FilePlace → Origin → Type 0
 IsPlacedOrigin profile part place (kinds.Written written) =
     (profile ≡ Some (string_bytes written.profile)) × (written.part ≡ part)
@@ -174,7 +175,7 @@ pub record IsPlaceOfLeaf (layers : List Layer) (leaf : Spelled) (place : FilePla
   pub spelled : map step_view path ≡ base_steps leaf.spot.profile ++ leaf.steps
   pub place_reported : IsPathPlace layers leaf.spot.layer path place
 
--- An origin tells where a leaf is written: under its profile, or beside the profiles.
+-- An origin is that of a leaf: under its profile, or beside the profiles.
 abbrev pub IsOriginOfLeaf : List Layer → Spelled → Origin → Type 0
 IsOriginOfLeaf layers leaf (kinds.Written written) =
     (leaf.spot.profile ≡ Some (string_bytes written.profile))
@@ -184,15 +185,15 @@ IsOriginOfLeaf layers leaf (kinds.File place) =
 IsOriginOfLeaf layers leaf kinds.BuiltIn = ⊥
 IsOriginOfLeaf layers leaf kinds.DefaultTable = leaf.spot.layer ≡ 0
 
--- An entry tells a leaf as it is written: its key, its value, and where it is. It hides none, and none
--- hides it.
+-- An entry shows a leaf as it is written: its key, its value, and where it is. It hides none, and
+-- none hides it.
 pub record IsEntryOfLeaf (layers : List Layer) (leaf : Spelled) (told : Entry) : Type 0 where
   pub key_told : string_bytes told.key ≡ steps_text leaf.steps
   pub value_told : IsValueOf leaf.value told.value
   pub origin_told : IsOriginOfLeaf layers leaf told.origin
   pub shown : told.is_hidden ≡ false
 
--- Entries tell what the files write for a chain under some keys, each leaf once and in order.
+-- Entries show what the files write for a chain under some keys, each leaf once and in order.
 abbrev pub AreSpelledOut : List Layer → List Name → List (List ℕ) → List Entry → Type 0
 AreSpelledOut layers chain keys told =
     AllZip (IsEntryOfLeaf layers) (filter (is_spelled_out keys) (all_leaves layers chain)) told

@@ -1,4 +1,4 @@
--- Where the settings of a test come from, as it is told.
+-- Where the settings of a test come from, as a report shows it.
 use Rattle.std.specs.Prelude.{◌≡◌, ℕ, List, [], ◌∷◌, Option, None, Some, option_map}
 use Rattle.std.specs.List.{AllZip}
 use Rattle.nextest_rules.specs.Rules.{RuleId}
@@ -29,14 +29,14 @@ wrapping_id query profile = option_map (λ r. r.writes.id) (wrapping_rule query 
 abbrev pub wrapping_at : {F S Src E T N P : Type 0} → TestSettings F S Src E T N P → Option RuleId
 wrapping_at settings = option_map (λ uses. uses.id) (wrapping_use_at settings)
 
--- where a script rule stands, if there is one
+-- the place of a script rule, if there is one
 abbrev pub wrapping_places : Option RuleId → List Place
 wrapping_places None = []
 wrapping_places (Some id) = script_place id ∷ []
 
--- Where a value at a key comes from is told, for what decides it: the chain of profiles, a rule by
--- the place of the key in it, or nothing that is written. The script rule that decides is the one
--- that wraps the run.
+-- Origins are those of a value at a key, by what decides it: the chain of profiles, a rule by the
+-- place of the key in it, or nothing that is written. The script rule that decides is the one that
+-- wraps the run.
 abbrev pub AreOriginsBy : Basis → Option RuleId → Option (List ℕ) → List ℕ → Option Decider
     → List Origin → Type 0
 AreOriginsBy basis wrapping table name None origins = origins ≡ []

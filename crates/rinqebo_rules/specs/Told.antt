@@ -59,7 +59,7 @@ value_view (values.Scalar s) = scalar (scalar_view s)
 value_view (values.Texts ts) = texts (map string_bytes ts.items)
 value_view (values.Table fs) = table (map field_view fs.items)
 
--- A count is told as a number, the greatest one of TOML where it is greater.
+-- A report shows a count as a number, the greatest one of TOML where it is greater.
 abbrev pub reported_count : ℕ → ReportedScalar
 reported_count n = integer (pos (min n (2 ^ 63 - 1)))
 
@@ -122,7 +122,7 @@ reported_threads (threads.Count n) = reported_count n
 reported_threads threads.NumCpus = text (threads_required_text threads.NumCpus)
 reported_threads threads.NumTestThreads = text (threads_required_text threads.NumTestThreads)
 
--- A value is told by its kind.
+-- A report shows a value by its kind.
 abbrev pub told : ValueByKind → ReportedValue
 told (kinds.priority value) = scalar (integer value.0)
 told (kinds.threads value) = scalar (reported_threads value)
@@ -138,6 +138,6 @@ told (kinds.is_stored value) = scalar (boolean value)
 told (kinds.skipped policy) = scalar (text (report_skip_policy_text policy))
 told (kinds.flaky_fail_status status) = scalar (text (junit_flaky_fail_status_text status))
 
--- the value of a setting, as it is told
+-- the value of a setting, as a report shows it
 abbrev pub reported_of : (s : Setting) → ValueOf s → ReportedValue
 reported_of s value = told (by_kind s value)

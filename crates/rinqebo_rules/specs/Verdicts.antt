@@ -33,7 +33,7 @@ facts_of query wants rule = record {
   writes = wants rule.writes;
 }
 
--- The rule at a place decides: it holds and writes what is asked for, and no earlier rule does.
+-- The rule at a place decides: it holds and writes the requested setting, and no earlier rule does.
 pub record IsDeciding {M W : Type 0} (query : QueryContext M) (wants : W → Bool)
     (rules : List (EvaluatedRule M W)) (n : ℕ) (rule : EvaluatedRule M W) : Type 0 where
   pub holds : decides query wants rule ≡ true

@@ -42,7 +42,7 @@ pub struct SettingRule<'c> {
     pub answers: Answers,
 }
 
-/// An override, with what it writes for a setting, held against a test.
+/// An override, with what it writes for a setting, and its verdict for a test.
 fn override_rule<'c>(
     rule: &Override<'c>,
     setting: Setting,
@@ -67,7 +67,7 @@ fn override_rule<'c>(
     }
 }
 
-/// Overrides, with what each writes for a setting, held against a test.
+/// Overrides, with what each writes for a setting, and their verdicts for a test.
 fn override_rules<'c>(
     alloc: Global,
     overrides: &[Override<'c>],
@@ -96,7 +96,7 @@ fn named_wrapper<'c>(rule: &ScriptRule<'c>) -> Option<SettingValue<'c>>
     }
 }
 
-/// A script rule, with the run wrapper that it names, held against a test.
+/// A script rule, with the run wrapper that it names, and its verdict for a test.
 fn script_rule<'c>(rule: &ScriptRule<'c>, asking: &Asking<'_, '_>) -> SettingRule<'c>
     ensures { setting_rule_view result ≡ judged_script_rule asking.now rule.now }
 {
@@ -116,7 +116,7 @@ fn script_rule<'c>(rule: &ScriptRule<'c>, asking: &Asking<'_, '_>) -> SettingRul
     }
 }
 
-/// Script rules, with the run wrapper that each names, held against a test.
+/// Script rules, with the run wrapper that each names, and their verdicts for a test.
 fn script_rules<'c>(
     alloc: Global,
     rules: &[ScriptRule<'c>],
@@ -139,8 +139,8 @@ fn is_of_scripts(setting: Setting) -> bool
     matches!(setting, Setting::RunWrapper)
 }
 
-/// Of the rules of a profile those that may write a setting, in order, held against a test: script
-/// rules name run wrappers, and overrides write all other settings.
+/// The rules of a profile that may write a setting, in order, with their verdicts for a test:
+/// script rules name run wrappers, and overrides write all other settings.
 pub fn rules_for<'c>(
     alloc: Global,
     rules: &Rules<'c>,

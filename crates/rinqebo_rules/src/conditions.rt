@@ -17,7 +17,7 @@ use rinqebo_report::ConditionAnswer;
 /// A filter that was read.
 pub type Filter = <NextestFilters as Filters>::Expr;
 
-/// What rules are held against: a test, on the platforms of a build, and the default filter.
+/// What verdicts are about: a test, on the platforms of a build, and the default filter.
 #[derive(Clone, Copy)]
 pub struct Asking<'a, 't> {
     /// The platforms of the build.
@@ -29,7 +29,7 @@ pub struct Asking<'a, 't> {
 }
 
 impl<'a> Asking<'a, '_> {
-    /// For what the binary of the test is built.
+    /// What the binary of the test is built for.
     pub(crate) fn platform(&self) -> BuildPlatform
         ensures { result ≡ (test_view self.now.query.now).binary.platform }
     {

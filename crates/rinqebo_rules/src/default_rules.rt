@@ -81,8 +81,9 @@ fn held_rules<'c>(
     Ok(found)
 }
 
-/// The overrides of a profile that have a default filter, in order, held against the platforms of a
-/// build: the first one whose platforms hold for binaries of the target decides whether tests run.
+/// The overrides of a profile that have a default filter, in order, with their verdicts on the
+/// platforms of a build: the first one whose platforms hold for binaries of the target decides
+/// whether tests run.
 pub fn filter_rules<'c>(
     alloc: Global,
     rules: &Rules<'c>,

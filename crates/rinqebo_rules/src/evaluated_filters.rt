@@ -1,4 +1,4 @@
-//! The filters that a profile evaluates on the platforms of a build, by what they ask about.
+//! The filters that a profile evaluates on the platforms of a build, by the fields that they use.
 ghost use Rattle.std.specs.Prelude.{◌≡◌, ◌++◌, IfOk, None, map, option_map};
 ghost use Rattle.std.specs.List.{flat_map};
 ghost use Rattle.filter_engine.specs.Compiling.{names_of};
@@ -93,7 +93,7 @@ pub struct PlacedFilter<'c> {
     pub filter: &'c Filter,
 }
 
-/// Whether a filter asks about one of some fields.
+/// Whether a filter uses one of some fields.
 fn asks_any(filter: &Filter, fields: &[Field]) -> bool
     ensures { result ≡ asks_any fields.now (marks_view names_of filter.now) }
 {
@@ -102,7 +102,7 @@ fn asks_any(filter: &Filter, fields: &[Field]) -> bool
         .any(|field| filter.asks::<NextestFilters>(*field))
 }
 
-/// Adds a filter, where there is one that asks about one of some fields.
+/// Adds a filter, if there is one that uses one of some fields.
 fn with_asking<'c>(
     found: Vec<PlacedFilter<'c>>,
     place: FilterPlace<'c>,
@@ -122,7 +122,7 @@ fn with_asking<'c>(
     Ok(found)
 }
 
-/// Adds the filter of an override, where it asks about one of some fields and is evaluated.
+/// Adds the filter of an override, if it uses one of some fields and is evaluated.
 fn with_override<'c>(
     found: Vec<PlacedFilter<'c>>,
     rule: &Override<'c>,
@@ -139,7 +139,7 @@ fn with_override<'c>(
     with_asking(found, place, rule.rule().filter(), fields)
 }
 
-/// Adds the filter of a script rule, where it asks about one of some fields and is evaluated.
+/// Adds the filter of a script rule, if it uses one of some fields and is evaluated.
 fn with_script_rule<'c>(
     found: Vec<PlacedFilter<'c>>,
     rule: &ScriptRule<'c>,
@@ -156,7 +156,7 @@ fn with_script_rule<'c>(
     with_asking(found, place, rule.rule().filter(), fields)
 }
 
-/// Adds the filters of overrides that ask about one of some fields and are evaluated.
+/// Adds the filters of overrides that use one of some fields and are evaluated.
 fn with_overrides<'c>(
     found: Vec<PlacedFilter<'c>>,
     rules: &[Override<'c>],
@@ -173,7 +173,7 @@ fn with_overrides<'c>(
     Ok(all)
 }
 
-/// Adds the filters of script rules that ask about one of some fields and are evaluated.
+/// Adds the filters of script rules that use one of some fields and are evaluated.
 fn with_script_rules<'c>(
     found: Vec<PlacedFilter<'c>>,
     rules: &[ScriptRule<'c>],
@@ -201,7 +201,7 @@ fn default_place<'c>(profile: &Profile<'c>) -> FilterPlace<'c>
     }
 }
 
-/// The filters of a profile that are evaluated on the platforms of a build and ask about one of some
+/// The filters of a profile that are evaluated on the platforms of a build and use one of some
 /// fields: the default filter that counts, and the filters of the rules whose platforms hold for
 /// binaries of the host or of the target, in order.
 pub fn filters_asking<'c>(

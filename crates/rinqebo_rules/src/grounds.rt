@@ -62,7 +62,8 @@ pub fn built_in(alloc: Global) -> Result<Vec<Origin>, AllocError>
     Ok(origins)
 }
 
-/// What a profile writes at a key in the layer at a position. The lowest layer is the default table.
+/// What a profile writes at a key in the layer at a position. The lowest layer is the default
+/// table.
 fn origin_at(
     alloc: Global,
     layers: &[Layer],
@@ -120,8 +121,8 @@ fn is_counted<'t>(
     has_report(alloc, trees, chain)
 }
 
-/// Where the value at a key comes from that a profile of a chain writes. A table without leaves comes
-/// from nowhere.
+/// Where the value at a key comes from that a profile of a chain writes. A table without leaves
+/// comes from nowhere.
 fn written_origins(
     alloc: Global,
     layers: &[Layer],
@@ -143,9 +144,9 @@ fn written_origins(
     origins_at(alloc, layers, &grounds.layers, *profile, key)
 }
 
-/// The origins of the value at a key that no rule sets: the layers that write the value of the nearest
-/// profile, or none where the default is built in. A key of rules alone is none of a profile, also where
-/// a file writes it there, and without a report nothing is stored in one.
+/// The origins of the value at a key that no rule sets: the layers that write the value of the
+/// nearest profile, or none where the default is built in. A key of rules alone is none of a
+/// profile, also where a file writes it there, and without a report nothing is stored in one.
 pub fn profile_grounds(
     alloc: Global,
     layers: &[Layer],
@@ -169,8 +170,8 @@ pub fn profile_grounds(
     }
 }
 
-/// The origins of what files write at a key of the JUnit report that has no effect, since no profile of
-/// the chain writes a report. There is none where a report is written.
+/// The origins of what files write at a key of the JUnit report that has no effect, since no
+/// profile of the chain writes a report. There is none where a report is written.
 pub fn idle_grounds(
     alloc: Global,
     layers: &[Layer],

@@ -25,7 +25,7 @@ use std::alloc::{AllocError, Global};
 pub struct Lister<'l, 'c, F: Filters, S: Specs> {
     /// The profile on the platforms of the build.
     pub profile: &'l EvaluatableProfile<'c, F, S>,
-    /// For what tests are run.
+    /// What tests are run for.
     pub mode: NextestRunMode,
     /// Which settings are listed.
     pub asked: &'l RequestedSettings,
@@ -40,7 +40,7 @@ pub struct ListedRows<'c> {
     pub unused: UnusedRules<'c>,
 }
 
-/// For what a binary is built, as it is reported.
+/// What a binary is built for, as a report shows it.
 pub fn reported_platform(platform: BuildPlatform) -> BuiltFor {
     match platform {
         BuildPlatform::Host => BuiltFor::Host,
@@ -80,8 +80,8 @@ impl<'l, 'c, F: Filters, S: Specs> Lister<'l, 'c, F, S> {
         })
     }
 
-    /// Returns the rows of tests, one test after another, and the rules of the profile that hold for
-    /// none of them. It reports progress after each test.
+    /// Returns the rows of tests, one test after another, and the rules of the profile that hold
+    /// for none of them. It reports progress after each test.
     pub fn list<P: Progress>(
         &self,
         alloc: Global,

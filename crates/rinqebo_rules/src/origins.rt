@@ -70,7 +70,7 @@ fn is_same_ground(rule: Option<RulePlace<'_>>, other: Option<RulePlace<'_>>) -> 
     }
 }
 
-/// Whether two tables are the same, or both keys stand in none.
+/// Whether two tables are the same, or both keys are in none.
 fn is_same_table(table: Option<&str>, other: Option<&str>) -> bool
     ensures { IsTrue result → option_map (λ table. table.now) table.entry
         ≡ option_map (λ table. table.now) other.entry }
@@ -230,8 +230,8 @@ impl<'l, 't, 'c> Origins<'l, 't, 'c> {
     ) -> Result<Vec<Origin>, AllocError>
         ensures same { self.new ≡ self.old }
         ensures told { IfOk result (λ origins. AreOriginsAt self.old
-            (option_map place_view rule.entry) (option_map (λ table. table.now) key.table) key.key.now
-            origins.items) }
+            (option_map place_view rule.entry) (option_map (λ table. table.now) key.table)
+            key.key.now origins.items) }
     {
         if let Some(origins) = known_of(&self.known, rule, key) {
             return all_copied(alloc, origins);

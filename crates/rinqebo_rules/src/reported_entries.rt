@@ -13,7 +13,7 @@ use nextest_places::Step;
 use rinqebo_report::{FilePlace, Origin, Part, Written};
 use std::alloc::{AllocError, Global};
 
-/// The path of the table in which a section stands.
+/// The path of the table that has a section.
 fn base_steps<'t>(alloc: Global, section: Section<'t>) -> Result<Vec<Step<'t>>, AllocError>
     ensures { IfOk result (λ steps. map step_key steps.items
         ≡ map Some (base_path (section_view section.entry))) }
@@ -38,7 +38,7 @@ pub fn steps_of<'t>(alloc: Global, entry: &LayerLeaf<'t>) -> Result<Vec<Step<'t>
     Ok(steps)
 }
 
-/// The name of the profile under which a leaf stands, if it stands under one.
+/// The name of the profile that has a leaf, if one has it.
 fn profile_name<'t>(entry: &LayerLeaf<'t>) -> Option<&'t str>
     ensures { option_map (λ name. name.now) result
         ≡ profile_of (section_view entry.now.section) }

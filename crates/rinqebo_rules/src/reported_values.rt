@@ -240,8 +240,8 @@ fn reported(alloc: Global, value: SettingValue<'_>) -> Result<Value, AllocError>
     }
 }
 
-/// A value that may be absent, as it is reported, with its durations as a node writes them, which is
-/// what one file alone has for the value.
+/// A value that may be absent, as a report shows it, with its durations as a node writes them,
+/// which is what one file alone has for the value.
 pub fn reported_if_set(
     alloc: Global,
     value: Option<SettingValue<'_>>,

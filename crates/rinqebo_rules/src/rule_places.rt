@@ -111,7 +111,7 @@ impl<'c> RulePlace<'c> {
         ]
     }
 
-    /// What stands at a path within the rule, as it is reported.
+    /// What is at a path within the rule, as a report shows it.
     fn origin_at(
         &self,
         alloc: Global,

@@ -1,5 +1,5 @@
-//! The leaves that files write at keys that are shown as they are written: the rules and the archive of a
-//! profile, and beside the profiles features and the version of nextest.
+//! The leaves that files write at keys that are shown as they are written: the rules and the
+//! archive of a profile, and beside the profiles features and the version of nextest.
 ghost use Rattle.std.specs.Prelude.{◌≡◌, [], ◌∷◌, ◌++◌, Some, IfOk, OnOk, flat_map, length, map, option_and_then, option_map, slice_get};
 ghost use Rattle.nextest_inheritance.specs.View.{borrowed_view};
 ghost use Rattle.nextest_tree.specs.View.{entries_view, nodes_view, tree_view};

@@ -1,4 +1,5 @@
-//! What files write under keys, as it is reported: rules, archives, features and versions of nextest.
+//! What files write under keys, as a report shows it: rules, archives, features and versions of
+//! nextest.
 ghost use Rattle.std.specs.Prelude.{◌≡◌, ◌++◌, false, true, IfOk, MatchOption, filter, map, option_map, string_bytes};
 ghost use Rattle.std.specs.List.{AllZip, list_any};
 ghost use Rattle.nextest_grounds.specs.Layers.{keys_view};
@@ -201,9 +202,9 @@ fn entries_of_leaves(
     Ok(entries)
 }
 
-/// What the files write under keys for a chain of profiles, as it is written: the overrides, the script
-/// rules and the archives of the profiles, and beside them the experimental features and the required
-/// version of nextest.
+/// What the files write under keys for a chain of profiles, as it is written: the overrides, the
+/// script rules and the archives of the profiles, and beside them the experimental features and the
+/// required version of nextest.
 pub fn spelled_entries(
     alloc: Global,
     layers: &[Layer],

@@ -39,7 +39,7 @@ impl RuleFacts {
         self.holds && self.writes
     }
 
-    /// What comes of the rule, where one before it decides or none.
+    /// The verdict of the rule, by whether one before it decides.
     fn verdict(self, is_decided: bool) -> RuleVerdict
         ensures { result ≡ verdict_by self.is_on self.holds self.writes is_decided }
     {

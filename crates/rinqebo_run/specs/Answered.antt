@@ -1,4 +1,4 @@
--- What a request is answered.
+-- The result of a request.
 use Rattle.std.specs.Prelude.{◌≡◌, ℕ, List, Option}
 use Rattle.std.specs.Io.KnownBytes.{Appends}
 use Rattle.nextest_grounds.specs.Layers.{keys_view}
@@ -29,10 +29,11 @@ pub record IsAboutTest (session : Session) (requested : RequestedTest) (Holds : 
   pub is_found : IsFoundFor session requested found
   pub holds : Holds found
 
--- A report and a status answer a question of a session.
+-- A report and a status are the result of a request in a session.
 abbrev pub AnswersQuestion : Question → Session → Report → ℕ → Type 0
 AnswersQuestion (questions.Explain profile test asked) session report status =
-    (status ≡ 0) × IsAboutTest session test (λ found. Explains session profile.now found asked report)
+    (status ≡ 0) × IsAboutTest session test
+    (λ found. Explains session profile.now found asked report)
 AnswersQuestion (questions.Why profile test setting) session report status =
     (status ≡ 0) × IsAboutTest session test
     (λ found. TellsReasons session profile.now found setting report)
@@ -46,9 +47,9 @@ AnswersQuestion (questions.ShowConfig profile keys with_hidden) session report s
 AnswersQuestion (questions.Check deny_warnings) session report status =
     IsCheckStatus session deny_warnings report status
 
--- A report and a status answer a request over the files that were read: the report is one of a
--- session of the request, and answers the question of it. Each filter that is evaluated for it was looked
--- up.
+-- A report and a status are the result of a request over the files that were read: the report is
+-- one of a session of the request, and the two are the result of the request in it. Each filter
+-- that the program evaluates for it was looked up.
 pub record IsAnswer (request : Request) (gathered : Gathered) (report : Report) (status : ℕ)
     : Type 0 where
   pub session : Session
@@ -57,8 +58,8 @@ pub record IsAnswer (request : Request) (gathered : Gathered) (report : Report) 
   pub answers : AnswersQuestion request.question session report status
   pub looked_up : AreLookedUp session request.question
 
--- A writer was given the page of an answer: known bytes grew by exactly the report, in the format
--- and the colours that are asked for.
+-- A writer received the page of a result: known bytes grew by exactly the report, in the format and
+-- on the paper of the request.
 pub record Tells (request : Request) (gathered : Gathered) (status : ℕ)
     (old new : Option (List ℕ)) : Type 0 where
   pub report : Report

@@ -1,4 +1,4 @@
--- What went out of a list whose end did not: its first tests.
+-- What the program wrote of a list that it did not write whole: its first tests.
 use Rattle.std.specs.Prelude.{◌≡◌, ◌++◌, ℕ, Bool, List, Option, flat_map, string_bytes, take}
 use Rattle.std.specs.Io.KnownBytes.{Appends}
 use Rattle.nextest_elements.specs.declared.run_mode.NextestRunMode.{NextestRunMode}
@@ -44,19 +44,20 @@ tests_text head paper tests =
     page_text paper.colour
     (flat_map (listed_runs paper.columns (string_bytes head.root) head.sources.items) tests)
 
--- The first tests of a list went out, each whole and told as a profile gives it settings: known bytes
--- grew by their lines on the page of a report, and by nothing else.
+-- The program wrote the first tests of a list, each whole and with the settings that a profile
+-- gives it: known bytes grew by their lines on the page of a report, and by nothing else.
 pub record AreFirstWritten {M : Type 0} (basis : Basis) (matches : M → Test → M → Bool)
     (mode : NextestRunMode) (profile : EvaluatableModel M) (asked : RequestedSettings)
-    (list : List ListTest) (head : Report) (paper : Paper) (old new : Option (List ℕ)) : Type 0 where
+    (list : List ListTest) (head : Report) (paper : Paper) (old new : Option (List ℕ))
+    : Type 0 where
   pub count : ℕ
   pub tests : List TestRows
   pub are_reported : AreTestsReported basis matches mode profile asked (take count list) tests
   pub page : Appends old new (tests_text head paper tests)
 
--- What is asked went out in a line, of which something says whether it is what is asked with a chain
--- of profiles, and then the first tests of a list, as the profile of a name gives them settings on
--- the platforms of a build.
+-- The program wrote a header, which is that of the request for the chain of a profile, and then the
+-- first tests of a list, with the settings that the profile of a name gives them on the platforms
+-- of a build.
 pub record AreFirstOf {M K P : Type 0} (meets : K → P → Option Bool) (matches : M → Test → M → Bool)
     (platforms : BuildPlatforms P) (configured : Configured M K) (name : Name)
     (mode : NextestRunMode) (IsAsked : List Name → Asked → Type 0) (asked : RequestedSettings)
@@ -76,7 +77,8 @@ pub record AreFirstOf {M K P : Type 0} (meets : K → P → Option Bool) (matche
   pub page : Appends old new
       (page_text paper.colour (list_head_runs paper.columns header) ++ tests_text head paper tests)
 
--- The page of a list was begun: what is asked and its first tests went out, by what the files mean.
+-- The program began the page of a list: it wrote the header and the first tests, by what the files
+-- mean.
 pub record BeginsList (session : Session) (profile : Name) (mode : NextestRunMode)
     (asked : RequestedSettings) (paper : Paper) (old new : Option (List ℕ)) : Type 0 where
   -- Every written rule holds of the files.
@@ -91,14 +93,14 @@ pub record BeginsList (session : Session) (profile : Name) (mode : NextestRunMod
       (configured_by session scripts) profile mode (IsRequestedOf session profile mode) asked
       session.layers.items (list_tests (list_view session.tests)) paper old new
 
--- the page that answers a question was begun: only a list goes out before its end is known
+-- the program began the page of a request: only a list is written before its end is known
 abbrev pub BeginsPage : Question → Session → Paper → Option (List ℕ) → Option (List ℕ) → Type 0
 BeginsPage (questions.List profile mode list asked) session paper old new =
     BeginsList session profile.now mode asked paper old new
 BeginsPage _ session paper old new = ⊥
 
--- The text of a list was begun over the files that were read: a writer was given the line of what is
--- asked and the lines of its first tests, each whole.
+-- The program began the text of a list over the files that were read: a writer received the header
+-- and the lines of the first tests, each whole.
 pub record IsBegun (request : Request) (gathered : Gathered) (old new : Option (List ℕ)) : Type 0
   where
     pub session : Session

@@ -1,4 +1,4 @@
--- What a check says of files.
+-- The exit status of a check, and what its report shows.
 use Rattle.std.specs.Prelude.{◌≡◌, ◌⊎◌, ℕ, Bool, true, false, ◌&&◌, ◌||◌, List, length, nat_lt, if◌then◌else◌}
 use Rattle.std.specs.List.{list_any}
 use Rattle.rinqebo_findings.specs.Told.{ShowsFaults}

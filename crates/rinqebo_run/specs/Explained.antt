@@ -1,4 +1,4 @@
--- What is told of the settings of a test.
+-- The settings of a test, as a report lists them.
 use Rattle.std.specs.Prelude.{Bool, List, Option}
 use Rattle.nextest_engines.specs.Engines.{Test}
 use Rattle.nextest_engines.specs.declared.queries.BuildPlatforms.{BuildPlatforms}
@@ -28,9 +28,9 @@ use Rattle.rinqebo_run.specs.Listed.{IsProfileOn}
 use Rattle.rinqebo_run.specs.Requested.{IsRequestedIn}
 use Rattle.rinqebo_run.specs.TellsReasons.{configured_by}
 
--- A test is told as the profile of a name gives it settings on the platforms of a build, and as a test
--- of a list is told: whether it runs, and the settings that are asked for, in order, each with its
--- value, and with where that comes from in the layers of the files and in the chain of the profile.
+-- A report lists a test as the profile of a name gives it settings on the platforms of a build, and
+-- as the report of a list lists it: whether it runs, and the requested settings, in order, each
+-- with its value, and with its origins in the layers of the files and in the chain of the profile.
 pub record IsTestOf {M K P : Type 0} (meets : K → P → Option Bool) (matches : M → Test → M → Bool)
     (platforms : BuildPlatforms P) (configured : Configured M K) (name : Name) (test : FoundTest)
     (rows : RequestedSettings) (layers : List Layer) (told : TestRows) : Type 0 where
@@ -47,7 +47,7 @@ abbrev pub IfExplained : Content → (TestRows → Type 0) → Type 0
 IfExplained (contents.Explain asked test) P = P test
 IfExplained _ P = ⊥
 
--- A report tells what a profile says of a test, by what the files mean.
+-- A report lists what a profile gives a test, by what the files mean.
 pub record Explains (session : Session) (profile : Name) (test : FoundTest)
     (rows : RequestedSettings) (report : Report) : Type 0 where
   -- Every written rule holds of the files.
@@ -57,11 +57,11 @@ pub record Explains (session : Session) (profile : Name) (test : FoundTest)
   pub are_scripts : AreScriptsOf (sources_in (files_view session.gathered.now)) scripts
   -- They have the profile.
   pub known : IsIn (names_in (configured_by session scripts).config.profiles) profile
-  -- The report tells whether the test runs, and the settings that are asked for, as the profile gives
+  -- The report says whether the test runs, and lists the requested settings, as the profile gives
   -- them to the test.
   pub told : IfExplained report.content (IsTestOf (readings session.engines.filters).meets
       (readings session.engines.filters).matches_test session.engines.platforms
       (configured_by session scripts) profile test rows session.layers.items)
-  -- It says what was asked for.
+  -- It says what the user requests.
   pub requested : IsRequestedIn session (parents_in (config_parents (config_meant session))) profile
       test.mode report.content

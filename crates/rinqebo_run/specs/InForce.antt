@@ -11,7 +11,7 @@ use Rattle.rinqebo_rules.specs.RulePlaces.{Place}
 abbrev pub is_default : Entry → Bool
 is_default entry = bytes_eq (string_bytes entry.key) (codes "default-filter")
 
--- whether the default filter is asked for: there are no keys, or one is its key
+-- whether keys select the default filter: there are no keys, or one is its key
 abbrev pub asks_for_default : List (List ℕ) → Bool
 asks_for_default keys =
     (length keys == 0) || list_any (λ name. bytes_eq name (codes "default-filter")) keys
@@ -25,28 +25,28 @@ hide entry = record {
   is_hidden = entry.is_hidden || is_default entry;
 }
 
--- entries whose default filters are overridden: these are hidden where hidden entries are told, and else
--- they are left out
+-- entries whose default filters are overridden: these are hidden where the report lists hidden
+-- entries, and else they are left out
 abbrev pub overridden : Bool → List Entry → List Entry
 overridden true entries = map hide entries
 overridden false entries = filter (λ entry. not (is_default entry)) entries
 
--- An entry tells the default filter of the override at a place.
+-- An entry is the default filter of the override at a place.
 pub record IsDefaultEntry (layers : List Layer) (place : Place) (entry : Entry) : Type 0 where
   pub key : string_bytes entry.key ≡ codes "default-filter"
   pub origin : IsOriginOf layers place (key_steps None (codes "default-filter")) entry.origin
   pub shown : entry.is_hidden ≡ false
 
--- Entries tell the default filter of the override at a place, and then others, whose default filters are
--- overridden.
+-- Entries are the default filter of the override at a place, and then others, whose default filters
+-- are overridden.
 pub record IsOverridden (layers : List Layer) (place : Place) (with_hidden : Bool)
     (counted told : List Entry) : Type 0 where
   pub entry : Entry
   pub is_entry : IsDefaultEntry layers place entry
   pub are : told ≡ entry ∷ overridden with_hidden counted
 
--- Entries tell the default filter that counts: that of the override at a place, if there is one and it is
--- asked for, and else that of the chain of profiles.
+-- Entries have the default filter that counts: that of the override at a place, if there is one and
+-- keys select it, and else that of the chain of profiles.
 abbrev pub IsInForce : List Layer → Option Place → List (List ℕ) → Bool → List Entry → List Entry
     → Type 0
 IsInForce layers None keys with_hidden counted told = told ≡ counted

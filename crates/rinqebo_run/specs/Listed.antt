@@ -1,4 +1,4 @@
--- What is told of the tests of a list, and of the rules that hold for none of them.
+-- The tests of a list and the rules that hold for none of them, as a report lists them.
 use Rattle.std.specs.Prelude.{◌≡◌, ◌++◌, [], Bool, List, map, Option}
 use Rattle.std.specs.List.{AllZip}
 use Rattle.nextest_elements.specs.declared.run_mode.NextestRunMode.{NextestRunMode}
@@ -44,23 +44,23 @@ pub record IsProfileOn {M K P : Type 0} (meets : K → P → Option Bool) (platf
   pub is_chain : IsChain (parents_in (config_parents configured.config)) name chain
   pub is_profile : profile ≡ profile_on meets platforms (profile_of configured name chain)
 
--- Where the rules of a profile stand that hold for none of the tests: the overrides in order, and
+-- The places of the rules of a profile that hold for none of the tests: the overrides in order, and
 -- then the script rules in order.
 abbrev pub unused_places : {M : Type 0} → List (QueryContext M) → EvaluatableModel M → List Place
 unused_places tests profile =
     map (λ rule. id_place rule.writes.id) (unused_among tests profile.overrides)
     ++ map (λ rule. script_place rule.writes.id) (unused_among tests profile.script_rules)
 
--- The origins are those of the rules of a profile that hold for none of the tests, and of no others,
--- in the order of the rules.
+-- The origins are those of the rules of a profile that hold for none of the tests, and of no
+-- others, in the order of the rules.
 abbrev pub AreUnused : {M : Type 0} → List Layer → List (QueryContext M) → EvaluatableModel M
     → List Origin → Type 0
 AreUnused layers tests profile unused =
     AllZip (λ place. IsOriginOf layers place []) (unused_places tests profile) unused
 
--- Tests are told as the profile of a name gives them settings on the platforms of a build, with where
--- these come from in the layers of the files and in the chain of the profile, of its rules those that
--- hold for none, and the scripts that it gives to the list.
+-- A report lists tests as the profile of a name gives them settings on the platforms of a build,
+-- with the origins of these in the layers of the files and in the chain of the profile, the rules
+-- of the profile that hold for none, and the scripts that it gives to the list.
 pub record AreTestsOf {M K P : Type 0} (meets : K → P → Option Bool) (matches : M → Test → M → Bool)
     (matches_binary : BinaryMatch M) (platforms : BuildPlatforms P) (configured : Configured M K)
     (name : Name) (mode : NextestRunMode) (asked : RequestedSettings) (layers : List Layer)
@@ -82,7 +82,7 @@ abbrev pub IfListed : Content → (List TestRows → List Origin → ListScripts
 IfListed (contents.List asked tests unused scripts) P = P tests.items unused.items scripts
 IfListed _ P = ⊥
 
--- A report tells the tests of a list in a profile, by what the files mean.
+-- A report lists the tests of a list in a profile, by what the files mean.
 pub record TellsTests (session : Session) (profile : Name) (mode : NextestRunMode)
     (asked : RequestedSettings) (report : Report) : Type 0 where
   -- Every written rule holds of the files.
@@ -92,15 +92,15 @@ pub record TellsTests (session : Session) (profile : Name) (mode : NextestRunMod
   pub are_scripts : AreScriptsOf (sources_in (files_view session.gathered.now)) scripts
   -- They have the profile.
   pub known : IsIn (names_in (configured_by session scripts).config.profiles) profile
-  -- The report tells each test of the list in order, with the values that the profile gives it and
-  -- with where these come from, the rules of the profile that hold for none, the setup scripts that
-  -- the tests enable, and what wraps the binaries of the list.
+  -- The report lists each test of the list in order, with the values that the profile gives it and
+  -- with their origins, the rules of the profile that hold for none, the setup scripts that the
+  -- tests enable, and what wraps the binaries of the list.
   pub told : IfListed report.content
       (AreTestsOf (readings session.engines.filters).meets
       (readings session.engines.filters).matches_test
       (readings session.engines.filters).matches_binary session.engines.platforms
       (configured_by session scripts) profile mode asked session.layers.items
       (list_view session.tests))
-  -- It says what was asked for.
+  -- It says what the user requests.
   pub requested : IsRequestedIn session (parents_in (config_parents (config_meant session))) profile
       mode report.content

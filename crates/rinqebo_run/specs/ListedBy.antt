@@ -1,4 +1,4 @@
--- What is told of a test, and of the tests of a list, by a configuration as it was read.
+-- A test, and the tests of a list, as a report lists them by a configuration that was read.
 use Rattle.std.specs.Prelude.{◌++◌, List, map, string_bytes}
 use Rattle.filter_language.specs.Filtersets.{marks_view}
 use Rattle.filter_language.specs.declared.filterset.Filterset.{Filterset}
@@ -35,12 +35,12 @@ read_by session loaded = record {
   scripts = loaded.scripts;
 }
 
--- where the rules of ids stand: the overrides in order, and then the script rules in order
+-- the places of the rules of ids: the overrides in order, and then the script rules in order
 abbrev pub places_of : UnusedRules → List Place
 places_of unused = map (λ id. id_place (id_view id.now)) unused.overrides.items
     ++ map (λ id. script_place (script_rule_id_view id.now)) unused.script_rules.items
 
--- tests, rules and scripts are told as the profile of a name gives them, by what was loaded
+-- a report lists tests, rules and scripts as the profile of a name gives them, by what was loaded
 abbrev pub listed_by : Session → Loaded (Filterset FieldMatcher) TargetSpec → Name
     → NextestRunMode → RequestedSettings → List TestRows → List Origin → ListScripts → Type 0
 listed_by session loaded profile mode asked =
@@ -50,7 +50,7 @@ listed_by session loaded profile mode asked =
     (configured_meaning (marks_view names_of) spec_view (read_by session loaded)) profile mode
     asked session.layers.items (list_view session.tests)
 
--- a test is told as the profile of a name gives it settings, by what was loaded
+-- a report lists a test as the profile of a name gives it settings, by what was loaded
 abbrev pub explained_by : Session → Loaded (Filterset FieldMatcher) TargetSpec → Name → FoundTest
     → RequestedSettings → TestRows → Type 0
 explained_by session loaded profile test asked =
@@ -59,6 +59,6 @@ explained_by session loaded profile test asked =
     (configured_meaning (marks_view names_of) spec_view (read_by session loaded)) profile test
     asked session.layers.items
 
--- what the origins of a session are looked up in, with the chain of a profile
+-- where the program looks up the origins of a session, with the chain of a profile
 abbrev pub basis_of : Session → List Name → Basis
 basis_of session chain = record { layers = session.layers.items; chain = chain }

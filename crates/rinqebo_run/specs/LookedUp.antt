@@ -1,5 +1,5 @@
--- Whether the filters that a run evaluates were looked up: whether the packages are known that they
--- ask for.
+-- Whether the program looked up the filters that a run evaluates: whether it knows the packages
+-- that they are about.
 use Rattle.std.specs.Prelude.{◌≡◌, [], ◌∷◌, true, List, map, None, codes, string_bytes}
 use Rattle.filter_engine.specs.Engine.{Filter}
 use Rattle.filter_language.specs.Asks.{asks}
@@ -38,32 +38,32 @@ pub record LeavesOpen (session : Session) (name : Name) (left : List (Site × Fi
 abbrev pub IsLookedUp : Session → Name → Type 0
 IsLookedUp session name = LeavesOpen session name []
 
--- A filter that is told is the first one that a profile evaluates and that was not looked up. It asks for
--- the set that is told.
+-- A filter in a failure is the first one that a profile evaluates and that was not looked up, and
+-- uses the set in the failure.
 pub record IsFirstOpen (session : Session) (name : Name) (told : OpenFilter) : Type 0 where
   pub first : Site × Filter
   pub others : List (Site × Filter)
   pub are_open : LeavesOpen session name (first ∷ others)
   pub set : asks told.set first.1 ≡ true
 
--- a failure tells that metadata are needed for a filter, and a set that it asks for
+-- a failure says that metadata are needed for a filter, and for a set that it uses
 abbrev pub IsFailureFor : Failure → Filter → Type 0
 IsFailureFor (failures.Engines (faults.NoMetadata told)) filter = asks told.set filter ≡ true
 IsFailureFor _ filter = ⊥
 
--- a fault tells that metadata are needed
+-- a fault says that metadata are needed
 abbrev pub NeedsMetadata : Session → Name → InputFault → Type 0
 NeedsMetadata session name (faults.NoMetadata told) = IsFirstOpen session name told
 NeedsMetadata session name fault = ⊥
 
--- A session answers nothing for which it evaluates the filters of a profile: metadata are needed only where
--- some filter that it evaluates was not looked up, or there is no answer about the profile.
+-- A session has no result for which it evaluates the filters of a profile: metadata are needed only
+-- where some filter that it evaluates was not looked up, or a result about the profile fails.
 abbrev pub IsFailureOn : Session → Name → Failure → Type 0
 IsFailureOn session name (failures.Engines fault) = NeedsMetadata session name fault
 IsFailureOn session name failure = IsFailureAbout session name failure
 
--- Each filter was looked up that is evaluated for a question. For `show-config` and `check` none is
--- evaluated.
+-- The program looked up each filter that it evaluates for a request. For `show-config` and `check`
+-- it evaluates none.
 abbrev pub AreLookedUp : Session → Question → Type 0
 AreLookedUp session (questions.Explain profile test asked) = IsLookedUp session profile.now
 AreLookedUp session (questions.Why profile test setting) = IsLookedUp session profile.now

@@ -1,4 +1,4 @@
--- What comes of the rules of a setting, and how it is told.
+-- The rules of a setting and the result of each, as a report lists them.
 use Rattle.std.specs.Prelude.{◌≡◌, Bool, List, [], ◌∷◌, map, Option, option_map, IfSome}
 use Rattle.std.specs.List.{AllZip, zip}
 use Rattle.nextest_engines.specs.declared.queries.BuildPlatforms.{BuildPlatforms}
@@ -22,7 +22,7 @@ use Rattle.rinqebo_rules.specs.declared.chain_rules.SettingRule.{SettingRule}
 use Rattle.rinqebo_rules.specs.declared.conditions.Answers.{Answers}
 use Rattle.rinqebo_rules.specs.declared.conditions.Asking.{Asking}
 
--- a verdict, as it is told
+-- a verdict, as a report shows it
 abbrev pub page_verdict : RuleVerdict → report.Verdict
 page_verdict verdicts.PlatformNo = told.PlatformNo
 page_verdict verdicts.FilterNo = told.FilterNo
@@ -30,8 +30,8 @@ page_verdict verdicts.SetsNothing = told.SetsNothing
 page_verdict verdicts.DecidedBefore = told.DecidedBefore
 page_verdict verdicts.Decides = told.Decides
 
--- A rule is reported: its verdict, its place in the layers, what its conditions say, and what it writes
--- for a setting.
+-- A report has a rule: its verdict, its place in the layers, what its conditions say, and what it
+-- writes for a setting.
 pub record IsRuleReported (layers : List Layer) (written : RuleValue) (answers : Answers)
     (verdict : RuleVerdict) (rule : Rule) : Type 0 where
   pub verdict_reported : rule.verdict ≡ page_verdict verdict
@@ -42,13 +42,13 @@ pub record IsRuleReported (layers : List Layer) (written : RuleValue) (answers :
   pub filter : rule.filter.answer ≡ answers.filter
   pub value : option_map value_view rule.value ≡ written.value
 
--- What a rule writes at some steps is reported with its durations as a file writes them, where one
--- file alone writes the value.
+-- A report has what a rule writes at some steps, with its durations as a file writes them, where
+-- one file alone writes the value.
 abbrev pub IsRuleAsWritten : List Layer → List PathStep → Rule → Type 0
 IsRuleAsWritten layers steps rule = IfSome rule.value
     (IsValueAsWritten (node_alone layers steps (rule.origin ∷ rule.others.items)))
 
--- Rules for a setting are told in their order, each with what comes of it.
+-- A report lists rules for a setting in their order, each with its result.
 abbrev pub AreRulesReported : {M K P : Type 0} → List Layer → (K → P → Option Bool)
     → BuildPlatforms P → QueryContext M → List (RuleFor M K) → List Rule → Type 0
 AreRulesReported {M} {K} layers meets platforms query rules told = AllZip
@@ -57,12 +57,12 @@ AreRulesReported {M} {K} layers meets platforms query rules told = AllZip
     (zip rules (verdicts_of query writes_it (map (rule_on meets platforms) rules)))
     told
 
--- rules for a setting are told, each with what comes of it for what is asked
+-- a report lists rules for a setting, each with its result for what the user requests
 abbrev pub AreRulesReportedHere : List Layer → Asking → List ReadRule → List Rule → Type 0
 AreRulesReportedHere layers asking rules told =
     AreRulesReported layers is_met_by asking.platforms.now (requested_query asking) rules told
 
--- rules as code holds them are reported with verdicts
+-- a report lists rules as code holds them, with verdicts
 abbrev pub AreReportedWith : List Layer → List SettingRule → List RuleVerdict → List Rule → Type 0
 AreReportedWith layers rules verdicts told = AllZip
     (λ (p : SettingRule × RuleVerdict).

@@ -1,4 +1,4 @@
--- Why a run answers nothing.
+-- Why a run has no result.
 use Rattle.std.specs.Prelude.{◌≡◌, ◌⊎◌, ℕ, List, Option}
 use Rattle.std.specs.Io.KnownBytes.{Appends}
 use Rattle.nextest_tables.specs.Written.{Name}
@@ -21,14 +21,14 @@ use Rattle.rinqebo_run.specs.LookedUp.{IsFailureOn}
 use Rattle.rinqebo_run.specs.Statuses.{failure_status}
 use Rattle.rinqebo_load.specs.declared.session.Session.{Session}
 
--- A session answers nothing about a profile and a test: it does not find the test, or it answers
--- nothing for which it evaluates the filters of the profile.
+-- A session has no result about a profile and a test: it does not find the test, or it has no
+-- result for which it evaluates the filters of the profile.
 abbrev pub IsFailureAboutTest : Session → Name → RequestedTest → Failure → Type 0
 IsFailureAboutTest session profile test failure =
     IsFailureToFind session test failure ⊎ IsFailureOn session profile failure
 
--- A session does not answer a question. A check answers refused files, and asks for no profile and
--- no test. For `show-config` and `check` no filter is evaluated.
+-- A session has no result for a request. A check reports refused files as its result, and names no
+-- profile and no test. For `show-config` and `check` the program evaluates no filter.
 abbrev pub IsFailureIn : Session → Question → Failure → Type 0
 IsFailureIn session (questions.Explain profile test asked) failure =
     IsFailureAboutTest session profile.now test failure
@@ -42,14 +42,14 @@ IsFailureIn session (questions.ShowConfig profile keys with_hidden) failure =
     IsFailureAbout session profile.now failure
 IsFailureIn session (questions.Check deny_warnings) failure = IsBeginningFailure failure
 
--- A session of a request does not answer it.
+-- A session of a request has no result for it.
 pub record FailsInSession (request : Request) (gathered : Gathered) (failure : Failure) : Type 0
   where
     pub session : Session
     pub begun : IsSessionOf request gathered session
     pub cause : IsFailureIn session request.question failure
 
--- A request is not answered: what all commands begin with fails, or a session does not answer it.
+-- A request has no result: what all commands begin with fails, or a session has no result for it.
 abbrev pub Fails : Request → Gathered → Failure → Type 0
 Fails request gathered failure =
     IsBeginningFailure failure ⊎ FailsInSession request gathered failure
@@ -60,7 +60,7 @@ pub record AreRefusedFor (request : Request) (gathered : Gathered) : Type 0 wher
   pub begun : IsSessionOf request gathered session
   pub broken : ¬ AreAccepted session
 
--- the files of a session lack the profile that a question names
+-- the files of a session lack the profile that a request names
 abbrev pub LacksProfileOf : Session → Question → Type 0
 LacksProfileOf session (questions.Explain profile test asked) = LacksProfile session profile.now
 LacksProfileOf session (questions.Why profile test setting) = LacksProfile session profile.now
@@ -76,7 +76,7 @@ pub record LackProfileFor (request : Request) (gathered : Gathered) : Type 0 whe
   pub begun : IsSessionOf request gathered session
   pub lacks : LacksProfileOf session request.question
 
--- a session lacks the test that a question names
+-- a session lacks the test that a request names
 abbrev pub LacksTestOf : Session → Question → Type 0
 LacksTestOf session (questions.Explain profile test asked) = LacksTest session test
 LacksTestOf session (questions.Why profile test setting) = LacksTest session test
@@ -91,14 +91,14 @@ pub record LackTestFor (request : Request) (gathered : Gathered) : Type 0 where
   pub begun : IsSessionOf request gathered session
   pub lacks : LacksTestOf session request.question
 
--- An exit status tells of files: 3 only where some written rule does not hold of them, and 4 only
--- where all do and the files lack the profile that is asked for, or where there is no test that is
--- asked for.
+-- What an exit status says of files: it is 3 only where some written rule does not hold of them,
+-- and 4 only where all do and the files lack the requested profile, or where there is no requested
+-- test.
 pub record IsReportedBy (request : Request) (gathered : Gathered) (status : ℕ) : Type 0 where
   pub refused : status ≡ 3 → AreRefusedFor request gathered
   pub lacking : status ≡ 4 → LackProfileFor request gathered ⊎ LackTestFor request gathered
 
--- a report says why a run answers nothing
+-- a report says why a run has no result
 abbrev pub IsReportOfFailure : Failure → Report → Type 0
 IsReportOfFailure (failures.Engines fault) report = ⊥
 IsReportOfFailure (failures.Refused told) report = report ≡ told
@@ -107,7 +107,7 @@ IsReportOfFailure (failures.NoTest told) report = report ≡ told
 IsReportOfFailure (failures.SeveralTests told) report = report ≡ told
 IsReportOfFailure failures.Memory report = ⊥
 
--- no report says why a run answers nothing
+-- no report says why a run has no result
 abbrev pub HasNoReport : Failure → Type 0
 HasNoReport (failures.Engines fault) = Unit {0}
 HasNoReport (failures.Refused told) = ⊥
@@ -116,8 +116,8 @@ HasNoReport (failures.NoTest told) = ⊥
 HasNoReport (failures.SeveralTests told) = ⊥
 HasNoReport failures.Memory = Unit {0}
 
--- A writer was given the document of a failure, where JSON is asked for: known bytes grew by exactly the
--- report of the failure, and the exit status is that of the failure.
+-- A writer received the document of a failure, where the request is for JSON: known bytes grew by
+-- exactly the report of the failure, and the exit status is that of the failure.
 pub record TellsFailure (failure : Failure) (request : Request) (status : ℕ)
     (old new : Option (List ℕ)) : Type 0 where
   pub is_json : request.format ≡ formats.Json
@@ -126,7 +126,7 @@ pub record TellsFailure (failure : Failure) (request : Request) (status : ℕ)
   pub reported : IsReportOfFailure failure report
   pub page : Appends old new (rendered report request.format request.paper)
 
--- A writer was given the document of why a request is not answered.
+-- A writer received the document of why a request has no result.
 pub record TellsRefusal (request : Request) (gathered : Gathered) (status : ℕ)
     (old new : Option (List ℕ)) : Type 0 where
   pub failure : Failure

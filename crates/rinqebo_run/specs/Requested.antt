@@ -1,4 +1,4 @@
--- What was asked for, as a report says it.
+-- What a user requests, as a report says it.
 use Rattle.std.specs.Prelude.{◌≡◌, Bool, false, true, List, map, option_map, string_bytes}
 use Rattle.nextest_elements.specs.declared.run_mode.NextestRunMode.{NextestRunMode}
 use Rattle.nextest_elements.specs.declared.run_mode.NextestRunMode.TheVariants as modes
@@ -14,18 +14,18 @@ use Rattle.rinqebo_report.specs.declared.report.Content.TheVariants as contents
 use Rattle.rinqebo_report.specs.declared.report.RunMode.{RunMode}
 use Rattle.rinqebo_report.specs.declared.report.RunMode.TheVariants as reported
 
--- for what tests are run, as a report says it
+-- what tests are run for, as a report says it
 abbrev pub mode_reported : NextestRunMode → RunMode
 mode_reported modes.Test = reported.Test
 mode_reported modes.Benchmark = reported.Benchmark
 
--- whether a triple is only assumed: nothing gives it
+-- whether the program assumes a triple, since nothing names one
 abbrev pub is_assumed : TripleSource → Bool
 is_assumed sources.Fallback = true
 is_assumed _ = false
 
--- A report says what was asked for: the profile, these profiles that count, for what tests are run,
--- and the triples of the session.
+-- A report says what the user requests: the profile, these profiles that count, what tests are run
+-- for, and the triples of the session.
 pub record IsRequestedOf (session : Session) (profile : Name) (mode : NextestRunMode)
     (chain : List Name) (asked : Asked) : Type 0 where
   pub profile_is : string_bytes asked.profile ≡ profile
@@ -36,7 +36,7 @@ pub record IsRequestedOf (session : Session) (profile : Name) (mode : NextestRun
   pub target_is : option_map string_bytes asked.target
       ≡ option_map string_bytes session.triples.target
 
--- a fact of what a report says that was asked for
+-- a fact of what a report says that the user requests
 abbrev pub IfRequested : Content → (Asked → Type 0) → Type 0
 IfRequested (contents.Explain asked test) P = P asked
 IfRequested (contents.Why asked test key rules is_ignored) P = P asked
@@ -44,8 +44,8 @@ IfRequested (contents.List asked tests unused scripts) P = P asked
 IfRequested (contents.ShowConfig asked entries) P = P asked
 IfRequested contents.Check P = ⊥
 
--- A report says what was asked for in a session, where these are the parents of all profiles: the
--- profiles that count are those of the chain of the profile, and then `default`.
+-- A report says what the user requests in a session, where these are the parents of all profiles:
+-- the profiles that count are those of the chain of the profile, and then `default`.
 pub record IsRequestedIn (session : Session) (parents : Parents) (profile : Name)
     (mode : NextestRunMode) (content : Content) : Type 0 where
   pub chain : List Name

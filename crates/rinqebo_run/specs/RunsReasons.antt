@@ -1,4 +1,5 @@
--- Why a test runs or not: what comes of the overrides that have a default filter, and how it is told.
+-- Why a test runs or not: the overrides that have a default filter, the result of each, and how a
+-- report lists them.
 use Rattle.std.specs.Prelude.{◌≡◌, ℕ, List, [], ◌∷◌, ◌++◌, Bool, true, false, not, map, None, Option, Some, option_map, codes, string_bytes}
 use Rattle.std.specs.List.{AllZip, list_any, zip}
 use Rattle.nextest_engines.specs.Engines.{Test}
@@ -40,13 +41,13 @@ use Rattle.rinqebo_run.specs.Reasons.{page_verdict}
 use Rattle.rinqebo_run.specs.Requested.{IsRequestedIn}
 use Rattle.rinqebo_run.specs.TellsReasons.{IsTestNamed, configured_by}
 
--- What a default filter is told to say of a test, by whether it is the one that counts and whether that
--- matches the test: only the one that counts is evaluated.
+-- What a report says of a default filter and a test, by whether the filter is the one that counts
+-- and whether that one matches the test: the program evaluates only the one that counts.
 abbrev pub default_answer : Bool → Bool → ConditionAnswer
 default_answer true matches = reported_answer (Some matches)
 default_answer false matches = says.Unrequested
 
--- Whether a test runs by a default filter, as it is told: of the one that counts alone.
+-- Whether a test runs by a default filter, as a report shows it: for the one that counts alone.
 abbrev pub default_value : Bool → Bool → Option ReportedValue
 default_value true matches = Some (ReportedValue.scalar (ReportedScalar.boolean matches))
 default_value false matches = None
@@ -63,7 +64,7 @@ is_decision verdicts.Decides = true
 abbrev pub filter_verdicts : List FilterRule → List RuleVerdict
 filter_verdicts rules = verdicts_by false (map (λ rule. rule.facts) rules)
 
--- An override that has a default filter is told: its verdict, its place in the layers, what its
+-- A report has an override with a default filter: its verdict, its place in the layers, what its
 -- platforms say, and whether the test runs by its default filter, if that is the one that counts.
 pub record IsFilterRuleReported (layers : List Layer) (matches : Bool) (found : FilterRule)
     (verdict : RuleVerdict) (rule : Rule) : Type 0 where
@@ -75,24 +76,24 @@ pub record IsFilterRuleReported (layers : List Layer) (matches : Bool) (found : 
   pub filter : rule.filter.answer ≡ default_answer (is_decision verdict) matches
   pub value : option_map value_view rule.value ≡ default_value (is_decision verdict) matches
 
--- overrides that have a default filter are told with verdicts
-abbrev pub AreFilterRulesReported : List Layer → Bool → List FilterRule → List RuleVerdict → List Rule
-    → Type 0
+-- a report lists overrides that have a default filter, with verdicts
+abbrev pub AreFilterRulesReported :
+    List Layer → Bool → List FilterRule → List RuleVerdict → List Rule → Type 0
 AreFilterRulesReported layers matches rules given told = AllZip
     (λ (p : FilterRule × RuleVerdict). IsFilterRuleReported layers matches p.0 p.1)
     (zip rules given) told
 
 -- the same of rules as code holds them
-abbrev pub AreHeldReported : List Layer → Bool → List SettingRule → List RuleVerdict → List Rule
-    → Type 0
+abbrev pub AreHeldReported :
+    List Layer → Bool → List SettingRule → List RuleVerdict → List Rule → Type 0
 AreHeldReported layers matches rules given told = AllZip
     (λ (p : SettingRule × RuleVerdict).
     IsFilterRuleReported layers matches (filter_rule_view p.0) p.1)
     (zip rules given) told
 
--- It is told why a test runs or not, by the overrides that have a default filter and whether the one
--- that counts matches the test: these overrides in order, with what comes of each, and then the
--- default filter of the chain of profiles, which counts where none of them decides.
+-- A report lists why a test runs or not, by the overrides that have a default filter and whether
+-- the one that counts matches the test: these overrides in order, with the result of each, and then
+-- the default filter of the chain of profiles, which counts where none of them decides.
 pub record AreRunsTold (layers : List Layer) (found : List FilterRule) (matches : Bool)
     (rules : List Rule) : Type 0 where
   pub before : List Rule
@@ -109,14 +110,14 @@ pub record AreRunsTold (layers : List Layer) (found : List FilterRule) (matches 
 abbrev pub is_selected_on : {M : Type 0} → (M → Test → M → Bool) → EvaluatableModel M → Test → Bool
 is_selected_on matches profile test = is_selected (query_in matches profile test) profile
 
--- It is told why a test runs or not in a profile, on the platforms of a build.
+-- A report lists why a test runs or not in a profile, on the platforms of a build.
 abbrev pub AreRunsReasons : {M K P : Type 0} → List Layer → (K → P → Option Bool)
     → (M → Test → M → Bool) → BuildPlatforms P → FoundTest → EarlyModel M K → List Rule → Type 0
 AreRunsReasons layers meets matches platforms test profile rules =
     AreRunsTold layers (filter_rules meets platforms profile.overrides)
     (is_selected_on matches (profile_on meets platforms profile) (found_view test).test) rules
 
--- It is told why a test runs or not in the profile of a name.
+-- A report lists why a test runs or not in the profile of a name.
 pub record AreRunsReasonsIn {M K P : Type 0} (layers : List Layer) (meets : K → P → Option Bool)
     (matches : M → Test → M → Bool) (platforms : BuildPlatforms P) (configured : Configured M K)
     (name : Name) (test : FoundTest) (rules : List Rule) : Type 0 where
@@ -124,14 +125,14 @@ pub record AreRunsReasonsIn {M K P : Type 0} (layers : List Layer) (meets : K �
   pub is_profile : IsProfileOf configured name profile
   pub reasons : AreRunsReasons layers meets matches platforms test profile rules
 
--- a fact of the test, the key and the rules that a report tells, and of whether it tells that the test
--- is ignored
+-- a fact of the test, the key and the rules of a report, and of whether it shows the test as
+-- ignored
 abbrev pub IfWhyRuns : Content → (TestId → List ℕ → List Rule → Bool → Type 0) → Type 0
 IfWhyRuns (contents.Why asked test key rules is_ignored) P =
     P test (string_bytes key) rules.items is_ignored
 IfWhyRuns _ P = ⊥
 
--- A report tells why a test runs or not in a profile, by what the files mean.
+-- A report lists why a test runs or not in a profile, by what the files mean.
 pub record TellsRunsReasons (session : Session) (profile : List ℕ) (test : FoundTest)
     (report : Report) : Type 0 where
   -- Every written rule holds of the files.
@@ -141,13 +142,13 @@ pub record TellsRunsReasons (session : Session) (profile : List ℕ) (test : Fou
   pub are_scripts : AreScriptsOf (sources_in (files_view session.gathered.now)) scripts
   -- They have the profile.
   pub known : IsIn (names_in (configured_by session scripts).config.profiles) profile
-  -- The report names the test, and tells what comes of each override that has a default filter, and
+  -- The report names the test, and shows the result of each override that has a default filter, and
   -- whether the test is ignored.
   pub told : IfWhyRuns report.content (λ named key rules ignored. IsTestNamed test named
       × (key ≡ codes "runs") × (ignored ≡ test.ignored)
       × AreRunsReasonsIn session.layers.items (readings session.engines.filters).meets
       (readings session.engines.filters).matches_test session.engines.platforms
       (configured_by session scripts) profile test rules)
-  -- It says what was asked for.
+  -- It says what the user requests.
   pub requested : IsRequestedIn session (parents_in (config_parents (config_meant session))) profile
       test.mode report.content

@@ -1,4 +1,4 @@
--- What is told of the leaves of a configuration.
+-- The leaves of a configuration, as a report lists them.
 use Rattle.std.specs.Prelude.{◌≡◌, ℕ, List, [], ◌∷◌, ◌++◌, Bool, filter, Option}
 use Rattle.std.specs.List.{AllZip}
 use Rattle.nextest_elements.specs.declared.run_mode.NextestRunMode.TheVariants as modes
@@ -35,27 +35,27 @@ use Rattle.rinqebo_run.specs.Listed.{IsProfileOn}
 use Rattle.rinqebo_run.specs.Requested.{IfRequested, IsRequestedOf}
 use Rattle.rinqebo_run.specs.TellsReasons.{configured_by}
 
--- An entry tells a leaf, at a place in the file of the leaf's layer.
+-- An entry shows a leaf, at a place in the file of the leaf's layer.
 pub record TellsLeaf (leaf : Leaf) (entry : Entry) : Type 0 where
   pub place : FilePlace
   pub source : place.source ≡ leaf.layer
   pub is_entry : IsEntryOf leaf place entry
 
--- entries tell leaves one by one: all those whose values are told
+-- entries show leaves one by one: all those whose values a report can show
 abbrev pub TellLeaves : List Leaf → List Entry → Type 0
 TellLeaves leaves entries =
     AllZip TellsLeaf (filter (λ leaf. is_tellable leaf.value) leaves) entries
 
--- Entries tell the leaves that are asked for in the layers of a chain of profiles.
+-- Entries show the requested leaves in the layers of a chain of profiles.
 pub record AreShown (layers : List Node) (chain keys : List (List ℕ)) (with_hidden : Bool)
     (entries : List Entry) : Type 0 where
   pub leaves : List Leaf
   pub are_leaves : AreEntries layers chain keys with_hidden leaves
   pub told : TellLeaves leaves entries
 
--- Entries tell what is asked for of a chain of profiles in the layers of files: the leaves that count,
--- with the default filter of the override at a place, if there is one, in the place of theirs, and then
--- what the files write at keys that are shown as they are written.
+-- Entries show what a user requests of a chain of profiles in the layers of files: the leaves that
+-- count, with the default filter of the override at a place, if there is one, in place of theirs,
+-- and then what the files write at keys that are shown as they are written.
 pub record AreShownOf (layers : List Layer) (place : Option Place) (chain keys : List (List ℕ))
     (with_hidden : Bool) (entries : List Entry) : Type 0 where
   pub counted : List Entry
@@ -81,9 +81,9 @@ abbrev pub shown_status : Content → ℕ
 shown_status (contents.ShowConfig asked entries) = entries_status entries.items
 shown_status _ = 0
 
--- What a report tells of a session is what is asked for of a profile below keys: the profiles that count
--- are those of its chain, and then `default`, and the default filter is that of the profile on the
--- platforms of the session.
+-- The content of a report of a session is what a user requests of a profile below keys: the
+-- profiles that count are those of its chain, and then `default`, and the default filter is that of
+-- the profile on the platforms of the session.
 pub record IsShownBy (session : Session) (configured : Configured Filter Spec) (profile : Name)
     (keys : List (List ℕ)) (with_hidden : Bool) (content : Content) : Type 0 where
   pub on : EvaluatableModel Filter
@@ -93,10 +93,10 @@ pub record IsShownBy (session : Session) (configured : Configured Filter Spec) (
   pub is_chain : IsChainAndDefault (parents_in (config_parents configured.config)) profile chain
   pub shown : IfShown content (AreShownOf session.layers.items (filtering_place on) chain keys
       with_hidden)
-  -- It says what was asked for.
+  -- It says what the user requests.
   pub requested : IfRequested content (IsRequestedOf session profile modes.Test chain)
 
--- A report shows what is asked for of a profile below keys, by what the files write.
+-- A report shows what a user requests of a profile below keys, by what the files write.
 pub record ShowsConfig (session : Session) (profile : Name) (keys : List (List ℕ))
     (with_hidden : Bool) (report : Report) (status : ℕ) : Type 0 where
   -- Every written rule holds of the files.
@@ -106,7 +106,7 @@ pub record ShowsConfig (session : Session) (profile : Name) (keys : List (List �
   pub are_scripts : AreScriptsOf (sources_in (files_view session.gathered.now)) scripts
   -- They have the profile.
   pub known : IsIn (names_in (config_meant session).profiles) profile
-  -- The report tells the leaves that are asked for, and the status whether there are any.
+  -- The report shows the requested leaves, and the status says whether there are any.
   pub shown : IsShownBy session (configured_by session scripts) profile keys with_hidden
       report.content
   pub status_is : status ≡ shown_status report.content

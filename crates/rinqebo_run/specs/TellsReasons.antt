@@ -1,4 +1,4 @@
--- That a report tells the rules of a setting, by what the files mean.
+-- The rules of a setting, as a report lists them, by what the files mean.
 use Rattle.std.specs.Prelude.{◌≡◌, ℕ, List, [], ◌∷◌, ◌++◌, All, Bool, Option, option_map, string_bytes}
 use Rattle.nextest_engines.specs.Engines.{Test}
 use Rattle.nextest_engines.specs.declared.queries.BuildPlatforms.{BuildPlatforms}
@@ -35,10 +35,9 @@ use Rattle.rinqebo_load.specs.declared.found_test.FoundTest.{FoundTest}
 use Rattle.rinqebo_load.specs.declared.session.Session.{Session}
 use Rattle.rinqebo_rules.specs.Told.{reported_of, value_view}
 
--- The rules of a setting are told for a test: each override of a profile, in order, or
--- for a run wrapper each script rule, with what comes of it on the platforms of a build, and then
--- what counts where none decides. Durations are as a file writes them, where one file alone writes
--- the value.
+-- A report lists the rules of a setting for a test: each override of a profile, in order, or for a
+-- run wrapper each script rule, with its result on the platforms of a build, and then what counts
+-- where none decides. Durations are as a file writes them, where one file alone writes the value.
 pub record AreReasons {M K P : Type 0} (layers : List Layer) (meets : K → P → Option Bool)
     (matches : M → Test → M → Bool) (platforms : BuildPlatforms P) (test : FoundTest) (s : Setting)
     (profile : EarlyModel M K) (rules : List Rule) : Type 0 where
@@ -54,7 +53,7 @@ pub record AreReasons {M K P : Type 0} (layers : List Layer) (meets : K → P �
   pub as_written : All (IsRuleAsWritten layers (key_steps (key_table s test.mode) (key_name s)))
       rules
 
--- The rules of a setting are told for a test in the profile of a name.
+-- A report lists the rules of a setting for a test in the profile of a name.
 pub record AreReasonsIn {M K P : Type 0} (layers : List Layer) (meets : K → P → Option Bool)
     (matches : M → Test → M → Bool) (platforms : BuildPlatforms P) (configured : Configured M K)
     (name : Name) (test : FoundTest) (s : Setting) (rules : List Rule) : Type 0 where
@@ -76,12 +75,12 @@ pub record IsTestNamed (test : FoundTest) (named : TestId) : Type 0 where
   pub binary : string_bytes named.binary ≡ string_bytes test.binary
   pub name : string_bytes named.name ≡ string_bytes test.name
 
--- a fact of the test, the key and the rules that a report tells
+-- a fact of the test, the key and the rules of a report
 abbrev pub IfWhy : Content → (TestId → List ℕ → List Rule → Type 0) → Type 0
 IfWhy (contents.Why asked test key rules is_ignored) P = P test (string_bytes key) rules.items
 IfWhy _ P = ⊥
 
--- A report tells the rules of a setting for a test in a profile, by what the files mean.
+-- A report lists the rules of a setting for a test in a profile, by what the files mean.
 pub record TellsReasons (session : Session) (profile : List ℕ) (test : FoundTest) (s : Setting)
     (report : Report) : Type 0 where
   -- Every written rule holds of the files.
@@ -91,13 +90,13 @@ pub record TellsReasons (session : Session) (profile : List ℕ) (test : FoundTe
   pub are_scripts : AreScriptsOf (sources_in (files_view session.gathered.now)) scripts
   -- They have the profile.
   pub known : IsIn (names_in (configured_by session scripts).config.profiles) profile
-  -- The report names the test and the key of the setting, and tells what comes of each rule of the
+  -- The report names the test and the key of the setting, and shows the result of each rule of the
   -- profile.
   pub told : IfWhy report.content (λ named key rules. IsTestNamed test named
       × (key ≡ key_text s test.mode)
       × AreReasonsIn session.layers.items (readings session.engines.filters).meets
       (readings session.engines.filters).matches_test session.engines.platforms
       (configured_by session scripts) profile test s rules)
-  -- It says what was asked for.
+  -- It says what the user requests.
   pub requested : IsRequestedIn session (parents_in (config_parents (config_meant session))) profile
       test.mode report.content

@@ -1,4 +1,4 @@
--- Lists that are written as their tests are asked.
+-- Lists that the program writes as it resolves their tests.
 use Rattle.std.specs.Prelude.{◌≡◌, ◌⊎◌, ◌++◌, [], ◌∷◌, ℕ, List, Option, string_bytes}
 use Rattle.std.specs.Io.KnownBytes.{Appends}
 use Rattle.filter_language.specs.Filtersets.{marks_view}
@@ -41,13 +41,13 @@ use Rattle.rinqebo_run.specs.declared.list_fault.ListFault.TheVariants as faults
 use Rattle.rinqebo_run.specs.declared.list_page.RequestedList.{RequestedList}
 use Rattle.rinqebo_load.specs.declared.session.Session.{Session}
 
--- a question asks for a list
+-- a request is for a list
 abbrev pub AsksList : Question → RequestedList → Type 0
 AsksList (questions.List profile mode list settings) asked =
     (asked.profile.now ≡ profile.now) × (asked.mode ≡ mode) × (asked.settings.now ≡ settings)
 AsksList _ asked = ⊥
 
--- One more test is told, and these are its lines on the page of a report.
+-- A report has one more test, and these are its lines on the page.
 pub record AddsTest {M : Type 0} (basis : Basis) (query : QueryContext M) (mode : NextestRunMode)
     (profile : EvaluatableModel M) (asked : RequestedSettings) (test : ListTest) (head : Report)
     (paper : Paper) (old new : List TestRows) (lines : List ℕ) : Type 0 where
@@ -57,7 +57,7 @@ pub record AddsTest {M : Type 0} (basis : Basis) (query : QueryContext M) (mode 
   pub shown : lines ≡ page_text paper.colour
       (listed_runs paper.columns (string_bytes head.root) head.sources.items rows)
 
--- what is asked and the first tests of a list went out by a configuration that was loaded
+-- the program wrote the header and the first tests of a list by a configuration that was loaded
 abbrev pub AreFirstBy : Session → Loaded (Filterset FieldMatcher) TargetSpec → Name
     → NextestRunMode → RequestedSettings → Paper → Option (List ℕ) → Option (List ℕ) → Type 0
 AreFirstBy session loaded profile mode asked =
@@ -67,7 +67,8 @@ AreFirstBy session loaded profile mode asked =
     (IsRequestedOf session profile mode) asked session.layers.items
     (list_tests (list_view session.tests))
 
--- The page of a list went out whole. Each filter that is evaluated for it was looked up.
+-- The program wrote the page of a list whole. It looked up each filter that it evaluates for the
+-- list.
 pub record WritesList (session : Session) (profile : Name) (mode : NextestRunMode)
     (asked : RequestedSettings) (paper : Paper) (old new : Option (List ℕ)) : Type 0 where
   pub report : Report
@@ -76,15 +77,15 @@ pub record WritesList (session : Session) (profile : Name) (mode : NextestRunMod
   pub looked_up : IsLookedUp session profile
   pub page : Appends old new (rendered report formats.Text paper)
 
--- A list was not written whole: a run refuses for a reason, and nothing went out; or memory ran out,
--- and the first tests went out, or nothing; or a write failed.
+-- The program did not write a list whole: a run refuses for a reason, and wrote nothing; or memory
+-- ran out, and it wrote the first tests, or nothing; or a write failed.
 abbrev pub StopsList : (Failure → Type 0) → Type 0 → Option (List ℕ) → Option (List ℕ)
     → ListFault → Type 0
 StopsList refuses begun old new (faults.Refused failure) = refuses failure × (new ≡ old)
 StopsList refuses begun old new faults.Memory = begun ⊎ (new ≡ old)
 StopsList refuses begun old new faults.Write = Unit {0}
 
--- the exit status of a run whose list was not written whole
+-- the exit status of a run that did not write its list whole
 abbrev pub IsStopStatus : ListFault → ℕ → Type 0
 IsStopStatus (faults.Refused failure) n = (n ≡ failure_status failure) ⊎ (n ≡ 5) ⊎ (n ≡ 6)
 IsStopStatus faults.Memory n = (n ≡ 5) ⊎ (n ≡ 6)

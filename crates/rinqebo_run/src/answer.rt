@@ -1,7 +1,7 @@
-//! What a run answers.
+//! The result of a run.
 use rinqebo_report::Report;
 
-/// What a run answers.
+/// The result of a run.
 #[derive(Drop)]
 pub struct Answer {
     /// What goes to standard output.

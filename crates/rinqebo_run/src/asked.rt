@@ -1,4 +1,4 @@
-//! What was requested, as it is reported.
+//! What a user requests, as a report shows it.
 ghost use Rattle.std.specs.Prelude.{◌≡◌, IfOk, map, option_map, string_bytes};
 ghost use Rattle.nextest_inheritance.specs.View.{borrowed_view};
 ghost use Rattle.rinqebo_run.specs.Requested.{IsRequestedOf, is_assumed, mode_reported};
@@ -30,7 +30,7 @@ fn copied(alloc: Global, triple: &Option<String>) -> Result<Option<String>, Allo
     }
 }
 
-/// For what tests are run, as it is reported.
+/// What tests are run for, as a report shows it.
 fn reported_mode(mode: NextestRunMode) -> RunMode
     ensures { result ≡ mode_reported mode }
 {
@@ -40,14 +40,14 @@ fn reported_mode(mode: NextestRunMode) -> RunMode
     }
 }
 
-/// Whether a triple is only assumed: nothing gives it.
+/// Whether the program assumes a triple, since nothing names one.
 fn is_assumed(source: TripleSource) -> bool
     ensures { result ≡ is_assumed source }
 {
     matches!(source, TripleSource::Fallback)
 }
 
-/// What was requested.
+/// What a user requests.
 pub fn requested_of(
     alloc: Global,
     session: &Session<'_>,

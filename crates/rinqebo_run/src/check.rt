@@ -1,4 +1,4 @@
-//! The answer of a check: what is wrong with files.
+//! The result of a check: what is wrong with files.
 ghost use Rattle.std.specs.Prelude.{◌≡◌, IfOk, IfErr};
 ghost use Rattle.nextest_sources.specs.Endings.{IsMemory};
 ghost use Rattle.rinqebo_findings.specs.Reports.{IsReportOf};
@@ -50,7 +50,7 @@ fn accepted_findings(
     Ok(findings)
 }
 
-/// The answer of a check whose load accepts, and returns a configuration.
+/// The result of a check whose load accepts, and returns a configuration.
 fn accepted(
     alloc: Global,
     session: &Session<'_>,
@@ -72,7 +72,7 @@ fn accepted(
     })
 }
 
-/// The answer of a check whose load refuses.
+/// The result of a check whose load refuses.
 fn refused(
     alloc: Global,
     session: &Session<'_>,
@@ -96,7 +96,7 @@ fn refused(
     })
 }
 
-/// The answer of a check.
+/// The result of a check.
 fn checked(alloc: Global, session: &Session<'_>, deny_warnings: bool) -> Result<Answer, AllocError>
     ensures status { IfOk result (λ answer.
         IsCheckStatus session.now deny_warnings answer.report answer.status) }

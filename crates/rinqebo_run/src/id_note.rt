@@ -1,4 +1,5 @@
-//! The note of `explain` about filters that ask for what only the id of a binary says.
+//! The note of `explain` about filters that use what the program reads from the id of a binary
+//! alone.
 ghost use Rattle.nextest_tables.specs.FileTexts.{names_in, IsIn};
 
 use crate::list::profile_on;
@@ -8,10 +9,10 @@ use rinqebo_load::{Config, FoundTest, Session, TestSource, chain_of_profile};
 use rinqebo_rules::filters_asking;
 use std::alloc::{AllocError, Global};
 
-/// What filters ask of a binary that a list or metadata say, and its id need not.
+/// What a list or metadata say of a binary, and its id may not.
 const FIELDS: [Field; 3] = [Field::Kind, Field::BinaryName, Field::Package];
 
-/// Where the filters are written which a profile evaluates and which ask for the kind, the name or the
+/// The places of the filters that a profile evaluates and that use the kind, the name or the
 /// package of a binary, with commas between them.
 fn asking_places(
     alloc: Global,
@@ -34,8 +35,8 @@ fn asking_places(
     Ok(places)
 }
 
-/// The note on a test of whose binary only the id is known: which filters ask for more. There is none
-/// where no filter does, or where a list or metadata say more.
+/// The note on a test of whose binary only the id is known: it lists the filters that use more.
+/// There is none where no filter does, or where a list or metadata have the binary.
 pub fn id_note(
     alloc: Global,
     session: &Session<'_>,

@@ -17,7 +17,7 @@ const REPORT_SETTINGS: [Setting; 4] = [
     Setting::JunitFlakyFailStatus,
 ];
 
-/// What a report was asked for, if it was asked for a profile.
+/// What a user requests, if a report is about a profile.
 fn asked_in(content: &Content) -> Option<&Asked> {
     match content {
         Content::Explain { asked, .. }
@@ -33,7 +33,7 @@ fn is_built_in(row: &SettingRow, key: &str) -> bool {
     row.key.as_str() == key && matches!(row.origins.first(), Some(Origin::BuiltIn))
 }
 
-/// Whether a report shows what the profiles write at a key: of a list it does not.
+/// Whether a report shows what the profiles write at a key. The report of a list does not.
 fn shows(content: &Content, key: &str) -> bool {
     match content {
         Content::Explain { test, .. } => test.settings.iter().any(|row| is_built_in(row, key)),
@@ -87,8 +87,8 @@ fn add_idle(
     Ok(())
 }
 
-/// The findings of a report about a profile: those of the warnings of the load, and of the settings of
-/// the JUnit report that it shows and that have no effect.
+/// The findings of a report about a profile: those for the warnings of the load, and for settings
+/// of the JUnit report that the report shows and that have no effect.
 pub fn findings_on(
     alloc: Global,
     session: &Session<'_>,

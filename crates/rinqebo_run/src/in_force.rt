@@ -1,4 +1,4 @@
-//! The default filter that counts, in the place of those that it overrides: that of an override whose
+//! The default filter that counts, in place of those that it overrides: that of an override whose
 //! platforms hold.
 ghost use Rattle.std.specs.Prelude.{◌≡◌, ◌==◌, ◌||◌, IfOk, codes, filter, length, map, not, option_map};
 ghost use Rattle.std.specs.List.{list_any};
@@ -61,7 +61,7 @@ fn hidden(alloc: Global, entries: Vec<Entry>) -> Result<Vec<Entry>, AllocError>
     Ok(told)
 }
 
-/// Those of some entries that are no default filters.
+/// The entries that are not default filters.
 fn without_default(alloc: Global, entries: Vec<Entry>) -> Result<Vec<Entry>, AllocError>
     ensures { IfOk result (λ told. told.items
         ≡ filter (λ entry. not (is_default entry)) entries.items) }
@@ -106,8 +106,8 @@ fn default_entry(alloc: Global, layers: &[Layer], place: RulePlace<'_>) -> Resul
     })
 }
 
-/// Entries of a chain of profiles below keys, with the default filter that counts: where it is that of
-/// the override at a place, it is before them, and theirs are overridden.
+/// Entries of a chain of profiles below keys, with the default filter that counts: where it is that
+/// of the override at a place, it is before them, and theirs are overridden.
 pub fn with_default_in_force(
     alloc: Global,
     layers: &[Layer],

@@ -86,7 +86,7 @@ fn listed_rows<'c, P: Progress>(
     asking.list(alloc, &tests, &mut tally, &mut origins, progress)
 }
 
-/// What is told of the tests and of the binaries of a session, by a configuration.
+/// The tests and the binaries of a session, by a configuration, as a report lists them.
 fn listed<'c, P: Progress>(
     alloc: Global,
     session: &'c Session<'_>,
@@ -114,8 +114,8 @@ fn listed<'c, P: Progress>(
     })
 }
 
-/// The settings of each test of a list in a profile, the rules that hold for none, and the scripts of
-/// the list.
+/// The settings of each test of a list in a profile, the rules that hold for none, and the scripts
+/// of the list.
 pub fn list<P: Progress>(
     alloc: Global,
     session: &Session<'_>,

@@ -1,13 +1,13 @@
-//! Why the text of a list was not written whole.
+//! Why the program did not write the text of a list whole.
 use rinqebo_load::Failure;
 use std::alloc::AllocError;
 
-/// Why the text of a list was not written whole.
+/// Why the program did not write the text of a list whole.
 #[derive(Drop)]
 pub enum ListFault {
-    /// A run returns nothing. Nothing was written.
+    /// A run returns no result. Nothing was written.
     Refused(Failure),
-    /// Want of memory. What was written ends with a whole test.
+    /// Memory ran out. What was written ends with a whole test.
     Memory,
     /// A write failed.
     Write,

@@ -25,7 +25,7 @@ fn places_of<'c>(alloc: Global, unused: &UnusedRules<'c>) -> Result<Vec<RulePlac
     Ok(places)
 }
 
-/// Where rules stand, as it is reported.
+/// The places of rules, as a report shows them.
 fn origins_of_rules(
     alloc: Global,
     layers: &[Layer],
@@ -42,7 +42,7 @@ fn origins_of_rules(
     Ok(origins)
 }
 
-/// The places of the rules that hold for no test, as they are reported: those of the overrides in
+/// The places of the rules that hold for no test, as a report shows them: those of the overrides in
 /// order, and then those of the script rules in order.
 pub fn unused_origins(
     alloc: Global,

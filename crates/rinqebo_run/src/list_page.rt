@@ -1,4 +1,4 @@
-//! The page of a list, which is written test after test, as they are resolved.
+//! The page of a list. The program writes it test after test, as it resolves them.
 ghost use Rattle.std.specs.Prelude.{◌≡◌, [], IfErr, IfOk, OnErr, OnOk, map, string_bytes};
 ghost use Rattle.std.specs.Io.KnownBytes.{Appends};
 ghost use Rattle.std.specs.List.{AllZip};
@@ -46,7 +46,7 @@ use rinqebo_rules::{ListedRows, Lister, Origins, Progress, UnusedRules, unused_r
 use std::alloc::{AllocError, Global};
 use std::io::Write;
 
-/// How the tests of a list are asked.
+/// Resolves the tests of a list.
 type TestLister<'l, 'c> = Lister<'l, 'c, NextestFilters, TargetSpecs>;
 
 /// The request of a list.
@@ -54,7 +54,7 @@ type TestLister<'l, 'c> = Lister<'l, 'c, NextestFilters, TargetSpecs>;
 pub struct RequestedList<'q> {
     /// The name of the profile.
     pub profile: &'q str,
-    /// For what the tests are run.
+    /// What the tests are run for.
     pub mode: NextestRunMode,
     /// Which settings are reported.
     pub settings: &'q RequestedSettings,
@@ -64,12 +64,12 @@ pub struct RequestedList<'q> {
 #[derive(Clone, Copy)]
 pub struct ListPage<'c, 'g> {
     pub session: &'c Session<'g>,
-    /// What was loaded in the session.
+    /// The configuration that the session loaded.
     pub config: &'c Config,
     pub list: RequestedList<'c>,
-    /// The report of which it is the page, but for what that answers.
+    /// The report that the page shows, without its content.
     pub head: &'c Report,
-    /// What it is written on.
+    /// What the page is written on.
     pub paper: Paper,
 }
 
@@ -84,7 +84,7 @@ pub fn write_text<W: Write>(text: &str, out: &mut W) -> Result<(), ListFault>
     }
 }
 
-/// Writes a text after which nothing follows.
+/// Writes the last text of a page.
 pub fn write_last<W: Write>(text: &str, out: &mut W) -> Result<(), ListFault>
     ensures ok { OnOk result (Appends (W.contents out.old) (W.contents out.new) text.now) }
     ensures err { IfErr result (λ fault. fault ≡ faults.Write) }
@@ -97,7 +97,7 @@ pub fn write_last<W: Write>(text: &str, out: &mut W) -> Result<(), ListFault>
 }
 
 impl<'c> ListPage<'c, '_> {
-    /// Asks a test, keeps what is told of it behind that of other tests, and answers its lines.
+    /// Resolves a test, adds its rows to those of other tests, and returns its lines.
     fn take_test(
         &self,
         alloc: Global,
@@ -199,7 +199,7 @@ impl<'c> ListPage<'c, '_> {
         self.write_tests(alloc, &asking, &tests, &mut origins, progress, out)
     }
 
-    /// Writes what is asked, in a line.
+    /// Writes the header: what the user requests.
     fn write_head<O: Write>(
         &self,
         alloc: Global,
@@ -216,8 +216,8 @@ impl<'c> ListPage<'c, '_> {
         Ok(())
     }
 
-    /// Writes what stands behind the tests: how many there are, and the rules that hold for none,
-    /// whose origins it answers.
+    /// Writes the lines behind the tests: how many there are, and the rules that hold for none.
+    /// Returns the origins of these rules.
     fn write_end<O: Write>(
         &self,
         alloc: Global,

@@ -1,4 +1,4 @@
-//! Writes a list as a text, which goes out as its tests are resolved.
+//! Writes a list as a text, test after test, as the program resolves them.
 ghost use Rattle.std.specs.Prelude.{◌≡◌, ◌⊎◌, IfErr, IfOk, OnOk};
 ghost use Rattle.rinqebo_run.specs.Answered.{Tells};
 ghost use Rattle.rinqebo_run.specs.Refused.{Fails};
@@ -22,7 +22,8 @@ use rinqebo_request::Request;
 use std::alloc::Global;
 use std::io::Write;
 
-/// Tells warnings, and answers the report that has them as findings, without what it answers.
+/// Writes warnings to standard error, and returns the report that has them as findings, without its
+/// content.
 fn begin<E: Write>(
     alloc: Global,
     session: &Session<'_>,
@@ -40,8 +41,8 @@ fn begin<E: Write>(
     Ok(head)
 }
 
-/// Writes a list that is asked of a session. Standard error is told of warnings, and then, where it is
-/// shown, how far the list is.
+/// Writes a list of a session. Warnings go to standard error, and then, where it is shown, how far
+/// the list is.
 fn write_in<O: Write, E: Write>(
     alloc: Global,
     session: &Session<'_>,
@@ -77,7 +78,7 @@ fn write_in<O: Write, E: Write>(
     }
 }
 
-/// Writes the list that a request asks for, as a text, over the files that it names.
+/// Writes the list of a request over the files that it names, as a text.
 pub fn write_list<O: Write, E: Write>(
     alloc: Global,
     request: &Request<'_>,

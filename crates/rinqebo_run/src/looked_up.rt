@@ -1,5 +1,5 @@
 //! Whether the filters that a run evaluates were looked up. Without metadata those with `deps()` or
-//! `rdeps()` are not, and a run that evaluates one is refused.
+//! `rdeps()` are not, and the program refuses a run that evaluates one.
 ghost use Rattle.std.specs.Prelude.{◌≡◌, [], ◌∷◌, IfErr, IfOk, List, MatchOption, OnOk, true};
 ghost use Rattle.filter_engine.specs.Compiling.{names_of};
 ghost use Rattle.filter_engine.specs.Open.{asks_for_packages};
@@ -39,7 +39,7 @@ pub fn place_text(
     Ok(text)
 }
 
-/// The first kind of set of packages that a filter asks for.
+/// The first kind of set of packages that a filter uses.
 fn set_of(filter: &Filter) -> Field
     requires { asks_for_packages (marks_view names_of filter.now) ≡ true }
     ensures { asks result (marks_view names_of filter.now) ≡ true }
@@ -51,7 +51,8 @@ fn set_of(filter: &Filter) -> Field
     }
 }
 
-/// Why a run answers nothing that evaluates a filter which was not looked up, the first of a profile.
+/// Why a run that evaluates a filter which was not looked up, the first of a profile, has no
+/// result.
 fn failure_of(
     alloc: Global,
     session: &Session<'_>,
@@ -81,7 +82,7 @@ fn first_of<'c>(found: &[PlacedFilter<'c>]) -> Option<PlacedFilter<'c>>
     }
 }
 
-/// Refuses to evaluate the filters of a profile where some were not looked up.
+/// Refuses to evaluate the filters of a profile where one was not looked up.
 fn require_looked_up(
     alloc: Global,
     session: &Session<'_>,
@@ -102,8 +103,9 @@ fn require_looked_up(
     }
 }
 
-/// The configuration of a session, which has a profile of a name. Each filter was looked up that the
-/// profile evaluates on the platforms of the build. Warnings are reported as they are met.
+/// The configuration of a session, which has a profile of a name. The program looked up each filter
+/// that the profile evaluates on the platforms of the build. Warnings are reported as the load
+/// meets them.
 pub fn config_looked_up(
     alloc: Global,
     session: &Session<'_>,

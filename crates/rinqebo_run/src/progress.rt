@@ -1,17 +1,17 @@
-//! A line on a terminal that says how far a list is.
+//! A line on a terminal that shows how far a list is.
 use rinqebo_rules::Progress;
 use std::io::Write;
 
-/// After how many tests the line is written anew.
+/// After how many tests the line is written again.
 const STEP: usize = 1000;
 
-/// A line that is written again and again in its place, where it is shown. It is no part of an answer,
-/// so a write that fails is no fault.
+/// A line that is written again and again in its place, where it is shown. It is not part of the
+/// output, so a failed write is not an error.
 #[derive(Drop)]
 pub struct ProgressLine<'w, W: Write> {
     out: &'w mut W,
     is_shown: bool,
-    /// Whether it was written, and stands on the terminal.
+    /// Whether it is on the terminal.
     stands: bool,
 }
 
@@ -25,7 +25,7 @@ impl<'w, W: Write> ProgressLine<'w, W> {
         }
     }
 
-    /// Takes the line away, if it is shown.
+    /// Erases the line, if it is on the terminal.
     pub fn clear(&mut self) {
         if self.stands {
             let _ = self.out.write_all(b"\r\x1b[K");

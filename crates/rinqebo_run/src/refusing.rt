@@ -1,4 +1,4 @@
-//! Writes why a run returns nothing, and returns the exit status.
+//! Writes why a run has no result, and returns the exit status.
 ghost use Rattle.std.specs.Prelude.{◌≡◌, ◌⊎◌, MatchOption};
 ghost use Rattle.std.specs.Io.KnownBytes.{Appends};
 ghost use Rattle.rinqebo_report.specs.Rendered.{rendered};
@@ -6,15 +6,15 @@ ghost use Rattle.rinqebo_report.specs.declared.format.Format.TheVariants as form
 ghost use Rattle.rinqebo_run.specs.Refused.{HasNoReport, IsReportOfFailure, TellsFailure};
 ghost use Rattle.rinqebo_run.specs.Statuses.{failure_status};
 
+use crate::printing::{print_text, refuse_for_memory, refuse_message, refuse_with};
 use crate::status::Status;
-use crate::telling::{refuse_for_memory, refuse_message, refuse_with, tell};
 use rinqebo_load::Failure;
 use rinqebo_report::{Format, Report, render, render_findings};
 use rinqebo_request::Request;
 use std::alloc::{AllocError, Global};
 use std::io::Write;
 
-/// The findings that say that a profile is missing, and which variable names it, if one does.
+/// The message that a profile is missing, with the variable that names it, if one does.
 fn profile_message(
     alloc: Global,
     report: &Report,
@@ -28,7 +28,7 @@ fn profile_message(
     Ok(message)
 }
 
-/// Writes why a run returns nothing to standard error, and returns the exit status.
+/// Writes to standard error why a run has no result, and returns the exit status.
 pub fn refuse<E: Write>(alloc: Global, failure: &Failure, request: &Request<'_>, err: &mut E) -> u8
     ensures { (result ≡ failure_status failure.now) ⊎ (result ≡ 5) ⊎ (result ≡ 6) }
 {
@@ -38,23 +38,41 @@ pub fn refuse<E: Write>(alloc: Global, failure: &Failure, request: &Request<'_>,
             refuse_message(message, Status::Usage as u8, err)
         }
         Failure::Refused(report) => {
-            refuse_with(alloc, report, request.paper.colour, Status::Refused as u8, err)
+            refuse_with(
+                alloc,
+                report,
+                request.paper.colour,
+                Status::Refused as u8,
+                err,
+            )
         }
         Failure::NoProfile(report) => {
             let message = profile_message(alloc, report, request);
             refuse_message(message, Status::Missing as u8, err)
         }
         Failure::NoTest(report) => {
-            refuse_with(alloc, report, request.paper.colour, Status::Missing as u8, err)
+            refuse_with(
+                alloc,
+                report,
+                request.paper.colour,
+                Status::Missing as u8,
+                err,
+            )
         }
         Failure::SeveralTests(report) => {
-            refuse_with(alloc, report, request.paper.colour, Status::Usage as u8, err)
+            refuse_with(
+                alloc,
+                report,
+                request.paper.colour,
+                Status::Usage as u8,
+                err,
+            )
         }
         Failure::Memory => refuse_for_memory(err),
     }
 }
 
-/// The report of why a run answers nothing, if there is one.
+/// The report of why a run has no result, if there is one.
 fn report_in(failure: &Failure) -> Option<&Report>
     ensures { MatchOption result (HasNoReport failure.now)
         (λ report. IsReportOfFailure failure.now report.now) }
@@ -69,7 +87,7 @@ fn report_in(failure: &Failure) -> Option<&Report>
     }
 }
 
-/// The exit status of a run that answers nothing.
+/// The exit status of a run that has no result.
 fn status_of_failure(failure: &Failure) -> u8
     ensures { result ≡ failure_status failure.now }
 {
@@ -82,7 +100,7 @@ fn status_of_failure(failure: &Failure) -> u8
     }
 }
 
-/// Writes the report of why a run answers nothing to standard output, and returns a status.
+/// Writes to standard output the report of why a run has no result, and returns a status.
 fn refuse_page<O: Write, E: Write>(
     alloc: Global,
     report: &Report,
@@ -98,13 +116,13 @@ fn refuse_page<O: Write, E: Write>(
         (rendered report.now request.now.format request.now.paper) }
 {
     match render(alloc, report, request.format, request.paper) {
-        Ok(text) => tell(text.as_str(), status, out),
+        Ok(text) => print_text(text.as_str(), status, out),
         Err(_) => refuse_for_memory(err),
     }
 }
 
-/// Writes why a run answers nothing where JSON is asked for, and returns the exit status. What is wrong
-/// with the files, and that a profile or a test is missing, goes to standard output as a document.
+/// Writes why a run for JSON has no result, and returns the exit status. What is wrong with the
+/// files, and that a profile or a test is missing, goes to standard output as a document.
 fn refuse_json<O: Write, E: Write>(
     alloc: Global,
     failure: &Failure,
@@ -128,7 +146,7 @@ fn refuse_json<O: Write, E: Write>(
     }
 }
 
-/// Writes why a run returns nothing, and returns the exit status: as a document of JSON to standard
+/// Writes why a run has no result, and returns the exit status: as a document of JSON to standard
 /// output where the request is for JSON, and else as a message to standard error.
 pub fn refuse_in<O: Write, E: Write>(
     alloc: Global,

@@ -25,12 +25,12 @@ use crate::list::list;
 use crate::list_fault::ListFault;
 use crate::list_page::RequestedList;
 use crate::list_text::write_list;
+use crate::printing::{print_text, refuse_for_memory, refuse_message};
 use crate::progress::ProgressLine;
 use crate::read_files::add_read_files;
 use crate::refusing::{refuse, refuse_in};
 use crate::show::show;
 use crate::status::Status;
-use crate::telling::{refuse_for_memory, refuse_message, tell};
 use crate::unset::add_unset;
 use crate::why::why;
 use crate::why_runs::why_runs;
@@ -45,7 +45,7 @@ use rinqebo_rules::Progress;
 use std::alloc::{AllocError, Global};
 use std::io::Write;
 
-/// The answer that is a report, where a run succeeds.
+/// The result for a report, where a run succeeds.
 fn answered(report: Result<Report, Failure>) -> Result<Answer, Failure>
     ensures status { IfOk result (λ answer. answer.status ≡ 0) }
     ensures report { result_map_both (λ answer. answer.report) (λ failure. failure) result
@@ -61,8 +61,8 @@ fn answered(report: Result<Report, Failure>) -> Result<Answer, Failure>
     }
 }
 
-/// The result of a request over the files that it names: a report with an exit status, or why
-/// there is none. Nothing is written. `progress` receives how far a list is.
+/// The result of a request over the files that it names: a report with an exit status, or why there
+/// is none. Nothing is written. `progress` receives how far a list is.
 pub fn answer_of<P: Progress>(
     alloc: Global,
     request: &Request<'_>,
@@ -77,7 +77,7 @@ pub fn answer_of<P: Progress>(
     answer_in(alloc, request, &session, progress)
 }
 
-/// Whether the test that a request names runs, and its settings. Its metadata were read at a path.
+/// Whether the test that a request names runs, and its settings. `path` is that of the metadata.
 fn explain_test(
     alloc: Global,
     session: &Session<'_>,
@@ -96,7 +96,7 @@ fn explain_test(
     explain(alloc, session, profile, &found, asked)
 }
 
-/// The rules of a setting of the test that a request names. Its metadata were read at a path.
+/// The rules of a setting of the test that a request names. `path` is that of the metadata.
 fn why_of_test(
     alloc: Global,
     session: &Session<'_>,
@@ -115,7 +115,7 @@ fn why_of_test(
     why(alloc, session, profile, &found, setting)
 }
 
-/// Why the test that a request names runs or not. Its metadata were read at a path.
+/// Why the test that a request names runs or not. `path` is that of the metadata.
 fn why_runs_of(
     alloc: Global,
     session: &Session<'_>,
@@ -133,7 +133,7 @@ fn why_runs_of(
     why_runs(alloc, session, profile, &found)
 }
 
-/// What a request is answered in a session.
+/// The result of a request in a session.
 fn answer_in<P: Progress>(
     alloc: Global,
     request: &Request<'_>,
@@ -174,7 +174,7 @@ fn answer_in<P: Progress>(
     }
 }
 
-/// What standard error is told beside a page: its findings, where the page does not have them.
+/// The findings of a report, for standard error, where its page does not have them.
 fn notes_of(
     alloc: Global,
     report: &Report,
@@ -187,7 +187,7 @@ fn notes_of(
     }
 }
 
-/// Adds the note of an answer. The forms for other programs have none.
+/// Adds the note of a result. The formats for other programs have none.
 fn add_note(request: &Request<'_>, answer: &Answer, notes: &mut String) -> Result<(), AllocError> {
     match &answer.note {
         Some(note) if matches!(request.format, Format::Text) => notes.push_str(note.as_str()),
@@ -195,7 +195,7 @@ fn add_note(request: &Request<'_>, answer: &Answer, notes: &mut String) -> Resul
     }
 }
 
-/// The notes on an answer, for standard error.
+/// The notes on a result, for standard error.
 fn notes_on(
     alloc: Global,
     request: &Request<'_>,
@@ -209,8 +209,8 @@ fn notes_on(
     Ok(notes)
 }
 
-/// Writes an answer: its notes, and then the report.
-fn tell_answer<O: Write, E: Write>(
+/// Writes a result: its notes, and then the report.
+fn print_answer<O: Write, E: Write>(
     alloc: Global,
     request: &Request<'_>,
     gathered: &Gathered,
@@ -231,14 +231,14 @@ fn tell_answer<O: Write, E: Write>(
     let Ok(text) = render(alloc, report, request.format, request.paper) else {
         return refuse_for_memory(err);
     };
-    let told = tell(notes.as_str(), Status::Success as u8, err);
+    let told = print_text(notes.as_str(), Status::Success as u8, err);
     if told != Status::Success as u8 {
         return told;
     }
-    tell(text.as_str(), answer.status, out)
+    print_text(text.as_str(), answer.status, out)
 }
 
-/// Answers a request with a page that is known whole before it goes out, and answers the exit status.
+/// Runs a request whose page is known whole before it is written, and returns the exit status.
 fn answer_whole<O: Write, E: Write>(
     alloc: Global,
     request: &Request<'_>,
@@ -261,12 +261,12 @@ fn answer_whole<O: Write, E: Write>(
     let answer = answer_of(alloc, request, gathered, &mut progress);
     progress.clear();
     match answer {
-        Ok(answer) => tell_answer(alloc, request, gathered, &answer, out, err),
+        Ok(answer) => print_answer(alloc, request, gathered, &answer, out, err),
         Err(failure) => refuse_in(alloc, &failure, request, out, err),
     }
 }
 
-/// What is asked of a list, where a request asks for one as a text.
+/// The list of a request, where the request is for one as a text.
 fn text_list<'r>(request: &'r Request<'_>) -> Option<RequestedList<'r>>
     ensures question { IfSome result (AsksList request.now.question) }
     ensures format { IfSome result (λ _. request.now.format ≡ formats.Text) }
@@ -290,8 +290,8 @@ fn text_list<'r>(request: &'r Request<'_>) -> Option<RequestedList<'r>>
     }
 }
 
-/// Tells why a list was not written whole, and answers the exit status. Of a write that failed nothing
-/// is told.
+/// Writes why a list was not written whole, and returns the exit status. For a failed write it
+/// writes nothing.
 fn refuse_list<E: Write>(alloc: Global, fault: &ListFault, request: &Request<'_>, err: &mut E) -> u8
     ensures { IsStopStatus fault.now result }
 {
@@ -302,7 +302,7 @@ fn refuse_list<E: Write>(alloc: Global, fault: &ListFault, request: &Request<'_>
     }
 }
 
-/// Answers a list as a text, which goes out as its tests are asked, and answers the exit status.
+/// Writes a list as a text, test after test, as it resolves them, and returns the exit status.
 fn answer_list<O: Write, E: Write>(
     alloc: Global,
     request: &Request<'_>,
@@ -328,14 +328,16 @@ fn answer_list<O: Write, E: Write>(
 }
 
 /// Runs a request over the files that it names, and returns the exit status: 0, or 1 for warnings
-/// that are denied and where no leaf is found, 2 for platforms and metadata that are not understood
-/// and for several tests of the name, 3 where the files are refused, 4 where there is no such profile
-/// or test, 5 for want of memory, 6 where a write fails. Nothing goes to standard output where a run
-/// refuses, but for the findings of a check, and where the output is JSON for a document of why the
-/// files are refused, a profile or a test is missing, or several tests have the name.
-/// The text of a list goes out as its tests are resolved: where memory runs out meanwhile, it has
-/// the first tests, each whole. Where a request says so, standard error shows how far a list is, on
-/// a line of its own that is gone in the end.
+/// that the user denies and where no leaf is found, 2 for platforms and metadata that are not
+/// understood and for several tests of the name, 3 where the files are refused, 4 where there is no
+/// such profile or test, 5 for want of memory, 6 where a write fails. Standard output receives
+/// nothing where a run refuses, but for the findings of a check, and where the output is JSON for a
+/// document of why the files are refused, a profile or a test is missing, or several tests have the
+/// name.
+///
+/// The program writes the text of a list as it resolves the tests: where memory runs out meanwhile,
+/// the text has the first tests, each whole. Where a request says so, standard error shows how far
+/// the list is, on a line of its own that the program erases in the end.
 pub fn perform<O: Write, E: Write>(
     alloc: Global,
     request: &Request<'_>,
@@ -361,7 +363,7 @@ pub fn perform<O: Write, E: Write>(
     }
 }
 
-/// Writes the JSON schema of a file, and returns the exit status. Nothing is read for it.
+/// Writes the JSON schema of a file, and returns the exit status. It reads no file.
 pub fn print_schema<O: Write, E: Write>(alloc: Global, out: &mut O, err: &mut E) -> u8
     ensures status { (result ≡ 0) ⊎ (result ≡ 5) ⊎ (result ≡ 6) }
     ensures page { result ≡ 0 → Appends (O.contents out.old) (O.contents out.new)
@@ -369,7 +371,7 @@ pub fn print_schema<O: Write, E: Write>(alloc: Global, out: &mut O, err: &mut E)
     ensures quiet { result ≡ 5 → O.contents out.new ≡ O.contents out.old }
 {
     match schema_page(alloc) {
-        Ok(text) => tell(text.as_str(), Status::Success as u8, out),
+        Ok(text) => print_text(text.as_str(), Status::Success as u8, out),
         Err(_) => refuse_for_memory(err),
     }
 }
@@ -381,8 +383,8 @@ pub fn refuse_words<O: Write, E: Write>(stop: &ParseStop, out: &mut O, err: &mut
         (E.contents err.old) (E.contents err.new) }
 {
     match stop {
-        ParseStop::Help(text) => tell(text.as_str(), Status::Success as u8, out),
-        ParseStop::Usage(text) => tell(text.as_str(), Status::Usage as u8, err),
+        ParseStop::Help(text) => print_text(text.as_str(), Status::Success as u8, out),
+        ParseStop::Usage(text) => print_text(text.as_str(), Status::Usage as u8, err),
         ParseStop::Memory => refuse_for_memory(err),
     }
 }

@@ -32,8 +32,8 @@ use rinqebo_rules::{
 };
 use std::alloc::{AllocError, Global};
 
-/// A leaf as it is reported, with its place in the file of its layer. There is none where its value
-/// can't be told.
+/// A leaf as a report shows it, with its place in the file of its layer. There is none where its
+/// value can't be shown.
 fn reported_leaf(
     alloc: Global,
     layers: &[Layer],
@@ -47,7 +47,7 @@ fn reported_leaf(
     reported_entry(alloc, leaf, place)
 }
 
-/// Leaves as they are reported.
+/// Leaves as a report shows them.
 fn reported_leaves(
     alloc: Global,
     layers: &[Layer],
@@ -65,7 +65,7 @@ fn reported_leaves(
     Ok(entries)
 }
 
-/// The leaves of a chain of profiles below keys, as they are reported.
+/// The leaves of a chain of profiles below keys, as a report shows them.
 pub fn entries_in(
     alloc: Global,
     layers: &[Layer],
@@ -81,8 +81,8 @@ pub fn entries_in(
     reported_leaves(alloc, layers, &leaves)
 }
 
-/// What is asked for of a chain of profiles below keys: the leaves that count, with the default filter of
-/// the override at a place, if there is one, and what the files write there as it is written.
+/// The entries of a chain of profiles below keys: the leaves that count, with the default filter of
+/// the override at a place, if there is one, and what the files write there, as it is written.
 fn shown_entries(
     alloc: Global,
     layers: &[Layer],
@@ -101,7 +101,7 @@ fn shown_entries(
     Ok(entries)
 }
 
-/// What is asked for of a profile below keys, by a configuration.
+/// The entries of a profile below keys, by a configuration.
 fn shown<'c>(
     alloc: Global,
     session: &'c Session<'_>,
@@ -123,7 +123,7 @@ fn shown<'c>(
     Ok(Content::ShowConfig { asked, entries })
 }
 
-/// The exit status for what is shown: 1 where that is nothing.
+/// The exit status for what a report shows: 1 where that is nothing.
 fn status_of(content: &Content) -> u8
     ensures { result ≡ shown_status content.now }
 {

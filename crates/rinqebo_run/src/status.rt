@@ -5,8 +5,8 @@
 pub enum Status {
     /// The request succeeds. A check accepts the files.
     Success = 0,
-    /// A check accepts the files with warnings, which are denied; or nothing is set under the keys of
-    /// `show-config`.
+    /// A check accepts the files with warnings, which the user denies; or nothing is set under the
+    /// keys of `show-config`.
     Negative = 1,
     /// The command line, the list of tests, the metadata or the platforms are not understood, or
     /// several tests have the requested name.

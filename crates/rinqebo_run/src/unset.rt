@@ -49,7 +49,7 @@ fn add_table_keys(
     add_keys(alloc, shape, &beside, prefix.as_str(), known)
 }
 
-/// The keys that a file may write where a key is meant.
+/// The keys that a file may have where a user names a key.
 fn known_keys(alloc: Global, key: &str) -> Result<Vec<String>, AllocError> {
     let shape = file_shape(alloc)?;
     let mut known = all_keys(alloc, NextestRunMode::Test)?;
@@ -63,7 +63,8 @@ fn known_keys(alloc: Global, key: &str) -> Result<Vec<String>, AllocError> {
     Ok(known)
 }
 
-/// The hint that a key is meant which a file may write, if one is near, and the key itself is none.
+/// The hint of the key that a user means, which a file may have, if one is near, and the key itself
+/// is none.
 fn key_hint(alloc: Global, key: &str) -> Result<Option<String>, AllocError> {
     let known = known_keys(alloc, key)?;
     if known.iter().any(|name| name.as_str() == key) {
@@ -81,7 +82,7 @@ fn add_note(alloc: Global, key: &str, notes: &mut String) -> Result<(), AllocErr
     notes.push_str(note.as_str())
 }
 
-/// Whether the key of a leaf is a key, or stands in the table of that key.
+/// Whether the key of a leaf is a key, or is in the table of that key.
 fn is_under(leaf: &str, key: &str) -> bool {
     match leaf.strip_prefix(key) {
         Some(rest) => rest.is_empty() || rest.starts_with('.'),
@@ -101,7 +102,7 @@ fn shows_under(report: &Report, key: &str) -> bool {
     }
 }
 
-/// Adds a note for each key of a request under which its answer shows nothing. A document of JSON
+/// Adds a note for each key of a request under which its result shows nothing. A document of JSON
 /// shows it by itself.
 pub fn add_unset(
     alloc: Global,

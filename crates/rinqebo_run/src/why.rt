@@ -56,7 +56,7 @@ pub(crate) fn condition(
     })
 }
 
-/// A verdict, as it is reported.
+/// A verdict, as a report shows it.
 pub(crate) fn reported_verdict(verdict: rinqebo_rules::RuleVerdict) -> Verdict
     ensures { result ≡ page_verdict verdict }
 {
@@ -118,7 +118,8 @@ fn rules_with_verdicts(
     Ok(reported)
 }
 
-/// Rules that are held against a test, each with its verdict, and with what it writes at a key.
+/// Rules that the program compares with a test, each with its verdict, and with what it writes at a
+/// key.
 fn reported_rules(
     alloc: Global,
     layers: &[Layer],
@@ -179,7 +180,7 @@ fn fallback_rule(
     })
 }
 
-/// What the rules of a profile are held against.
+/// What the program compares the rules of a profile with.
 fn asking_of<'a, 't>(
     platforms: &'a BuildPlatforms<Platform>,
     query: &'a TestQuery<'t>,
@@ -220,7 +221,7 @@ fn rules_and_fallback<'c>(
     Ok(reported)
 }
 
-/// The names of a test, as they are reported.
+/// The names of a test, as a report shows them.
 pub(crate) fn named_test(alloc: Global, test: &FoundTest) -> Result<TestId, AllocError>
     ensures { IfOk result (IsTestNamed test.now) }
 {
@@ -243,7 +244,8 @@ fn reasons<'c>(
     requires { IsIn (names_in config.now.config.profiles) profile.now }
     ensures requested { IfOk result (IsRequestedIn session.now
         (parents_in (config_parents config.now.config)) profile.now test.now.mode) }
-    ensures told { IfOk result (λ content. IfWhy content (λ named key rules. IsTestNamed test.now named
+    ensures told { IfOk result (λ content. IfWhy content (λ named key rules.
+        IsTestNamed test.now named
         × (key ≡ key_text setting test.now.mode)
         × AreReasonsIn session.now.layers.items is_met_by filter_matches
         session.now.engines.platforms (read_by session.now config.now) profile.now test.now setting

@@ -8,7 +8,7 @@ use Rattle.rinqebo_session.specs.declared.failure.OpenFailure.TheVariants as ope
 use Rattle.rinqebo_session.specs.declared.profile.Opened.{Opened}
 use Rattle.rinqebo_session.specs.declared.settings.SettingNumbers.{SettingNumbers}
 use Rattle.rinqebo_session.specs.declared.status.TheConstants.{BAD_SIZE, DONE}
-use Rattle.rinqebo_session.specs.declared.test.RequestedTest.{RequestedTest}
+use Rattle.rinqebo_session.specs.declared.test.CallerTest.{CallerTest}
 use Rattle.rinqebo_session.specs.declared.test.TestFault.{TestFault}
 use Rattle.rinqebo_session.specs.declared.test.TestFault.TheVariants.{NotText, UnknownNumber, NotKnown}
 
@@ -32,7 +32,7 @@ failure_of_no_size (opens.NotFound missing) is = omega arith
 failure_of_no_size opens.Memory is = omega arith
 
 -- what a profile answers never has the number of a wrong size
-pub answer_of_no_size : (outcome : Result Opened OpenFailure) (asked : RequestedTest) (n : SettingNumbers)
+pub answer_of_no_size : (outcome : Result Opened OpenFailure) (asked : CallerTest) (n : SettingNumbers)
     (status : ℕ) → AnswersBy outcome asked n status → status ≢ BAD_SIZE
 answer_of_no_size (Ok opened) asked n status answers is =
     let failed = answers.refused (λ done. omega arith) in

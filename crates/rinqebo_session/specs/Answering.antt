@@ -1,4 +1,4 @@
--- What a profile answers of a test: its settings as numbers.
+-- The settings of a test as numbers, as a profile returns them.
 use Rattle.std.specs.Prelude.{◌≡◌, ◌≢◌, ◌↔◌, ℕ, List, Option, None, Some, option_map, length, position, unwrap_or, slice_get, Result, Ok, Err}
 use Rattle.std.specs.Borrow.{Bor}
 use Rattle.std.specs.Str.{bytes_eq}
@@ -26,7 +26,7 @@ use Rattle.rinqebo_session.specs.declared.profile.Profile.{Profile}
 use Rattle.rinqebo_session.specs.declared.settings.SettingNumbers.{SettingNumbers}
 use Rattle.rinqebo_session.specs.declared.settings.TheConstants.{NO_NAME, UNDEFINED_NAME}
 use Rattle.rinqebo_session.specs.declared.status.TheConstants.{BAD_SIZE, DONE}
-use Rattle.rinqebo_session.specs.declared.test.RequestedTest.{RequestedTest}
+use Rattle.rinqebo_session.specs.declared.test.CallerTest.{CallerTest}
 use Rattle.rinqebo_session.specs.declared.test.TestFault.{TestFault}
 
 -- the index of the group of a test among those that the configuration defines
@@ -70,9 +70,9 @@ pub record AreNumbersOf (known : List Group) (wrappers : List (Bor (List ℕ)))
   pub fail_status : option_map status_number (value at.JunitFlakyFailStatus)
       ≡ Some n.junit_flaky_fail_status
 
--- Numbers answer a test in a profile: they are those of the settings that the profile gives to it,
--- and whether its default filter matches it.
-pub record IsAnswerOf (opened : Opened) (asked : RequestedTest) (n : SettingNumbers) : Type 0 where
+-- Numbers are those of a test in a profile: those of the settings that the profile gives to it, and
+-- whether its default filter matches it.
+pub record IsAnswerOf (opened : Opened) (asked : CallerTest) (n : SettingNumbers) : Type 0 where
   pub size : n.size ≡ settings_size
   pub test : Test
   pub mode : NextestRunMode
@@ -83,26 +83,26 @@ pub record IsAnswerOf (opened : Opened) (asked : RequestedTest) (n : SettingNumb
   pub in_default_filter : let filter = filter_meaning opened.profile.default_filter.filter in
       n.in_default_filter ≡ flag_number (filter_holds filter test filter)
 
--- A test is answered in an open profile; or it is not understood or lacks a part that a filter asks
--- for, and the status says so.
-pub record AnswersTest (opened : Opened) (asked : RequestedTest) (n : SettingNumbers) (status : ℕ)
+-- An open profile returns the numbers of a test; or the test is not understood or lacks a part that
+-- a filter uses, and the status says so.
+pub record AnswersTest (opened : Opened) (asked : CallerTest) (n : SettingNumbers) (status : ℕ)
     : Type 0 where
   pub answered : status ≡ DONE → IsAnswerOf opened asked n
   pub refused : status ≢ DONE
       → (fault : TestFault) × IsFaultIn opened asked fault × (status ≡ fault_status fault)
 
--- what a profile answers; where it is not open, the status says why
-abbrev pub AnswersBy : Result Opened OpenFailure → RequestedTest → SettingNumbers → ℕ → Type 0
+-- what a profile returns; where it is not open, the status says why
+abbrev pub AnswersBy : Result Opened OpenFailure → CallerTest → SettingNumbers → ℕ → Type 0
 AnswersBy (Ok opened) asked n status = AnswersTest opened asked n status
 AnswersBy (Err failure) asked n status = status ≡ open_status failure
 
 -- the sizes in a test and in settings are those of this version
-abbrev pub AreSized : RequestedTest → SettingNumbers → Type 0
+abbrev pub AreSized : CallerTest → SettingNumbers → Type 0
 AreSized asked old = (asked.size ≡ test_size) × (old.size ≡ settings_size)
 
--- A profile answers a test: where a size is not this version's, and nowhere else, the status says
--- so; and but for an answer the settings stay as they were.
-pub record Answers (profile : Profile) (asked : RequestedTest) (old new : SettingNumbers)
+-- A profile returns the numbers of a test: where a size is not this version's, and nowhere else,
+-- the status says so; and where it returns none, the settings stay as they were.
+pub record Answers (profile : Profile) (asked : CallerTest) (old new : SettingNumbers)
     (status : ℕ) : Type 0 where
   pub sized : AreSized asked old → AnswersBy profile.outcome asked new status
   pub bad_size : (status ≡ BAD_SIZE) ↔ (¬ AreSized asked old)

@@ -15,11 +15,12 @@ use Rattle.rinqebo_session.specs.declared.failure.OpenFailure.{OpenFailure}
 use Rattle.rinqebo_session.specs.declared.profile.Opened.{Opened}
 use Rattle.rinqebo_session.specs.declared.profile.Profile.{Profile}
 use Rattle.rinqebo_session.specs.declared.status.TheConstants.{BAD_SIZE, UNKNOWN_NUMBER}
-use Rattle.rinqebo_session.specs.declared.test.RequestedTest.{RequestedTest}
+use Rattle.rinqebo_session.specs.declared.test.CallerTest.{CallerTest}
 use Rattle.rinqebo_session.specs.declared.test.TestFault.{TestFault}
 
--- A text is the argument of an index that a profile gives to a test, or none where it gives no more.
-pub record IsArgumentOf (opened : Opened) (asked : RequestedTest) (index : ℕ)
+-- A text is the argument of an index that a profile gives to a test, or there is none if the
+-- profile gives no more.
+pub record IsArgumentOf (opened : Opened) (asked : CallerTest) (index : ℕ)
     (text : Option (List ℕ)) : Type 0 where
   pub test : Test
   pub mode : NextestRunMode
@@ -34,25 +35,25 @@ IsCopiedOrNone text old new needed status =
     MatchOption text (IsNothingCopied UNKNOWN_NUMBER old new needed status)
     (λ text. IsCopiedOut text old new needed status)
 
--- what an open profile answers: an argument, or the fault of the test
-abbrev pub AnswersArgument : Opened → RequestedTest → ℕ → List ℕ → List ℕ → ℕ → ℕ → Type 0
+-- what an open profile returns: an argument, or the fault of the test
+abbrev pub AnswersArgument : Opened → CallerTest → ℕ → List ℕ → List ℕ → ℕ → ℕ → Type 0
 AnswersArgument opened asked index old new needed status =
     ((text : Option (List ℕ)) × IsArgumentOf opened asked index text
     × IsCopiedOrNone text old new needed status)
     ⊎ ((fault : TestFault) × IsFaultIn opened asked fault
     × IsNothingCopied (fault_status fault) old new needed status)
 
--- what a profile answers; where it is not open, the status says why
-abbrev pub AnswersArgumentBy : Result Opened OpenFailure → RequestedTest → ℕ → List ℕ → List ℕ → ℕ
+-- what a profile returns; where it is not open, the status says why
+abbrev pub AnswersArgumentBy : Result Opened OpenFailure → CallerTest → ℕ → List ℕ → List ℕ → ℕ
     → ℕ → Type 0
 AnswersArgumentBy (Ok opened) asked index old new needed status =
     AnswersArgument opened asked index old new needed status
 AnswersArgumentBy (Err failure) asked index old new needed status =
     IsNothingCopied (open_status failure) old new needed status
 
--- The argument of an index that a profile gives to a test is copied out. Where the size in the test is
--- not this version's, and nowhere else, the status says so.
-pub record IsArgumentCopied (profile : Profile) (asked : RequestedTest) (index : ℕ)
+-- The argument of an index that a profile gives to a test is copied out. Where the size in the test
+-- is not this version's, and nowhere else, the status says so.
+pub record IsArgumentCopied (profile : Profile) (asked : CallerTest) (index : ℕ)
     (old new : List ℕ) (needed status : ℕ) : Type 0 where
   pub sized : asked.size ≡ test_size
       → AnswersArgumentBy profile.outcome asked index old new needed status

@@ -54,7 +54,7 @@ abbrev pub AreFeaturesFor : RequestText → Features → Type 0
 AreFeaturesFor asked features =
     AreFeaturesBy (is_on asked.features) (tree_read (repository_file asked).outcome) features
 
--- What a load answers for a request, by engines and features, with warnings: all that a load
+-- What a load returns for a request, by engines and features, with warnings: all that a load
 -- promises, over the request's files; and a configuration has the request's root.
 pub record LoadsBy (engines : Readings Filter Spec Platform) (features : Features)
     (asked : RequestText) (warnings : List Warning)
@@ -76,7 +76,7 @@ pub record LoadsWith (asked : RequestText) (warnings : List Warning)
     pub are_features : AreFeaturesFor asked features
     pub loads : LoadsBy (readings filters) features asked warnings answer
 
--- What was loaded is what a request asks for: the load of its files answers the configuration with
+-- What was loaded is what a request is for: the load of its files returns the configuration with
 -- the warnings, the platforms are those of its machines, and the target directory is its own.
 pub record IsLoadedBy (asked : RequestText) (loaded : Loaded) : Type 0 where
   pub loads : LoadsWith asked (warnings_view loaded.warnings) (Ok loaded.config)
@@ -98,7 +98,7 @@ IsFailureBy asked (failures.Refused error) =
     (warnings : List Warning) × LoadsWith asked warnings (Err error)
 IsFailureBy asked failures.Memory = Unit {0}
 
--- What was loaded is what the bytes of a request ask for.
+-- What was loaded is what the bytes of a request are for.
 pub record IsLoadedFrom (request : List ℕ) (loaded : Loaded) : Type 0 where
   pub asked : RequestText
   pub reads : request_of request ≡ Some asked
@@ -109,8 +109,8 @@ abbrev pub FailsUnderstood : List ℕ → Failure → Type 0
 FailsUnderstood request failure =
     (asked : RequestText) × (request_of request ≡ Some asked) × IsFailureBy asked failure
 
--- why the bytes of a request give no configuration: they are not valid UTF-8, they are not understood, or
--- what they ask for fails; want of memory aside
+-- why the bytes of a request have no configuration: they are not valid UTF-8, they are not
+-- understood, or the load fails; want of memory aside
 abbrev pub IsFailureOf : List ℕ → Failure → Type 0
 IsFailureOf request failures.NotText = ¬ IsUtf8 request
 IsFailureOf request (failures.Request fault) = fault ≢ request_memory → request_of request ≡ None

@@ -39,7 +39,7 @@ open_failure errors.Memory = opens.Memory
 abbrev pub group_entry : Group → Name × Option TestGroupConfig
 group_entry group = (group.name.now, Some (record { max_threads = group.threads }))
 
--- the directories that programs are relative to, where the target directory is given
+-- the directories that programs are relative to, if there is a target directory
 abbrev pub directories_in : Loaded → Option Directories
 directories_in loaded = option_map (λ target. record {
   root = loaded.config.root;
@@ -54,8 +54,8 @@ pub record IsObjectsText (loaded : Loaded) (facts : ProfileFacts) (text : List �
   pub written : text ≡ compact_text value
 
 -- A profile of a configuration is open: it is the one of the name, by its chain, on the platforms
--- of the build, by what its rules mean; its groups and wrappers are those that are defined; what its
--- filters ask for is known, for binaries of each platform; and its objects are kept as a text.
+-- of the build, by what its rules mean; its groups and wrappers are those that are defined; what
+-- its filters use is known, for binaries of each platform; and its objects are kept as a text.
 pub record IsOpened (loaded : Loaded) (name : Name) (opened : Opened) : Type 0 where
   pub known : IsIn (names_in loaded.config.config.profiles) name
   pub chain : List Name

@@ -18,7 +18,7 @@ use Rattle.platform_table.specs.declared.Platform.{Platform}
 abbrev pub filter_meaning : Filterset FieldMatcher → Filter
 filter_meaning = marks_view names_of
 
--- whether what platforms say holds on a platform, if it can be told
+-- whether an expression of platforms holds on a platform, if that is known
 abbrev pub holds_on : Spec → Platform → Option Bool
 holds_on spec platform = spec_value (platform_view platform) spec
 

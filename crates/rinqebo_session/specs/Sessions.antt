@@ -8,7 +8,7 @@ use Rattle.rinqebo_session.specs.declared.loading.Loaded.{Loaded}
 use Rattle.rinqebo_session.specs.declared.session.Session.{Session}
 use Rattle.rinqebo_session.specs.declared.status.TheConstants.{DONE}
 
--- A session is that of a request: it holds what the request asks for, or why there is nothing.
+-- A session is that of a request: it has what the request is for, or why there is nothing.
 abbrev pub IsSessionOf : List ℕ → Session → Type 0
 IsSessionOf request session =
     MatchResult session.outcome (IsLoadedFrom request) (IsFailureOf request)
@@ -18,7 +18,7 @@ abbrev pub MayFailFor : Failure → Session → Type 0
 MayFailFor failure session =
     (session.outcome ≡ Err failure) ⊎ (session.outcome ≡ Err Memory)
 
--- the number of what came of a load
+-- the number of the result of a load
 abbrev pub outcome_status : Result Loaded Failure → ℕ
 outcome_status (Ok loaded) = DONE
 outcome_status (Err failure) = failure_status failure

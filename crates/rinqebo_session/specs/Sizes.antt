@@ -3,7 +3,7 @@ use Rattle.std.specs.Prelude.{ℕ, []}
 use Rattle.std.specs.Mem.{type_size}
 use mir.Syntax.{erased}
 use Rattle.rinqebo_session.specs.contracts.settings.SettingNumbers as settings
-use Rattle.rinqebo_session.specs.contracts.test.RequestedTest as tests
+use Rattle.rinqebo_session.specs.contracts.test.CallerTest as tests
 
 -- the size of a test
 abbrev pub test_size : ℕ

@@ -12,7 +12,7 @@ use Rattle.rinqebo_session.specs.declared.status.TheConstants.{DONE, UNKNOWN_NUM
 abbrev pub MayNotOpenFor : OpenFailure → Profile → Type 0
 MayNotOpenFor failure profile = (profile.outcome ≡ Err failure) ⊎ (profile.outcome ≡ Err Memory)
 
--- the number of what came of opening a profile
+-- the number of the result of opening a profile
 abbrev pub opening_status : Result Opened OpenFailure → ℕ
 opening_status (Ok opened) = DONE
 opening_status (Err failure) = open_status failure
@@ -21,8 +21,8 @@ opening_status (Err failure) = open_status failure
 abbrev pub profile_status : Profile → ℕ
 profile_status profile = opening_status profile.outcome
 
--- the name of an index: of kind 1 that of a group, of kind 2 that of a wrapper; of kind 3 the objects
--- of the profile, whatever the index
+-- the name of an index: of kind 1 that of a group, of kind 2 that of a wrapper; of kind 3 the
+-- objects of the profile, whatever the index
 abbrev pub name_at : Opened → ℕ → ℕ → Option (List ℕ)
 name_at opened kind index =
     if kind == 1 then option_map (λ group. group.name.now) (slice_get opened.groups.items index)

@@ -24,4 +24,4 @@ pub use needs::Needs;
 pub use profile::{Group, Opened, Profile};
 pub use session::Session;
 pub use settings::SettingNumbers;
-pub use test::{RequestedTest, TestFault};
+pub use test::{CallerTest, TestFault};

@@ -1,18 +1,18 @@
-//! Which parts of tests the filters of a profile ask for.
+//! The parts of tests that the filters of a profile use.
 ghost use Rattle.std.specs.List.{list_any};
 ghost use Rattle.std.specs.Option.{option_map_or};
 ghost use Rattle.std.specs.Prelude.{◌≡◌, ◌||◌, false, option_map};
 ghost use Rattle.nextest_settings.specs.View.{evaluated_override_view, evaluated_script_rule_view};
 ghost use Rattle.rinqebo_session.specs.Needs.{asked_on, filter_asks, is_missing, lacks, rule_asks, AreNeeds};
 
-use crate::test::RequestedTest;
+use crate::test::CallerTest;
 use filter_engine::{Field, FieldMatcher, Filterset, NextestFilters};
 use nextest_config::{
     BuildPlatform, EvaluatableProfile, EvaluatedOverride, EvaluatedRules, EvaluatedScriptRule,
 };
 use platform_language::TargetSpecs;
 
-/// Which parts of a test the filters of a profile ask for.
+/// The parts of a test that the filters of a profile use.
 #[derive(Clone, Copy, Debug, PartialEq, Eq, Drop)]
 pub struct Needs {
     /// The package of its binary.
@@ -27,7 +27,7 @@ pub struct Needs {
     pub name: bool,
 }
 
-/// Whether a filter asks for a field, if there is one.
+/// Whether a filter uses a field, if there is one.
 fn filter_asks(filter: Option<&Filterset<FieldMatcher>>, field: Field) -> bool
     ensures { result
         ≡ option_map_or (filter_asks field) (option_map (λ expr. expr.now) filter.entry) false }
@@ -38,7 +38,7 @@ fn filter_asks(filter: Option<&Filterset<FieldMatcher>>, field: Field) -> bool
     }
 }
 
-/// Whether an override asks for a field, for binaries of a platform.
+/// Whether an override uses a field, for binaries of a platform.
 fn override_asks(
     rule: &EvaluatedOverride<'_, NextestFilters, TargetSpecs>,
     platform: BuildPlatform,
@@ -49,7 +49,7 @@ fn override_asks(
     rule.is_on(platform) && filter_asks(rule.rule().filter(), field)
 }
 
-/// Whether a script rule asks for a field, for binaries of a platform.
+/// Whether a script rule uses a field, for binaries of a platform.
 fn script_rule_asks(
     rule: &EvaluatedScriptRule<'_, NextestFilters, TargetSpecs>,
     platform: BuildPlatform,
@@ -60,7 +60,7 @@ fn script_rule_asks(
     rule.is_on(platform) && filter_asks(rule.rule().filter(), field)
 }
 
-/// Whether some override asks for a field, for binaries of a platform.
+/// Whether some override uses a field, for binaries of a platform.
 fn overrides_ask(
     rules: &[EvaluatedOverride<'_, NextestFilters, TargetSpecs>],
     platform: BuildPlatform,
@@ -74,7 +74,7 @@ fn overrides_ask(
         .any(|rule| override_asks(rule, platform, field))
 }
 
-/// Whether some script rule asks for a field, for binaries of a platform.
+/// Whether some script rule uses a field, for binaries of a platform.
 fn script_rules_ask(
     rules: &[EvaluatedScriptRule<'_, NextestFilters, TargetSpecs>],
     platform: BuildPlatform,
@@ -88,7 +88,7 @@ fn script_rules_ask(
         .any(|rule| script_rule_asks(rule, platform, field))
 }
 
-/// Whether some rule asks for a field, for binaries of a platform.
+/// Whether some rule uses a field, for binaries of a platform.
 fn rules_ask(
     rules: &EvaluatedRules<'_, NextestFilters, TargetSpecs>,
     platform: BuildPlatform,
@@ -103,7 +103,7 @@ fn rules_ask(
         || script_rules_ask(&rules.script_rules, platform, field)
 }
 
-/// Whether the default filter of a profile asks for a field.
+/// Whether the default filter of a profile uses a field.
 fn default_filter_asks(
     profile: &EvaluatableProfile<'_, NextestFilters, TargetSpecs>,
     field: Field,
@@ -113,7 +113,7 @@ fn default_filter_asks(
     filter_asks(Some(profile.default_filter().expr), field)
 }
 
-/// Whether some rule of a profile asks for a field, for binaries of a platform.
+/// Whether some rule of a profile uses a field, for binaries of a platform.
 fn rules_of_profile_ask(
     profile: &EvaluatableProfile<'_, NextestFilters, TargetSpecs>,
     platform: BuildPlatform,
@@ -125,7 +125,7 @@ fn rules_of_profile_ask(
     rules_ask(profile.rules(), platform, field)
 }
 
-/// Whether a filter of a profile asks for a field, for binaries of a platform.
+/// Whether a filter of a profile uses a field, for binaries of a platform.
 fn asks_on(
     profile: &EvaluatableProfile<'_, NextestFilters, TargetSpecs>,
     platform: BuildPlatform,
@@ -136,7 +136,7 @@ fn asks_on(
     default_filter_asks(profile, field) || rules_of_profile_ask(profile, platform, field)
 }
 
-/// Whether something is missing: it is asked for, and not given.
+/// Whether a part is missing: filters use it, and the caller has none.
 fn is_missing(is_asked: bool, given: &[u8]) -> bool
     ensures { result ≡ is_missing is_asked given.now }
 {
@@ -144,7 +144,7 @@ fn is_missing(is_asked: bool, given: &[u8]) -> bool
 }
 
 impl Needs {
-    /// What the filters of a profile ask for, for binaries of a platform.
+    /// The parts that the filters of a profile use, for binaries of a platform.
     pub fn of(
         profile: &EvaluatableProfile<'_, NextestFilters, TargetSpecs>,
         platform: BuildPlatform,
@@ -164,7 +164,7 @@ impl Needs {
     }
 
     /// Whether a test lacks one of them.
-    pub fn are_missing(&self, test: &RequestedTest<'_>) -> bool
+    pub fn are_missing(&self, test: &CallerTest<'_>) -> bool
         ensures { result ≡ lacks self.now test.now }
     {
         is_missing(self.package, test.package)

@@ -1,4 +1,4 @@
-//! Profiles of a session, and what they answer.
+//! Profiles of a session, and what their calls return.
 ghost use Rattle.std.specs.Prelude.{◌≡◌, ◌≢◌, ◌↔◌, IfOk, IfErr, IsTrue, map, option_map, slice_get, string_bytes};
 ghost use Rattle.nextest_load.specs.ConfigView.{groups_view};
 ghost use Rattle.nextest_scripts.specs.ScriptId.{script_text};
@@ -20,7 +20,7 @@ use crate::needs::Needs;
 use crate::session::Session;
 use crate::settings::{SettingNumbers, numbers_of};
 use crate::status::{BAD_SIZE, DONE, UNKNOWN_NUMBER};
-use crate::test::{Asked, RequestedTest, TestFault};
+use crate::test::{Asked, CallerTest, TestFault};
 use filter_engine::{NextestFilters, NextestTally};
 use indexmap::IndexMap;
 use nextest_config::{
@@ -51,9 +51,9 @@ pub struct Opened<'a> {
     pub groups: Vec<Group<'a>>,
     /// The ids of the wrapper scripts that it defines.
     pub wrappers: Vec<&'a str>,
-    /// What its filters ask for, for binaries of the host.
+    /// The parts that its filters use, for binaries of the host.
     pub for_host: Needs,
-    /// What its filters ask for, for binaries of the target.
+    /// The parts that its filters use, for binaries of the target.
     pub for_target: Needs,
     /// Its objects, as a text in JSON.
     pub objects: String,
@@ -101,7 +101,7 @@ fn ids_of<'a>(
     Ok(ids)
 }
 
-/// The directories that programs are relative to, where the target directory is given.
+/// The directories that programs are relative to, if there is a target directory.
 fn directories_of(loaded: &Loaded) -> Option<Directories<'_>>
     ensures { directories_view result ≡ directories_in loaded.now }
 {
@@ -191,17 +191,17 @@ fn not_opened<'a>(alloc: Global, failure: OpenFailure) -> Profile<'a>
 }
 
 /// Whether the size in a test is that of this version.
-fn is_sized(test: &RequestedTest<'_>) -> bool
+fn is_sized(test: &CallerTest<'_>) -> bool
     ensures { IsTrue result ↔ (test.now.size ≡ test_size) }
 {
-    test.size == size_of::<RequestedTest<'static>>()
+    test.size == size_of::<CallerTest<'static>>()
 }
 
 /// Whether the sizes in a test and in settings are those of this version.
-fn are_sized(test: &RequestedTest<'_>, settings: &SettingNumbers) -> bool
+fn are_sized(test: &CallerTest<'_>, settings: &SettingNumbers) -> bool
     ensures { IsTrue result ↔ AreSized test.now settings.now }
 {
-    test.size == size_of::<RequestedTest<'static>>() && settings.size == size_of::<SettingNumbers>()
+    test.size == size_of::<CallerTest<'static>>() && settings.size == size_of::<SettingNumbers>()
 }
 
 /// The argument of an index, if there is one.
@@ -237,7 +237,7 @@ impl Opened<'_> {
         NextestFilters::matches_test(cx.default_filter, 0, &asked.query, &cx, &mut tally)
     }
 
-    /// What its filters ask for, for binaries of a platform.
+    /// The parts that its filters use, for binaries of a platform.
     fn needs_on(&self, platform: BuildPlatform) -> Needs
         ensures { result ≡ needs_on self.now platform }
     {
@@ -247,8 +247,8 @@ impl Opened<'_> {
         }
     }
 
-    /// The test, where it is understood and gives each part that a filter asks for.
-    fn known<'t>(&self, test: &RequestedTest<'t>) -> Result<Asked<'t>, TestFault>
+    /// The test, if it is understood and has each part that a filter uses.
+    fn known<'t>(&self, test: &CallerTest<'t>) -> Result<Asked<'t>, TestFault>
         ensures ok { IfOk result (λ asked.
             IsKnownTest self.now test.now (test_view asked.query) asked.mode) }
         ensures err { IfErr result (IsFaultIn self.now test.now) }
@@ -262,7 +262,7 @@ impl Opened<'_> {
     }
 
     /// The settings of a test, as numbers.
-    fn answer(&self, test: &RequestedTest<'_>) -> Result<SettingNumbers, TestFault>
+    fn answer(&self, test: &CallerTest<'_>) -> Result<SettingNumbers, TestFault>
         ensures ok { IfOk result (IsAnswerOf self.now test.now) }
         ensures err { IfErr result (IsFaultIn self.now test.now) }
     {
@@ -276,7 +276,7 @@ impl Opened<'_> {
     }
 
     /// Writes the settings of a test, as numbers, or returns why there are none.
-    fn write_answer(&self, test: &RequestedTest<'_>, settings: &mut SettingNumbers) -> u32
+    fn write_answer(&self, test: &CallerTest<'_>, settings: &mut SettingNumbers) -> u32
         ensures answers { AnswersTest self.now test.now settings.new result }
         ensures kept { result ≢ DONE → settings.new ≡ settings.old }
     {
@@ -289,8 +289,8 @@ impl Opened<'_> {
         }
     }
 
-    /// The argument of an index that a test is given, if it is given so many.
-    fn argument(&self, test: &RequestedTest<'_>, index: usize) -> Result<Option<&str>, TestFault>
+    /// The argument of an index that the profile gives to a test, if it gives so many.
+    fn argument(&self, test: &CallerTest<'_>, index: usize) -> Result<Option<&str>, TestFault>
         ensures ok { IfOk result (λ text.
             IsArgumentOf self.now test.now index (option_map (λ text. text.now) text)) }
         ensures err { IfErr result (IsFaultIn self.now test.now) }
@@ -304,10 +304,11 @@ impl Opened<'_> {
         Ok(argument_at(arguments, index))
     }
 
-    /// Copies out the argument of an index that a test is given, or returns why there is none.
+    /// Copies out the argument of an index that the profile gives to a test, or returns why there
+    /// is none.
     fn copy_argument(
         &self,
-        test: &RequestedTest<'_>,
+        test: &CallerTest<'_>,
         index: usize,
         out: &mut [u8],
         needed: &mut usize,
@@ -320,8 +321,8 @@ impl Opened<'_> {
         }
     }
 
-    /// The name of a group or of a wrapper: of kind 1 those of groups, of kind 2 those of wrappers. Of
-    /// kind 3 the objects, whatever the index.
+    /// The name of a group or of a wrapper: of kind 1 those of groups, of kind 2 those of wrappers.
+    /// Of kind 3 the objects, whatever the index.
     fn name(&self, kind: u32, index: usize) -> Option<&str>
         ensures { option_map (λ name. name.now) result ≡ name_at self.now kind index }
     {
@@ -360,7 +361,7 @@ impl<'a> Profile<'a> {
     }
 
     /// Writes the settings of a test, as numbers, where the profile is open.
-    fn ask_if_open(&self, test: &RequestedTest<'_>, settings: &mut SettingNumbers) -> u32
+    fn ask_if_open(&self, test: &CallerTest<'_>, settings: &mut SettingNumbers) -> u32
         ensures answers { AnswersBy self.now.outcome test.now settings.new result }
         ensures kept { result ≢ DONE → settings.new ≡ settings.old }
     {
@@ -373,7 +374,7 @@ impl<'a> Profile<'a> {
     /// Writes the settings of a test, as numbers, and returns how it went. Where the size in one of
     /// the two is not this version's, or there are no settings, nothing is written. It takes no
     /// memory.
-    pub fn ask(&self, test: &RequestedTest<'_>, settings: &mut SettingNumbers) -> u32
+    pub fn ask(&self, test: &CallerTest<'_>, settings: &mut SettingNumbers) -> u32
         ensures { Answers self.now test.now settings.old settings.new result }
     {
         if !are_sized(test, settings) {
@@ -382,10 +383,11 @@ impl<'a> Profile<'a> {
         self.ask_if_open(test, settings)
     }
 
-    /// Copies out the argument of an index that a test is given, where the profile is open.
+    /// Copies out the argument of an index that the profile gives to a test, if the profile is
+    /// open.
     fn copy_argument_if_open(
         &self,
-        test: &RequestedTest<'_>,
+        test: &CallerTest<'_>,
         index: usize,
         out: &mut [u8],
         needed: &mut usize,
@@ -399,10 +401,10 @@ impl<'a> Profile<'a> {
         }
     }
 
-    /// Copies out the argument of an index that a test is given. It takes no memory.
+    /// Copies out the argument of an index that the profile gives to a test. It takes no memory.
     pub fn copy_argument(
         &self,
-        test: &RequestedTest<'_>,
+        test: &CallerTest<'_>,
         index: usize,
         out: &mut [u8],
         needed: &mut usize,
@@ -415,8 +417,8 @@ impl<'a> Profile<'a> {
         self.copy_argument_if_open(test, index, out, needed)
     }
 
-    /// The text of a kind and an index: of kind 0 why the profile is not open, of kind 1 the name of
-    /// a group, of kind 2 the id of a wrapper, of kind 3 the objects.
+    /// The text of a kind and an index: of kind 0 why the profile is not open, of kind 1 the name
+    /// of a group, of kind 2 the id of a wrapper, of kind 3 the objects.
     fn text(&self, kind: u32, index: usize) -> Option<&str>
         ensures { option_map (λ text. text.now) result ≡ text_at self.now kind index }
     {
@@ -429,9 +431,9 @@ impl<'a> Profile<'a> {
         }
     }
 
-    /// Copies out the text of a kind and an index: why the profile is not open, the name of a group,
-    /// the id of a wrapper, or the objects in JSON: what the profile says for a whole run, the groups,
-    /// the scripts, and the warnings of the load.
+    /// Copies out the text of a kind and an index: why the profile is not open, the name of a
+    /// group, the id of a wrapper, or the objects in JSON: what the profile says for a whole run,
+    /// the groups, the scripts, and the warnings of the load.
     pub fn copy_text(&self, kind: u32, index: usize, out: &mut [u8], needed: &mut usize) -> u32
         ensures { IsTextCopied self.now kind index out.old out.new needed.new result }
     {

@@ -62,7 +62,7 @@ pub struct SettingNumbers {
     pub group_threads: GroupThreads,
     /// The index of the script that wraps its run, or `NO_NAME`.
     pub run_wrapper: usize,
-    /// How many arguments it is given.
+    /// How many arguments the profile gives to the test.
     pub run_extra_args: usize,
 }
 

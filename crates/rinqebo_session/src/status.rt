@@ -1,4 +1,4 @@
-//! The numbers that calls answer for how they went.
+//! The numbers that calls return for how they went.
 
 /// The call did what it is for.
 pub const DONE: u32 = 0;
@@ -18,9 +18,9 @@ pub const NO_ENGINES: u32 = 6;
 pub const NO_PROFILE: u32 = 7;
 /// The session holds no configuration.
 pub const NOT_LOADED: u32 = 8;
-/// A number stands for nothing: a platform, a mode, a kind of text or an index.
+/// A number has no meaning: a platform, a mode, a kind of text or an index.
 pub const UNKNOWN_NUMBER: u32 = 9;
 /// The size in a struct is not that of this version's.
 pub const BAD_SIZE: u32 = 10;
-/// A filter asks for a part of a test that is not given.
+/// A filter uses a part of a test that the caller does not have.
 pub const NOT_KNOWN: u32 = 11;

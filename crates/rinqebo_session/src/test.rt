@@ -9,7 +9,7 @@ use nextest_config::{BinaryQuery, BuildPlatform, NextestRunMode, TestQuery};
 /// A test, and what is known of its binary. Its texts are UTF-8.
 #[repr(C)]
 #[derive(Clone, Copy, Debug, Drop)]
-pub struct RequestedTest<'a> {
+pub struct CallerTest<'a> {
     /// The size of the struct, as the caller has it.
     pub size: usize,
     /// The id of the binary's package, as cargo writes it.
@@ -24,7 +24,7 @@ pub struct RequestedTest<'a> {
     pub name: &'a [u8],
     /// For which machine the binary is built: 0 for the host, 1 for the target.
     pub platform: u32,
-    /// For what tests are run: 0 for tests, 1 for benchmarks.
+    /// What tests are run for: 0 for tests, 1 for benchmarks.
     pub mode: u32,
 }
 
@@ -33,9 +33,9 @@ pub struct RequestedTest<'a> {
 pub enum TestFault {
     /// A text of it is not valid UTF-8.
     NotText,
-    /// The number of its platform or its mode stands for nothing.
+    /// The number of its platform or its mode has no meaning.
     UnknownNumber,
-    /// A filter of the profile asks for a part of it that is not given.
+    /// A filter of the profile uses a part of it that the caller does not have.
     NotKnown,
 }
 
@@ -92,7 +92,7 @@ fn text_of(bytes: &[u8]) -> Result<&str, TestFault>
     }
 }
 
-impl<'a> RequestedTest<'a> {
+impl<'a> CallerTest<'a> {
     /// The binary, on a platform.
     fn binary_query(&self, platform: BuildPlatform) -> Result<BinaryQuery<'a>, TestFault>
         ensures ok { IfOk result (λ query. binary_view query ≡ binary_of self.now platform) }

@@ -31,7 +31,7 @@ impl Write for Output {
     }
 }
 
-/// Runs over the files of a case, and answers the status.
+/// Runs over the files of a case, and returns the status.
 fn run(
     alloc: Global,
     case: &Case<'_>,

@@ -36,7 +36,7 @@ use denote.Triple.Walked.{says, Stay, Stays, walk_of, stay_dropped, Goes, Goes-d
 use Rattle.rinqebo_c.specs.Handles.{lent_profile, profile_row}
 use Rattle.rinqebo_session.specs.Arguments.{IsArgumentCopied}
 use Rattle.rinqebo_session.proofs.profile.Profile.TheLaws as held
-use Rattle.rinqebo_session.specs.contracts.test.RequestedTest as asked
+use Rattle.rinqebo_session.specs.contracts.test.CallerTest as asked
 use Rattle.rinqebo_c.specs.contracts.calls.rinqebo_profile_argument as f
 use Rattle.rinqebo_c.proofs.calls.rinqebo_profile_argument.Statement.{statement}
 use Rattle.rinqebo_c.proofs.calls.rinqebo_profile_argument.Code as code

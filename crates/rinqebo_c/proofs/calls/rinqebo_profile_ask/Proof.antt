@@ -33,7 +33,7 @@ use denote.Triple.Walked.{says, Stay, Stays, walk_of, stay_dropped, Goes, Goes-d
 use Rattle.rinqebo_c.specs.Handles.{lent_profile, profile_row}
 use Rattle.rinqebo_session.specs.Answering.{Answers}
 use Rattle.rinqebo_session.proofs.profile.Profile.TheLaws as held
-use Rattle.rinqebo_session.specs.contracts.test.RequestedTest as asked
+use Rattle.rinqebo_session.specs.contracts.test.CallerTest as asked
 use Rattle.rinqebo_session.specs.declared.settings.SettingNumbers.{SettingNumbers}
 use Rattle.rinqebo_session.specs.contracts.settings.SettingNumbers as answer
 use Rattle.rinqebo_c.specs.contracts.calls.rinqebo_profile_ask as f

@@ -1,4 +1,4 @@
-use Rattle.rinqebo_resolve.proofs.Telling.{ended}
+use Rattle.rinqebo_resolve.proofs.Reporting.{ended}
 use Rattle.rinqebo_resolve.proofs.resolving.ending_in.Goals as goal
 
 pub returns : goal.returns

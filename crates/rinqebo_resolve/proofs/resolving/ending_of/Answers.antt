@@ -1,5 +1,5 @@
 use Rattle.rinqebo_forms.specs.Runs.{run_view}
-use Rattle.rinqebo_resolve.proofs.Telling.{ended_of}
+use Rattle.rinqebo_resolve.proofs.Reporting.{ended_of}
 use Rattle.rinqebo_resolve.proofs.resolving.ending_of.Goals as goal
 
 pub returns : goal.returns

@@ -1,11 +1,11 @@
-use Rattle.rinqebo_resolve.proofs.Telling.{reported_answer, reported_kept}
+use Rattle.rinqebo_resolve.proofs.Reporting.{reported_answer, reported_kept}
 use Rattle.rinqebo_resolve.proofs.resolving.resolve.Goals as goal
 
 pub returns-clause-resolved : goal.returns-clause-resolved
 returns-clause-resolved c = record {
   ending = c.ending_for.result;
   is_ending = c.ending_for.ensures;
-  is_told = c.tell.ensures;
+  is_told = c.report.ensures;
 }
 
 pub returns-clause-done : goal.returns-clause-done

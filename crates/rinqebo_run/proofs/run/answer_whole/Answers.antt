@@ -6,29 +6,29 @@ use Rattle.rinqebo_run.proofs.run.answer_whole.Goals as goal
 pub returns-in-Ok-clause-status : goal.returns-in-Ok-clause-status
 returns-in-Ok-clause-status g c =
     answered_status c.args.request.now c.args.gathered.now c.in-Ok.answer.report _ _ c.in-Ok.ensures.ok
-    c.tell_answer.ensures.status
+    c.print_answer.ensures.status
 
 pub returns-in-Ok-clause-quiet : goal.returns-in-Ok-clause-quiet
 returns-in-Ok-clause-quiet g c =
     one_of_four (answer_status c.args.request.now c.args.gathered.now c.in-Ok.answer.report _ _ c.in-Ok.ensures.ok
-    c.tell_answer.ensures.quiet)
+    c.print_answer.ensures.quiet)
 
 pub returns-in-Ok-clause-refusal : goal.returns-in-Ok-clause-refusal
 returns-in-Ok-clause-refusal g c json told =
     answer_ends c.args.request.now c.args.gathered.now c.in-Ok.answer.report _ _ c.in-Ok.ensures.ok
-    c.tell_answer.ensures.status told
+    c.print_answer.ensures.status told
 
 pub returns-in-Ok-clause-page : goal.returns-in-Ok-clause-page
 returns-in-Ok-clause-page g c answered =
     let q = c.args.request.now.question in
     tells c.args.request.now c.args.gathered.now c.in-Ok.answer.report _ _ _ _ c.in-Ok.ensures.ok
-    (reported_same q _ _ c.tell_answer.ensures.status answered)
-    (reported_page q _ c.tell_answer.ensures.page answered)
+    (reported_same q _ _ c.print_answer.ensures.status answered)
+    (reported_page q _ c.print_answer.ensures.page answered)
 
 pub returns-in-Ok-clause-cause : goal.returns-in-Ok-clause-cause
 returns-in-Ok-clause-cause g c =
     answer_reported c.args.request.now c.args.gathered.now c.in-Ok.answer.report _ _ c.in-Ok.ensures.ok
-    c.tell_answer.ensures.status
+    c.print_answer.ensures.status
 
 pub returns-in-Err-clause-status : goal.returns-in-Err-clause-status
 returns-in-Err-clause-status g c = failed_status c.args.request.now.question c.in-Err.failure _ c.refuse_in.ensures.status

@@ -1,4 +1,4 @@
-use Rattle.rinqebo_resolve.proofs.Telling.{answer_of}
+use Rattle.rinqebo_resolve.proofs.Reporting.{answer_of}
 use Rattle.rinqebo_resolve.proofs.run.Run.new.Goals as goal
 
 pub returns : goal.returns

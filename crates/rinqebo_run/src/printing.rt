@@ -19,7 +19,7 @@ fn status_of_write(written: io::Result<()>, status: u8) -> u8
 }
 
 /// Writes a text, and returns a status, or 6 where a write fails.
-pub fn tell<W: Write>(text: &str, status: u8, out: &mut W) -> u8
+pub fn print_text<W: Write>(text: &str, status: u8, out: &mut W) -> u8
     ensures status { (result ≡ status) ⊎ (result ≡ 6) }
     ensures written { (result ≡ 6) ⊎ Appends (W.contents out.old) (W.contents out.new) text.now }
 {
@@ -32,17 +32,17 @@ pub fn tell<W: Write>(text: &str, status: u8, out: &mut W) -> u8
 /// The message of a run that ends because memory ran out.
 const OUT_OF_MEMORY: &str = "error: out of memory\n";
 
-/// Reports that memory ran out, which takes none, and returns the exit status: 5, or 6 where the
+/// Reports that memory ran out, without taking any, and returns the exit status: 5, or 6 where the
 /// message can't be written.
 pub fn refuse_for_memory<E: Write>(err: &mut E) -> u8
     ensures status { (result ≡ 5) ⊎ (result ≡ 6) }
     ensures message { (result ≡ 6)
         ⊎ Appends (E.contents err.old) (E.contents err.new) OUT_OF_MEMORY.now }
 {
-    tell(OUT_OF_MEMORY, Status::Memory as u8, err)
+    print_text(OUT_OF_MEMORY, Status::Memory as u8, err)
 }
 
-/// Reports the findings for which a run returns nothing.
+/// Reports the findings for which a run has no result.
 pub fn refuse_with<E: Write>(
     alloc: Global,
     report: &Report,
@@ -53,7 +53,7 @@ pub fn refuse_with<E: Write>(
     ensures { (result ≡ status) ⊎ (result ≡ 5) ⊎ (result ≡ 6) }
 {
     match render_findings(alloc, report, colour) {
-        Ok(text) => tell(text.as_str(), status, err),
+        Ok(text) => print_text(text.as_str(), status, err),
         Err(_) => refuse_for_memory(err),
     }
 }
@@ -63,7 +63,7 @@ pub fn refuse_message<E: Write>(message: Result<String, AllocError>, status: u8,
     ensures { (result ≡ status) ⊎ (result ≡ 5) ⊎ (result ≡ 6) }
 {
     match message {
-        Ok(text) => tell(text.as_str(), status, err),
+        Ok(text) => print_text(text.as_str(), status, err),
         Err(_) => refuse_for_memory(err),
     }
 }
