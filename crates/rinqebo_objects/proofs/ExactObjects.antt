@@ -1,5 +1,5 @@
 -- The objects of a profile nest little, and have no number that is a float.
-use Rattle.std.proofs.Common.{◌≡◌, ◌+◌, ℕ, ℤ, pos, negsuc, false, List, [], ◌∷◌, Option, None, Some, string_bytes, codes, map, refl, arith}
+use Rattle.std.proofs.Common.{◌≡◌, ◌≤◌, ◌+◌, ℕ, ℤ, pos, negsuc, false, List, [], ◌∷◌, Option, None, Some, string_bytes, codes, map, refl, subst, sym, arith}
 use Rattle.nextest_elements.specs.declared.global_timeout.GlobalTimeout.{GlobalTimeout}
 use Rattle.nextest_elements.specs.declared.junit.JunitConfig.{JunitConfig}
 use Rattle.nextest_elements.specs.declared.leak_timeout.LeakTimeout.{LeakTimeout}
@@ -22,7 +22,7 @@ use Rattle.rinqebo_objects.specs.WarningObjects.{warning_data, warning_of, warni
 use Rattle.rinqebo_objects.specs.declared.run.RunValues.{RunValues}
 use Rattle.rinqebo_report.proofs.Exact.{IsExact, AreExact, exact_text, exact_null, exact_truth, exact_list, no_more, and_member, exact_object, exact_put, exact_puts}
 use Rattle.rinqebo_report.specs.Documents.{count_data, list_data}
-use Rattle.serde_json.specs.Data.{Data, null, number, string, no_members, Members}
+use Rattle.serde_json.specs.Data.{Data, null, number, string, no_members, Members, depth}
 use Rattle.serde_json.specs.Find.{of_integer}
 use Rattle.serde_json.specs.Written.{has_float}
 
@@ -137,6 +137,14 @@ objects facts run profiles ws ds =
     (and_member _ (run_is run profiles)
     (and_member _ (exact_list 3 (setup_script_data ds) (setup ds) facts.scripts.setup)
     (and_member _ (exact_list 3 (wrapper_script_data ds) (wrapper ds) facts.scripts.wrapper) (no_more 4))))))
+
+within : (d : Data) → IsExact 5 d → depth d ≤ 8
+within d h = omega (arith, h.nests)
+
+pub objects_nest : {facts : ProfileFacts} {profiles : List Name} {ws : List Warning} {ds : Option Directories}
+    (value : Data) → AreObjectsOf facts profiles ws ds value → depth value ≤ 8
+objects_nest {facts} {profiles} {ws} {ds} value are =
+    subst (λ (d : Data). depth d ≤ 8) (sym are.same) (within _ (objects facts are.run profiles ws ds))
 
 pub objects_are_whole : {facts : ProfileFacts} {profiles : List Name} {ws : List Warning} {ds : Option Directories}
     (value : Data) → AreObjectsOf facts profiles ws ds value → has_float value ≡ false

@@ -9,6 +9,6 @@ mod scripts;
 mod values;
 mod warnings;
 
-pub use objects::{Surroundings, objects_text};
+pub use objects::{Surroundings, objects_json, objects_text};
 pub use run::RunValues;
 pub use scripts::Directories;

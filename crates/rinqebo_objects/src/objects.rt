@@ -14,6 +14,7 @@ use crate::warnings::warnings_json;
 use nextest_engines::{Filters, Specs};
 use nextest_profiles::EvaluatableProfile;
 use nextest_sources::DefaultConfigWarnings;
+use rinqebo_report::ExactValue;
 use serde_json::{Value, json};
 use std::alloc::{AllocError, Global};
 
@@ -56,25 +57,25 @@ fn objects_with<F: Filters, S: Specs>(
     })
 }
 
-/// The objects of a profile.
-fn objects_json<F: Filters, S: Specs>(
+/// The objects of a profile: an object with the members `run`, `groups`, `setup-scripts`, `wrappers`
+/// and `findings`. Where the directories are given, programs are joined to them.
+pub fn objects_json<F: Filters, S: Specs>(
     alloc: Global,
     profile: &EvaluatableProfile<'_, F, S>,
     around: Surroundings<'_>,
-) -> Result<Value, AllocError>
+) -> Result<ExactValue, AllocError>
     ensures { let profiles = map string_bytes around.entry.profiles.now in
         let warnings = warnings_view around.entry.warnings.now in
         let directories = directories_view around.entry.directories in
-        IfOk result (λ value. AreObjectsOf profile.now.facts profiles warnings directories
-        (view value)) }
+        IfOk result (λ objects. AreObjectsOf profile.now.facts profiles warnings directories
+        (view objects.value)) }
 {
     let run = RunValues::of(alloc, profile)?;
-    objects_with(alloc, profile, &run, around)
+    let value = objects_with(alloc, profile, &run, around)?;
+    Ok(ExactValue { value })
 }
 
-/// The objects of a profile as a text without spaces: an object with the members `run`, `groups`,
-/// `setup-scripts`, `wrappers` and `findings`. Where the directories are given, programs are joined to
-/// them.
+/// The objects of a profile as a text without spaces.
 pub fn objects_text<F: Filters, S: Specs>(
     alloc: Global,
     profile: &EvaluatableProfile<'_, F, S>,
@@ -88,6 +89,6 @@ pub fn objects_text<F: Filters, S: Specs>(
         × (string_bytes text ≡ compact_text value)) }
 {
     let objects = objects_json(alloc, profile, around)?;
-    let text = objects.to_string(alloc)?;
+    let text = objects.text(alloc)?;
     Ok(text)
 }

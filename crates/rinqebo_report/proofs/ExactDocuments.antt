@@ -5,8 +5,9 @@ use Rattle.serde_json.specs.Data.{Data, null, number, array, no_items, Members, 
 use Rattle.serde_json.specs.Find.{of_integer}
 use Rattle.serde_json.specs.Read.{max_depth}
 use Rattle.serde_json.specs.Written.{has_float}
-use Rattle.rinqebo_report.specs.Document.{common_members, with_requested, with_ignored, with_content, document_data}
+use Rattle.rinqebo_report.specs.Document.{common_members, with_requested, with_ignored, with_objects, with_content, document_data}
 use Rattle.rinqebo_report.specs.Documents.{count_data, text_data, optional_text_data, optional_count_data, list_data, pair_data, lines_data, range_data, scalar_data, value_data, optional_value_data, part_data, kind_data, origin_data, setting_data, runs_data, test_data, test_id_data, entry_data, rule_data, tool_data, source_data, unreached_data, wrapper_data, place_source_data, place_lines_data, place_range_data, span_data, expression_data, expression_span_data, finding_data}
+use Rattle.rinqebo_report.specs.declared.exact_value.ExactValue.{ExactValue}
 use Rattle.rinqebo_report.specs.declared.finding.RefusedExpression.{RefusedExpression}
 use Rattle.rinqebo_report.specs.declared.finding.Finding.{Finding}
 use Rattle.rinqebo_report.specs.declared.finding.CharSpan.{CharSpan}
@@ -245,6 +246,11 @@ unused_of unused = exact_list 7 origin_data (λ o. deeper 7 (origin o) (omega ar
 wrappers_of : (wrappers : List ListWrapper) → IsExact 8 (list_data wrapper_data wrappers)
 wrappers_of wrappers = exact_list 7 wrapper_data (λ w. deeper 7 (wrapper w) (omega arith)) wrappers
 
+objects_of : {ms : Members} (objects : Option ExactValue) → AreExact 8 ms → AreExact 8 (with_objects objects ms)
+objects_of None h = h
+objects_of (Some objects) h =
+    exact_put (codes "objects") _ _ (record { nests = objects.nests; whole = objects.whole }) h
+
 content : {ms : Members} (c : Content) → AreExact 8 ms → AreExact 8 (with_content c ms)
 content (contents.Explain a t) h =
     exact_put (codes "tests") _ _ (exact_list 7 test_data test (t ∷ [])) (asked (codes "explain") a h)
@@ -252,11 +258,11 @@ content (contents.Why a t key rules is_ignored) h =
     exact_put (codes "test") _ _ (test_id t)
     (exact_put (codes "rules") _ _ (rules_of rules.items)
     (exact_put (codes "key") _ _ (text 8 key) (ignored is_ignored (asked (codes "explain") a h))))
-content (contents.List a tests unused scripts) h =
-    exact_put (codes "unused") _ _ (unused_of unused.items)
+content (contents.List a tests unused scripts objects) h =
+    objects_of objects (exact_put (codes "unused") _ _ (unused_of unused.items)
     (exact_put (codes "tests") _ _ (exact_list 7 test_data test tests.items)
     (exact_put (codes "setup-scripts") _ _ (texts 7 scripts.setup.items)
-    (exact_put (codes "list-wrappers") _ _ (wrappers_of scripts.list_wrappers.items) (asked (codes "list") a h))))
+    (exact_put (codes "list-wrappers") _ _ (wrappers_of scripts.list_wrappers.items) (asked (codes "list") a h)))))
 content (contents.ShowConfig a entries) h =
     exact_put (codes "entries") _ _ (entries_of entries.items) (asked (codes "show-config") a h)
 content contents.Check h = h

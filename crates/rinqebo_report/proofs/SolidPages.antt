@@ -201,7 +201,7 @@ pages_say n m report (contents.Explain asked test) =
 pages_say n m report (contents.Why asked test key rules is_ignored) =
     why_says n m (string_bytes report.root) (IsUtf8-string_bytes report.root) report.sources.items (string_bytes key)
     rules.items is_ignored
-pages_say n m report (contents.List asked tests unused scripts) =
+pages_say n m report (contents.List asked tests unused scripts objects) =
     let root : List ℕ = string_bytes report.root in
     let r : IsUtf8 root = IsUtf8-string_bytes report.root in
     let sources : List Source = report.sources.items in
@@ -221,7 +221,7 @@ pub groups_say : (n m : ℕ) (report : Report) (content : Content)
 groups_say n m report (contents.Explain asked test) = pages_say n m report (contents.Explain asked test)
 groups_say n m report (contents.Why asked test key rules is_ignored) =
     pages_say n m report (contents.Why asked test key rules is_ignored)
-groups_say n m report (contents.List asked tests unused scripts) =
+groups_say n m report (contents.List asked tests unused scripts objects) =
     let runs : List Run = groups_runs tests.items in
     page_of_list n m (string_bytes report.root) (IsUtf8-string_bytes report.root) report.sources.items asked
     (length tests.items) unused.items runs runs refl

@@ -1,10 +1,10 @@
--- What rows and headers keep whatever columns a page has, and which of their lines fit.
+-- What pages have in common for every number of columns, and which of their lines fit.
 use Rattle.std.specs.Prelude.{◌≡◌, ◌==◌, ◌||◌, ℕ, Bool, true, List, [], ◌∷◌, ◌++◌, ⊤, filter, not}
 use Rattle.rinqebo_report.specs.declared.piece.Colour.TheVariants as colours
 use Rattle.rinqebo_report.specs.Layout.{fits}
 use Rattle.rinqebo_report.specs.Pieces.{Run, styled, repeated, numbered, ending, page_text}
 
--- whether a byte only joins or parts what a page says: a blank, the end of a line, a comma or a
+-- whether a byte only joins or parts the texts of a page: a blank, the end of a line, a comma or a
 -- number sign
 abbrev pub is_joint : ℕ → Bool
 is_joint c = c == 32 || c == 10 || c == 44 || c == 35
@@ -13,7 +13,7 @@ is_joint c = c == 32 || c == 10 || c == 44 || c == 35
 abbrev pub solid : List ℕ → List ℕ
 solid text = filter (λ c. not (is_joint c)) text
 
--- what pieces say on a page without colours, without these bytes
+-- the page of pieces without colours, and without these bytes
 abbrev pub solid_page : List Run → List ℕ
 solid_page runs = solid (page_text colours.Plain runs)
 
@@ -25,7 +25,7 @@ IsOnLine (repeated c count ∷ runs) = IsOnLine runs
 IsOnLine (numbered n ∷ runs) = IsOnLine runs
 IsOnLine (ending ∷ runs) = ⊥
 
--- the lines of pieces, of which the first began with others
+-- the lines of pieces, after the pieces that the first line begins with
 abbrev pub lines_from : List Run → List Run → List (List Run)
 lines_from [] [] = []
 lines_from (run ∷ line) [] = (run ∷ line) ∷ []
@@ -38,6 +38,6 @@ lines_from line (ending ∷ runs) = line ∷ lines_from [] runs
 abbrev pub lines_of : List Run → List (List Run)
 lines_of runs = lines_from [] runs
 
--- a line takes no more columns than these
+-- a line takes at most so many columns
 abbrev pub Fits : ℕ → List Run → Type 0
 Fits columns line = fits columns line ≡ true

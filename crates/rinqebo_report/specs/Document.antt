@@ -1,6 +1,8 @@
 -- The document of a report.
-use Rattle.std.specs.Prelude.{ℕ, Bool, true, List, codes, string_bytes, if◌then◌else◌}
+use Rattle.std.specs.Prelude.{ℕ, Bool, true, List, Option, None, Some, codes, string_bytes, if◌then◌else◌}
 use Rattle.serde_json.specs.Data.{Data, null, boolean, string, array, object, no_items, item, Members, no_members, member, put}
+use Rattle.serde_json.specs.View.{view}
+use Rattle.rinqebo_report.specs.declared.exact_value.ExactValue.{ExactValue}
 use Rattle.rinqebo_report.specs.declared.origin.Origin.{Origin}
 use Rattle.rinqebo_report.specs.declared.report.Asked.{Asked}
 use Rattle.rinqebo_report.specs.declared.report.Content.{Content}
@@ -65,14 +67,20 @@ with_why asked test key rules is_ignored members =
     (put (codes "key") (string key)
     (with_ignored is_ignored (with_requested (codes "explain") asked members))))
 
+-- members, with what a runner needs of a profile as a whole, where it is listed
+abbrev pub with_objects : Option ExactValue → Members → Members
+with_objects None members = members
+with_objects (Some objects) members = put (codes "objects") (view objects.value) members
+
 -- members, with those of the page of a list
-abbrev pub with_list : Asked → List TestRows → List Origin → ListScripts → Members → Members
-with_list asked tests unused scripts members =
-    put (codes "unused") (list_data origin_data unused)
+abbrev pub with_list : Asked → List TestRows → List Origin → ListScripts → Option ExactValue
+    → Members → Members
+with_list asked tests unused scripts objects members =
+    with_objects objects (put (codes "unused") (list_data origin_data unused)
     (put (codes "tests") (list_data test_data tests)
     (put (codes "setup-scripts") (list_data text_data scripts.setup.items)
     (put (codes "list-wrappers") (list_data wrapper_data scripts.list_wrappers.items)
-    (with_requested (codes "list") asked members))))
+    (with_requested (codes "list") asked members)))))
 
 -- members, with those of the page of a configuration
 abbrev pub with_config : Asked → List Entry → Members → Members
@@ -85,8 +93,8 @@ abbrev pub with_content : Content → Members → Members
 with_content (contents.Explain asked test) members = with_explain asked test members
 with_content (contents.Why asked test key rules is_ignored) members =
     with_why asked test (string_bytes key) rules.items is_ignored members
-with_content (contents.List asked tests unused scripts) members =
-    with_list asked tests.items unused.items scripts members
+with_content (contents.List asked tests unused scripts objects) members =
+    with_list asked tests.items unused.items scripts objects members
 with_content (contents.ShowConfig asked entries) members =
     with_config asked entries.items members
 with_content contents.Check members = members

@@ -1,4 +1,4 @@
--- Lines of files as pages show them, with signs below their parts, and remarks below the lines.
+-- Lines of files as pages show them, the signs below them, and the remarks below findings.
 use Rattle.std.specs.Prelude.{ℕ, ◌-◌, ◌==◌, max, Bool, true, false, ◌||◌, ◌&&◌, not, List, [], ◌∷◌, ◌++◌, Option, None, Some, is_some, length, fold, flat_map, take, codes, decimal, String, string_bytes, if◌then◌else◌}
 use Rattle.std.specs.declared.alloc.Global.{Global}
 use Rattle.std.specs.Str.{chars}
@@ -13,19 +13,19 @@ use Rattle.rinqebo_report.specs.declared.finding.SourceLine.{SourceLine}
 use Rattle.rinqebo_report.specs.declared.piece.Style.TheVariants as styles
 use Rattle.rinqebo_report.specs.Pieces.{Run, styled, repeated, numbered, ending, shown_char}
 
--- a text like others
+-- a text without colours
 abbrev pub plain : List ℕ → Run
 plain text = styled styles.Plain text
 
--- a character of a line as it is shown: a tab as four spaces
+-- a character of a line on a page: a tab as four spaces
 abbrev pub line_char : ℕ → List ℕ
 line_char c = if c == 9 then codes "    " else shown_char c
 
--- a line as it is shown
+-- a line on a page
 abbrev pub line_text : List ℕ → List ℕ
 line_text text = flat_map line_char (chars text)
 
--- how many columns the first characters of a line take, as they are shown
+-- how many columns the first characters of a line take on a page
 abbrev pub front_width : List ℕ → ℕ → ℕ
 front_width text n = str_width false (chars (flat_map line_char (take n (chars text))))
 
@@ -35,7 +35,7 @@ sign_char signs.Blank = 32
 sign_char signs.Fault = 94
 sign_char signs.Related = 45
 
--- how many columns a sign takes at least: it is seen below an empty part, too
+-- the least number of columns of a sign: pages show it below an empty part, too
 abbrev pub least_width : Sign → ℕ
 least_width signs.Blank = 0
 least_width signs.Fault = 1
@@ -74,7 +74,7 @@ signs_runs w line =
 abbrev pub line_runs : ℕ → SourceLine → List Run
 line_runs w line = ending ∷ (numbered_runs w line ++ ending ∷ signs_runs w line)
 
--- whether a finding shows its help beside the carets: it has lines, and its help belongs there
+-- whether the help belongs beside the carets
 abbrev pub is_beside : HelpPlace → Bool
 is_beside places.Beside = true
 is_beside places.Below = false
@@ -84,6 +84,7 @@ abbrev pub has_some : {X : Type 0} → List X → Bool
 has_some [] = false
 has_some (x ∷ xs) = true
 
+-- whether pages show the help of a finding beside the carets: there are lines, and it belongs there
 abbrev pub shows_beside : Finding → Bool
 shows_beside finding = has_some finding.lines.items && is_beside finding.help_place
 
@@ -92,6 +93,7 @@ abbrev pub beside_runs : Option (String Global) → List Run
 beside_runs None = []
 beside_runs (Some help) = plain (codes " ") ∷ styled styles.Help (string_bytes help) ∷ []
 
+-- the help of a finding beside the carets, if pages show it there
 abbrev pub label_runs : Finding → List Run
 label_runs finding = if shows_beside finding then beside_runs finding.help else []
 
@@ -108,6 +110,7 @@ abbrev pub noted_runs : ℕ → List ℕ → String Global → List Run
 noted_runs w word text =
     margin_runs w (codes " ") ++ styled styles.Help word ∷ plain (string_bytes text) ∷ ending ∷ []
 
+-- a remark below a finding, if there is one
 abbrev pub remark_runs : ℕ → List ℕ → Option (String Global) → List Run
 remark_runs w word None = []
 remark_runs w word (Some text) = noted_runs w word text
@@ -122,12 +125,12 @@ abbrev pub parting_runs : ℕ → Finding → List Run
 parting_runs w finding =
     if parts_remarks finding then margin_runs w (codes " |") ++ ending ∷ [] else []
 
--- the help below a finding, if it is not beside the carets
+-- the help below a finding, if pages do not show it beside the carets
 abbrev pub help_runs : ℕ → Finding → List Run
 help_runs w finding =
     if shows_beside finding then [] else remark_runs w (codes "= help: ") finding.help
 
--- what is expected, what else is known, and what to do
+-- the remarks of a finding: what is expected, the notes, and the help
 abbrev pub remarks_runs : ℕ → Finding → List Run
 remarks_runs w finding =
     parting_runs w finding ++ (remark_runs w (codes "= expected: ") finding.expected

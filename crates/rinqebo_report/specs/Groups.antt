@@ -49,7 +49,7 @@ with_first found test =
 abbrev pub firsts : List TestRows → List TestRows
 firsts tests = fold with_first [] tests
 
--- a test of a group, behind four spaces
+-- a test of a group, indented by four spaces
 abbrev pub grouped_test_runs : TestRows → List Run
 grouped_test_runs test =
     plain (codes "    ") ∷ test_line_runs (string_bytes test.binary) (string_bytes test.name)
@@ -64,7 +64,7 @@ group_runs tests first =
 abbrev pub groups_runs : List TestRows → List Run
 groups_runs tests = flat_map (group_runs tests) (firsts tests)
 
--- what it is about, tests in groups, how many tests there are, and the rules that hold for none
+-- the header, tests in groups, the number of tests, and the rules that apply to none
 abbrev pub grouped_runs :
     ℕ → List ℕ → List Source → Asked → List TestRows → List Origin → List Run
 grouped_runs columns root sources asked tests unused =
@@ -73,7 +73,7 @@ grouped_runs columns root sources asked tests unused =
 
 -- the page of what a command returns, with the tests of a list in groups
 abbrev pub grouped_content_runs : ℕ → Report → Content → List Run
-grouped_content_runs columns report (contents.List asked tests unused scripts) =
+grouped_content_runs columns report (contents.List asked tests unused scripts objects) =
     grouped_runs columns (string_bytes report.root) report.sources.items asked tests.items
     unused.items
 grouped_content_runs columns report content = content_runs columns report content

@@ -11,7 +11,7 @@ use Rattle.rinqebo_report.specs.Joined.{joined}
 use Rattle.rinqebo_report.specs.Layout.{fits, remark_line}
 use Rattle.rinqebo_report.specs.Pieces.{Run, styled}
 
--- a line of a header with one part more
+-- a line of a header with one more part
 abbrev pub longer_line : List ℕ → List ℕ → List ℕ
 longer_line line part = line ++ (codes " " ++ part)
 
@@ -28,13 +28,13 @@ line_with columns line part =
 abbrev pub ended_runs : ℕ → List ℕ → List ℕ → List Run
 ended_runs columns line part = if has_room columns line part then [] else remark_line line
 
--- the lines of a header, from one that is begun on
+-- the lines of a header, from the line that is begun
 abbrev pub filled_runs : ℕ → List ℕ → List (List ℕ) → List Run
 filled_runs columns line [] = remark_line line
 filled_runs columns line (part ∷ parts) =
     ended_runs columns line part ++ filled_runs columns (line_with columns line part) parts
 
--- the lines of a header: each begins with a mark, and has as many parts as fit
+-- the lines of a header: each begins with a number sign, and has as many parts as fit
 abbrev pub header_runs : ℕ → List ℕ → List (List ℕ) → List Run
 header_runs columns first others = filled_runs columns (codes "# " ++ first) others
 
@@ -48,12 +48,12 @@ abbrev pub platform_word : BuiltFor → List ℕ
 platform_word platforms.Host = codes "host"
 platform_word platforms.Target = codes "target"
 
--- the triple of the host, and that it is only assumed
+-- the triple of the host, and whether it is only assumed
 abbrev pub host_text : Asked → List ℕ
 host_text asked =
     string_bytes asked.host ++ (if asked.assumes_host then codes " (assumed)" else [])
 
--- the triple of a platform: without a target, what is built for it runs on the host
+-- the triple of a platform: that of the host if there is no target
 abbrev pub triple_of : Asked → BuiltFor → List ℕ
 triple_of asked platforms.Host = host_text asked
 triple_of asked platforms.Target =
@@ -68,30 +68,29 @@ profiles_part asked =
 abbrev pub mode_part : Asked → List ℕ
 mode_part asked = mode_word asked.mode ++ codes ","
 
--- the names of a test: a part of a header
+-- the names of a test: the first part of a header
 abbrev pub names_part : TestRows → List ℕ
 names_part test =
     string_bytes test.binary ++ (codes " " ++ (string_bytes test.name ++ codes ","))
 
--- what a test runs on: the last part of a header
+-- the platform that a test runs on: the last part of a header
 abbrev pub platform_part : Asked → TestRows → List ℕ
 platform_part asked test =
     platform_word test.platform ++ (codes " " ++ triple_of asked test.platform)
 
--- the triples of a build, the last parts of a header: that of the host alone where there is no
--- target
+-- the triples of a build, the last parts of a header: that of the host alone if there is no target
 abbrev pub build_parts : List ℕ → Option (List ℕ) → List (List ℕ)
 build_parts host None = host ∷ []
 build_parts host (Some target) =
     (codes "host " ++ (host ++ codes ",")) ∷ (codes "target " ++ target) ∷ []
 
--- what a page is about: the test, the profiles, the mode, and what it runs on
+-- the header of a test: the test, the profiles, the mode, and the platform
 abbrev pub test_header_runs : ℕ → Asked → TestRows → List Run
 test_header_runs columns asked test =
     header_runs columns (names_part test)
     (profiles_part asked ∷ mode_part asked ∷ platform_part asked test ∷ [])
 
--- what a list is about: the profiles, the mode, and what the tests run on
+-- the header of a list: the profiles, the mode, and the platforms
 abbrev pub list_head_runs : ℕ → Asked → List Run
 list_head_runs columns asked =
     header_runs columns (profiles_part asked)

@@ -15,7 +15,7 @@ use Rattle.rinqebo_report.specs.declared.origin.SourceKind.TheVariants as kinds
 use Rattle.rinqebo_report.specs.declared.origin.Written.{Written}
 use Rattle.rinqebo_report.specs.TomlText.{key_text}
 
--- what follows a prefix of a text, if the text begins with it
+-- the rest of a text after a prefix, if the text begins with it
 abbrev pub after_prefix : List ℕ → List ℕ → Option (List ℕ)
 after_prefix [] text = Some text
 after_prefix (c ∷ prefix) [] = None
@@ -25,13 +25,13 @@ after_prefix (c ∷ prefix) (d ∷ text) = if c == d then after_prefix prefix te
 abbrev pub ends_with_slash : List ℕ → Bool
 ends_with_slash path = slice_index path (length path - 1) == 47
 
--- what follows a root, without a slash if the root does not end with one
+-- the rest of a path after a root, without a slash if the root does not end with one
 abbrev pub behind_root : Bool → List ℕ → Option (List ℕ)
 behind_root true rest = Some rest
 behind_root false rest = after_prefix (codes "/") rest
 
--- a path below a root without the root and the slash behind it, and another path as it is, such as
--- each path where the root is empty
+-- a path below a root without the root and the slash after it, and another path as it is, such as
+-- each path if the root is empty
 abbrev pub below : List ℕ → List ℕ → List ℕ
 below root path =
     if length root == 0 then path
@@ -64,7 +64,7 @@ abbrev pub range_text : Option Range → Option FileLines → List ℕ
 range_text (Some range) lines = position_text range.start
 range_text None lines = lines_text lines
 
--- the tool that brings a source, if one does
+-- the tool that a source comes from, if it comes from one
 abbrev pub tool_of : SourceKind → Option (List ℕ)
 tool_of kinds.Default = None
 tool_of (kinds.Tool name) = Some (string_bytes name)
@@ -72,7 +72,7 @@ tool_of kinds.Organisation = None
 tool_of kinds.Explicit = None
 tool_of kinds.Discovered = None
 
--- the tool that brings the source at a place among sources
+-- the tool that the source at a place among sources comes from
 abbrev pub tool_at : List Source → ℕ → Option (List ℕ)
 tool_at sources n = option_and_then (λ s. tool_of s.kind) (slice_get sources n)
 

@@ -39,29 +39,29 @@ use Rattle.rinqebo_report.specs.OriginText.{origin_text, origin_texts, path_at, 
 use Rattle.rinqebo_report.specs.Pieces.{Run, styled, repeated, numbered, ending, shown_char}
 use Rattle.rinqebo_report.specs.TomlText.{value_text}
 
--- a text like others
+-- a text without colours
 abbrev pub plain : List ℕ → Run
 plain text = styled styles.Plain text
 
--- how wide the key of a row is: a row without a value counts for nothing
+-- how wide the key of a row is: 0 if the row has no value
 abbrev pub key_width : SettingRow → ℕ
 key_width row = if is_some row.value then width (string_bytes row.key) else 0
 
--- how wide the widest key of rows is
+-- the width of the widest key of rows
 abbrev pub widest : List SettingRow → ℕ
 widest rows = fold (λ w row. max w (key_width row)) 0 rows
 
--- how wide the widest key of the rows of a test is that pages show
+-- the width of the widest key of the rows that pages show of a test
 abbrev pub widest_shown : TestRows → ℕ
 widest_shown test =
     if test.shows_runs then max (widest test.settings.items) (key_width test.runs)
     else widest test.settings.items
 
--- what a page shows of whether a test runs: nothing where that is not shown
+-- the row of `runs`, if pages show it
 abbrev pub runs_shown : List Run → TestRows → List Run
 runs_shown runs test = if test.shows_runs then runs else []
 
--- the rows of a test, as a page shows them: whether it runs comes first
+-- the rows of a test, as pages show them: that of `runs` comes first
 abbrev pub rows_shown : List Run → (SettingRow → List Run) → TestRows → List Run
 rows_shown runs g test = runs_shown runs test ++ flat_map g test.settings.items
 
@@ -69,18 +69,18 @@ rows_shown runs g test = runs_shown runs test ++ flat_map g test.settings.items
 abbrev pub absent_runs : List ℕ → List Run
 absent_runs key = remark_line (codes "# " ++ (key ++ codes ": none"))
 
--- the column of the keys of a test's rows, behind so many blanks
+-- the column of the keys of a test's rows, indented by so many blanks
 abbrev pub key_column : ℕ → TestRows → KeyColumn
 key_column indent test = record { indent = indent; width = widest_shown test }
 
--- a row without what is said of it: the key, an equals sign, and the value
+-- a row without its remarks: the key, an equals sign, and the value
 abbrev pub value_front : KeyColumn → List ℕ → List ℕ → List Run
 value_front keys key value =
     repeated 32 keys.indent ∷ styled styles.Key key ∷ repeated 32 (keys.width - width key)
     ∷ plain (codes " = ") ∷ plain value ∷ []
 
--- what is said of a row with this value: behind the column of the values, or four blanks further
--- than the row
+-- the remarks of a row with this value: after the column of the values, or below the row, indented
+-- by four more blanks
 abbrev pub value_said : KeyColumn → List ℕ → List (List ℕ) → Said
 value_said keys value texts = record {
   mark = Comment;
@@ -102,19 +102,19 @@ row_runs columns root sources keys row =
     setting_runs columns keys (string_bytes row.key) (option_map value_text row.value)
     (origin_texts root sources row.origins.items)
 
--- what is said of whether a test runs: the origins, or that a list says that it is ignored
+-- the remarks of the row of `runs`: its origins, or that a list says that it is ignored
 abbrev pub runs_said : List ℕ → List Source → TestRows → List (List ℕ)
 runs_said root sources test =
     if test.is_ignored then codes "ignored in LIST" ∷ []
     else origin_texts root sources test.runs.origins.items
 
--- the row of whether a test runs
+-- the row of `runs`
 abbrev pub runs_row_runs : ℕ → List ℕ → List Source → KeyColumn → TestRows → List Run
 runs_row_runs columns root sources keys test =
     setting_runs columns keys (string_bytes test.runs.key) (option_map value_text test.runs.value)
     (runs_said root sources test)
 
--- the rows of a test, behind so many blanks
+-- the rows of a test, indented by so many blanks
 abbrev pub test_runs : ℕ → ℕ → List ℕ → List Source → TestRows → List Run
 test_runs columns indent root sources test =
     rows_shown (runs_row_runs columns root sources (key_column indent test) test)
@@ -134,7 +134,7 @@ verdict_text verdicts.DecidedBefore = codes "decided before"
 verdict_text verdicts.Decides = codes "decides"
 verdict_text verdicts.Fallback = codes "fallback"
 
--- how a verdict is shown
+-- the style of a verdict
 abbrev pub verdict_style : Verdict → Style
 verdict_style verdicts.Decides = styles.Good
 verdict_style _ = styles.Plain
@@ -144,24 +144,24 @@ abbrev pub number_run : Verdict → ℕ → Run
 number_run verdicts.Fallback n = plain (codes "-")
 number_run _ n = numbered (n + 1)
 
--- what a page shows of a condition: that it does not hold, or that this is unknown
+-- what pages show of a condition: that it does not hold, or that this is unknown
 abbrev pub reported_answer : ConditionAnswer → Option (List ℕ)
 reported_answer answers.No = Some (codes ": no")
 reported_answer answers.Unknown = Some (codes ": unknown")
 reported_answer _ = None
 
--- a line of a rule, if it shows something
+-- a condition, if pages show something of its result
 abbrev pub reported_runs : List ℕ → List ℕ → Option (List ℕ) → List Run
 reported_runs word text None = []
-reported_runs word text (Some told) =
-    plain (codes "     ") ∷ plain word ∷ plain (codes " ") ∷ plain text ∷ plain told ∷ ending ∷ []
+reported_runs word text (Some shown) =
+    plain (codes "     ") ∷ plain word ∷ plain (codes " ") ∷ plain text ∷ plain shown ∷ ending ∷ []
 
--- a condition, where it does not hold or is unknown
+-- a condition, if it does not hold or is unknown
 abbrev pub condition_runs : List ℕ → Condition → List Run
 condition_runs word condition =
     reported_runs word (string_bytes condition.text) (reported_answer condition.answer)
 
--- what a rule writes is shown where it decides, or another one does so before it
+-- whether pages show what a rule writes: it decides, or would if no rule before it did
 abbrev pub shows_value : Verdict → Bool
 shows_value verdicts.PlatformNo = false
 shows_value verdicts.FilterNo = false
@@ -199,7 +199,7 @@ conditions_runs rule =
     condition_runs (codes "host") rule.host
     ++ (condition_runs (codes "target") rule.target ++ condition_runs (codes "filter") rule.filter)
 
--- a rule: the verdict, and then what says so
+-- a rule: the verdict, the conditions, and what it writes
 abbrev pub rule_runs : ℕ → List ℕ → List Source → List ℕ → ℕ → Rule → List Run
 rule_runs columns root sources key n rule =
     verdict_runs columns n rule.verdict
@@ -214,12 +214,12 @@ rules_runs columns root sources key n (rule ∷ rules) =
     rule_runs columns root sources key n rule
     ++ rules_runs columns root sources key (n + 1) rules
 
--- that a test does not run, since a list says that it is ignored
+-- that a test does not run, if a list says that it is ignored
 abbrev pub ignored_runs : Bool → List Run
 ignored_runs is_ignored =
     if is_ignored then remark_line (codes "# runs = false: ignored in LIST") else []
 
--- rules, and whether what they decide is that a test runs which a list says to be ignored
+-- the page of a key: the rules, and that a list says that the test is ignored, if it does
 abbrev pub why_runs : ℕ → List ℕ → List Source → List ℕ → List Rule → Bool → List Run
 why_runs columns root sources key rules is_ignored =
     rules_runs columns root sources key 0 rules ++ ignored_runs is_ignored
@@ -234,27 +234,27 @@ listed_runs columns root sources test =
     test_line_runs (string_bytes test.binary) (string_bytes test.name)
     ++ test_runs columns 4 root sources test
 
--- how many tests there are
+-- the number of tests
 abbrev pub count_runs : ℕ → List Run
 count_runs n = plain (codes "tests: ") ∷ numbered n ∷ ending ∷ []
 
--- a rule that holds for no test, and its origin
+-- the origins of a rule that applies to no test
 abbrev pub unused_line_runs : ℕ → List (List ℕ) → List Run
 unused_line_runs columns texts =
     remarked_runs columns (plain (codes "unused:") ∷ [])
     (record { mark = Bare; gap = 1; indent = 4; texts = texts })
 
--- a rule of this origin, which holds for no test
+-- a rule with this origin, which applies to no test
 abbrev pub unused_runs : ℕ → List ℕ → List Source → Origin → List Run
 unused_runs columns root sources origin =
     unused_line_runs columns (origin_texts root sources (origin ∷ []))
 
--- how many tests a list has, and the rules that hold for none of them
+-- the number of tests, and the rules that apply to none of them
 abbrev pub list_end_runs : ℕ → List ℕ → List Source → ℕ → List Origin → List Run
 list_end_runs columns root sources n unused =
     count_runs n ++ flat_map (unused_runs columns root sources) unused
 
--- what it is about, the tests, how many there are, and the rules that hold for none
+-- the page of a list: the header, the tests, their number, and the rules that apply to none
 abbrev pub list_runs :
     ℕ → List ℕ → List Source → Asked → List TestRows → List Origin → List Run
 list_runs columns root sources asked tests unused =
@@ -262,11 +262,11 @@ list_runs columns root sources asked tests unused =
     ++ (flat_map (listed_runs columns root sources) tests
     ++ list_end_runs columns root sources (length tests) unused)
 
--- how wide the key of a leaf is: one that is hidden counts for nothing
+-- how wide the key of a leaf is: 0 if another leaf hides it
 abbrev pub entry_width : Entry → ℕ
 entry_width entry = if entry.is_hidden then 0 else width (string_bytes entry.key)
 
--- how wide the widest key of leaves is
+-- the width of the widest key of leaves
 abbrev pub widest_entry : List Entry → ℕ
 widest_entry entries = fold (λ w entry. max w (entry_width entry)) 0 entries
 
@@ -300,7 +300,7 @@ abbrev pub level_word : Level → List ℕ
 level_word levels.Error = codes "error"
 level_word levels.Warning = codes "warning"
 
--- how a level is shown
+-- the style of a level
 abbrev pub level_style : Level → Style
 level_style levels.Error = styles.Error
 level_style levels.Warning = styles.Warning
@@ -352,11 +352,11 @@ head_runs root sources finding message =
     head_line_runs (finding_place root sources finding.place finding.column)
     (level_style finding.level) (level_text finding) message
 
--- how many characters the first ones of a text take, as they are shown
+-- how many columns the first characters of a text take on a page
 abbrev pub shown_width : List ℕ → ℕ → ℕ
 shown_width text n = width (flat_map shown_char (take n (chars text)))
 
--- a caret below each character of a span, and one at least
+-- carets below the characters of a span, at least one
 abbrev pub caret_runs : List ℕ → Option CharSpan → List Run
 caret_runs text None = []
 caret_runs text (Some span) =
@@ -370,7 +370,7 @@ expression_runs (Some expression) =
     plain (codes "    ") ∷ plain (string_bytes expression.text) ∷ ending
     ∷ caret_runs (string_bytes expression.text) expression.span
 
--- an expression that no line shows
+-- the expression of a finding, if no line shows it
 abbrev pub apart_runs : Finding → List Run
 apart_runs finding =
     if has_some finding.lines.items then [] else expression_runs finding.expression
@@ -432,13 +432,13 @@ summary_text report =
     ++ flat_map (unreached_text (string_bytes report.root) report.sources.items)
     report.unreached.items
 
--- how many findings follow those that a page shows
+-- how many findings a page leaves out
 abbrev pub further_runs : ℕ → List Run
 further_runs n =
     if n == 0 then []
     else plain (codes "further findings: ") ∷ numbered n ∷ ending ∷ ending ∷ []
 
--- the first hundred findings, and how many there are beside them
+-- the first hundred findings, and how many a page leaves out
 abbrev pub findings_runs : Report → List Run
 findings_runs report =
     flat_map (finding_runs (string_bytes report.root) report.sources.items)
@@ -459,14 +459,14 @@ concise_runs report =
 abbrev pub check_runs : Report → List Run
 check_runs report = findings_runs report ++ (plain (summary_text report) ∷ ending ∷ [])
 
--- the page of what a command returns, whose lines have so many columns
+-- the page of a command's result, with so many columns
 abbrev pub content_runs : ℕ → Report → Content → List Run
 content_runs columns report (contents.Explain asked test) =
     explain_runs columns (string_bytes report.root) report.sources.items asked test
 content_runs columns report (contents.Why asked test key rules is_ignored) =
     why_runs columns (string_bytes report.root) report.sources.items (string_bytes key)
     rules.items is_ignored
-content_runs columns report (contents.List asked tests unused scripts) =
+content_runs columns report (contents.List asked tests unused scripts objects) =
     list_runs columns (string_bytes report.root) report.sources.items asked tests.items
     unused.items
 content_runs columns report (contents.ShowConfig asked entries) =

@@ -17,7 +17,7 @@ use crate::toml_text::value_text;
 use serde_json::{Map, Value, put};
 use std::alloc::{AllocError, Global};
 
-/// How wide the key of a leaf is: one that is hidden counts for nothing.
+/// How wide the key of a leaf is: 0 if another leaf hides it.
 fn entry_width(entry: &Entry) -> usize
     ensures { result ≡ entry_width entry.now }
 {
@@ -28,7 +28,7 @@ fn entry_width(entry: &Entry) -> usize
     }
 }
 
-/// How wide the widest key of leaves is.
+/// The width of the widest key of leaves.
 fn widest_entry(entries: &[Entry]) -> usize
     ensures { result ≡ widest_entry entries.now }
 {

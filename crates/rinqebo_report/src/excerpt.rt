@@ -1,4 +1,4 @@
-//! The lines of a file that show a fault, with signs below their parts, and remarks below the lines.
+//! The lines of a file that show a fault, the signs below them, and the remarks below the finding.
 ghost use Rattle.std.specs.Prelude.{◌≡◌, [], ◌∷◌, ◌++◌, OnOk, IfOk, codes, flat_map, string_bytes};
 ghost use Rattle.std.specs.Str.{chars};
 ghost use Rattle.rinqebo_report.specs.Excerpts.{line_char, line_text, front_width, sign_char, least_width, part_runs, margin_runs, digit_count, number_width, numbered_runs, signs_runs, line_runs, is_beside, shows_beside, has_some, beside_runs, label_runs, excerpt_runs, noted_runs, remark_runs, parts_remarks, parting_runs, help_runs, remarks_runs};
@@ -20,7 +20,7 @@ fn add_line_char(out: &mut String, c: char) -> Result<(), AllocError>
     }
 }
 
-/// Returns a line as it is shown.
+/// Returns a line as pages show it.
 fn line_text(alloc: Global, text: &str) -> Result<String, AllocError>
     ensures { IfOk result (λ shown. string_bytes shown ≡ line_text text.now) }
 {
@@ -31,7 +31,7 @@ fn line_text(alloc: Global, text: &str) -> Result<String, AllocError>
     Ok(shown)
 }
 
-/// How many columns the first characters of a line take, as they are shown.
+/// How many columns the first characters of a line take on a page.
 fn front_width(alloc: Global, text: &str, count: usize) -> Result<usize, AllocError>
     ensures { IfOk result (λ width. width ≡ front_width text.now count) }
 {
@@ -54,7 +54,7 @@ impl Sign {
         }
     }
 
-    /// How many columns it takes at least.
+    /// The least number of columns that it takes.
     fn least_width(self) -> usize
         ensures { result ≡ least_width self }
     {
@@ -216,7 +216,7 @@ fn add_lines(
 }
 
 impl HelpPlace {
-    /// Whether it is beside the carets.
+    /// Whether pages show the help beside the carets.
     fn is_beside(self) -> bool
         ensures { result ≡ is_beside self }
     {
@@ -242,7 +242,7 @@ fn has_notes(notes: &[String]) -> bool
 }
 
 impl Finding {
-    /// Whether it shows its help beside the carets.
+    /// Whether pages show its help beside the carets.
     fn shows_beside(&self) -> bool
         ensures { result ≡ shows_beside self.now }
     {
@@ -275,7 +275,7 @@ fn add_beside(out: &mut String, colour: Colour, help: &Option<String>) -> Result
     )
 }
 
-/// Writes the help of a finding beside the carets, if it shows it there.
+/// Writes the help of a finding beside the carets, if pages show it there.
 fn add_label(out: &mut String, colour: Colour, finding: &Finding) -> Result<(), AllocError>
     ensures { OnOk result (string_bytes out.new ≡ string_bytes out.old
         ++ page_text colour (label_runs finding.now)) }
@@ -397,7 +397,7 @@ fn add_help(
     }
 }
 
-/// Writes what is expected, what else is known, and what to do.
+/// Writes the remarks of a finding: what is expected, the notes, and the help.
 pub(crate) fn add_remarks(
     out: &mut String,
     colour: Colour,

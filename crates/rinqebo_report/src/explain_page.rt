@@ -22,7 +22,7 @@ use std::alloc::{AllocError, Global};
 /// The least number of columns that a value takes.
 const VALUE_WIDTH: usize = 12;
 
-/// How wide the key of a row is: a row without a value counts for nothing.
+/// How wide the key of a row is: 0 if the row has no value.
 fn key_width(row: &SettingRow) -> usize
     ensures { result ≡ key_width row.now }
 {
@@ -33,7 +33,7 @@ fn key_width(row: &SettingRow) -> usize
     }
 }
 
-/// How wide the widest key of rows is.
+/// The width of the widest key of rows.
 pub(crate) fn widest(rows: &[SettingRow]) -> usize
     ensures { result ≡ widest rows.now }
 {
@@ -44,7 +44,7 @@ pub(crate) fn widest(rows: &[SettingRow]) -> usize
     most
 }
 
-/// How wide the widest key of the rows of a test is that pages show.
+/// The width of the widest key of the rows that pages show of a test.
 pub(crate) fn widest_shown(test: &TestRows) -> usize
     ensures { result ≡ widest_shown test.now }
 {
@@ -80,7 +80,7 @@ impl BuiltFor {
     }
 }
 
-/// Writes the triple of the host, and that it is only assumed.
+/// Writes the triple of the host, and whether it is only assumed.
 pub(crate) fn add_host(out: &mut String, asked: &Asked) -> Result<(), AllocError>
     ensures { OnOk result (string_bytes out.new
         ≡ string_bytes out.old ++ host_text asked.now) }
@@ -93,7 +93,7 @@ pub(crate) fn add_host(out: &mut String, asked: &Asked) -> Result<(), AllocError
     }
 }
 
-/// Writes the triple of a platform: without a target, what is built for it runs on the host.
+/// Writes the triple of a platform: that of the host if there is no target.
 fn add_triple(out: &mut String, asked: &Asked, platform: BuiltFor) -> Result<(), AllocError>
     ensures { OnOk result (string_bytes out.new
         ≡ string_bytes out.old ++ triple_of asked.now platform) }
@@ -137,7 +137,7 @@ pub(crate) fn mode_part(alloc: Global, asked: &Asked) -> Result<String, AllocErr
     Ok(part)
 }
 
-/// The names of a test: a part of a header.
+/// The names of a test: the first part of a header.
 fn names_part(alloc: Global, test: &TestRows) -> Result<String, AllocError>
     ensures { IfOk result (λ part. string_bytes part ≡ names_part test.now) }
 {
@@ -146,7 +146,7 @@ fn names_part(alloc: Global, test: &TestRows) -> Result<String, AllocError>
     format!(in alloc; "{binary} {name},")
 }
 
-/// What a test runs on: the last part of a header.
+/// The platform that a test runs on: the last part of a header.
 fn platform_part(alloc: Global, asked: &Asked, test: &TestRows) -> Result<String, AllocError>
     ensures { IfOk result (λ part. string_bytes part ≡ platform_part asked.now test.now) }
 {
@@ -156,7 +156,7 @@ fn platform_part(alloc: Global, asked: &Asked, test: &TestRows) -> Result<String
     Ok(part)
 }
 
-/// The parts of a header behind the names of the test.
+/// The parts of a header after the names of the test.
 fn request_parts(alloc: Global, asked: &Asked, test: &TestRows) -> Result<Vec<String>, AllocError>
     ensures { IfOk result (λ parts. map string_bytes parts.items
         ≡ profiles_part asked.now ∷ mode_part asked.now ∷ platform_part asked.now test.now ∷ []) }
@@ -167,7 +167,7 @@ fn request_parts(alloc: Global, asked: &Asked, test: &TestRows) -> Result<Vec<St
     Ok(vec![in alloc; profiles, mode, platform]?)
 }
 
-/// Writes what a page is about: the test, the profiles, the mode, and what it runs on.
+/// Writes the header of a page: the test, the profiles, the mode, and the platform.
 fn add_test_header(
     alloc: Global,
     out: &mut String,
@@ -274,7 +274,7 @@ fn add_row(
     }
 }
 
-/// What is said of whether a test runs: the origins, or that a list says that it is ignored.
+/// The remarks of the row of `runs`: its origins, or that a list says that the test is ignored.
 fn runs_said(
     alloc: Global,
     root: &str,
@@ -291,7 +291,7 @@ fn runs_said(
     }
 }
 
-/// Writes the row of whether a test runs.
+/// Writes the row of `runs`.
 fn add_runs_row(
     alloc: Global,
     out: &mut String,
@@ -316,7 +316,7 @@ fn add_runs_row(
     }
 }
 
-/// Writes the row of whether a test runs, if it is shown.
+/// Writes the row of `runs`, if pages show it.
 fn add_runs(
     alloc: Global,
     out: &mut String,
@@ -337,7 +337,7 @@ fn add_runs(
     }
 }
 
-/// The column of the keys of a test's rows, behind so many blanks.
+/// The column of the keys of a test's rows, indented by so many blanks.
 fn key_column(indent: u8, test: &TestRows) -> KeyColumn
     ensures { result ≡ key_column indent test.now }
 {
@@ -347,7 +347,7 @@ fn key_column(indent: u8, test: &TestRows) -> KeyColumn
     }
 }
 
-/// Writes the rows of a test, behind so many blanks.
+/// Writes the rows of a test, indented by so many blanks.
 pub(crate) fn add_rows(
     alloc: Global,
     out: &mut String,

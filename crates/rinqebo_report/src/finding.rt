@@ -9,7 +9,7 @@ use std::alloc::Global;
 pub enum Level {
     /// The files are refused.
     Error,
-    /// They are not.
+    /// The files are accepted.
     Warning,
 }
 
@@ -18,7 +18,7 @@ pub enum Level {
 pub struct CharSpan {
     /// The first character.
     pub from: usize,
-    /// The one behind the last.
+    /// The one after the last.
     pub to: usize,
 }
 
@@ -58,7 +58,7 @@ pub struct SourceLine {
     pub number: u64,
     /// Its text, without the end of the line.
     pub text: String,
-    /// Its parts up to the last one with a sign, each behind the other.
+    /// Its parts up to the last one with a sign, each right after the one before it.
     pub parts: Vec<LinePart>,
 }
 
@@ -86,7 +86,7 @@ pub struct Finding {
     pub column: Option<u64>,
     /// The keys that lead to it, with dots between them.
     pub path: Option<String>,
-    /// What is wrong, on one line.
+    /// The message, on one line.
     pub message: String,
     /// The lines of the file that show it.
     pub lines: Vec<SourceLine>,

@@ -28,7 +28,7 @@ impl Level {
         }
     }
 
-    /// How it is shown.
+    /// The style in which pages show it.
     fn style(self) -> Style
         ensures { result ≡ level_style self }
     {
@@ -170,7 +170,7 @@ fn add_concise_line(
     add_head(alloc, out, colour, root, sources, finding, message.as_str())
 }
 
-/// How many characters the first ones of a text take, as they are shown.
+/// How many columns the first characters of a text take on a page.
 fn shown_width(alloc: Global, text: &str, count: usize) -> Result<usize, AllocError>
     ensures { IfOk result (λ width. width ≡ shown_width text.now count) }
 {
@@ -181,7 +181,7 @@ fn shown_width(alloc: Global, text: &str, count: usize) -> Result<usize, AllocEr
     Ok(width(front.as_str()))
 }
 
-/// Writes a caret below each character of a span, and one at least.
+/// Writes carets below the characters of a span, at least one.
 fn add_carets(
     alloc: Global,
     out: &mut String,
@@ -235,7 +235,7 @@ fn add_expression(
     add_carets(alloc, out, colour, text, expression.span)
 }
 
-/// Writes an expression that no line shows.
+/// Writes the expression of a finding, if no line shows it.
 fn add_apart(
     alloc: Global,
     out: &mut String,
@@ -406,7 +406,7 @@ fn add_shown(
     Ok(())
 }
 
-/// Writes how many findings follow those that a page shows.
+/// Writes how many findings a page leaves out.
 fn add_further(out: &mut String, colour: Colour, further: usize) -> Result<(), AllocError>
     ensures { OnOk result (string_bytes out.new ≡ string_bytes out.old
         ++ page_text colour (further_runs further)) }
@@ -426,7 +426,7 @@ fn add_further(out: &mut String, colour: Colour, further: usize) -> Result<(), A
     )
 }
 
-/// Writes the first findings, and how many there are beside them.
+/// Writes the findings that a page shows, and how many it leaves out.
 pub(crate) fn add_findings(
     alloc: Global,
     out: &mut String,

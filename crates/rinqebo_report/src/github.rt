@@ -65,7 +65,7 @@ fn add_lines(out: &mut String, lines: Option<FileLines>) -> Result<(), AllocErro
     }
 }
 
-/// Writes the properties of the columns of a range. GitHub takes them where the range is on one line.
+/// Writes the columns of a range as properties. GitHub takes them if the range is on one line.
 fn add_columns(out: &mut String, range: Range) -> Result<(), AllocError>
     ensures { OnOk result (string_bytes out.new ≡ string_bytes out.old ++ columns_property range) }
 {

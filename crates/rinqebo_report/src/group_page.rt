@@ -1,4 +1,4 @@
-//! The page of groups: tests, put together where the same is reported of them.
+//! The page of groups: a group has the tests for which pages show the same.
 ghost use Rattle.std.specs.Prelude.{◌≡◌, ◌++◌, Some, IfOk, OnOk, filter, flat_map, map, string_bytes};
 ghost use Rattle.std.specs.List.{list_any};
 ghost use Rattle.rinqebo_report.specs.Groups.{reported_line_runs, reported_row_runs, reported_runs, reported_text, has_reported, firsts, grouped_test_runs, group_runs, groups_runs, grouped_runs};
@@ -36,7 +36,7 @@ fn add_reported_value<'x>(
     )
 }
 
-/// Writes what is reported of a setting.
+/// Writes what pages show of a setting.
 fn add_reported_row(
     alloc: Global,
     out: &mut String,
@@ -56,7 +56,7 @@ fn add_reported_row(
     }
 }
 
-/// Writes whether a test runs, if it is shown.
+/// Writes whether a test runs, if pages show it.
 fn add_reported_runs(
     alloc: Global,
     out: &mut String,
@@ -73,7 +73,7 @@ fn add_reported_runs(
     }
 }
 
-/// Writes what is reported of a test.
+/// Writes what pages show of a test.
 fn add_reported(
     alloc: Global,
     out: &mut String,
@@ -90,7 +90,7 @@ fn add_reported(
     Ok(())
 }
 
-/// What is reported of a test, as a text.
+/// What pages show of a test, as a text.
 fn reported_text(alloc: Global, test: &TestRows) -> Result<String, AllocError>
     ensures { IfOk result (λ text. string_bytes text ≡ reported_text test.now) }
 {
@@ -99,16 +99,16 @@ fn reported_text(alloc: Global, test: &TestRows) -> Result<String, AllocError>
     Ok(text)
 }
 
-/// Whether a text is reported of a test.
+/// Whether a text is what pages show of a test.
 fn has_reported(alloc: Global, test: &TestRows, text: &str) -> Result<bool, AllocError>
     ensures { IfOk result (λ has. has ≡ has_reported text.now test.now) }
 {
-    let told = reported_text(alloc, test)?;
-    Ok(told.as_str() == text)
+    let shown = reported_text(alloc, test)?;
+    Ok(shown.as_str() == text)
 }
 
-/// Whether a text is reported of one of some tests.
-fn is_told(alloc: Global, tests: &[&TestRows], text: &str) -> Result<bool, AllocError>
+/// Whether a text is what pages show of one of some tests.
+fn any_reported(alloc: Global, tests: &[&TestRows], text: &str) -> Result<bool, AllocError>
     ensures { IfOk result (λ is. is
         ≡ list_any (has_reported text.now) (map (λ test. test.now) tests.now)) }
 {
@@ -120,14 +120,14 @@ fn is_told(alloc: Global, tests: &[&TestRows], text: &str) -> Result<bool, Alloc
     Ok(false)
 }
 
-/// Of tests those that are the first of which something is reported.
+/// The first test of each group.
 fn firsts<'t>(alloc: Global, tests: &'t [TestRows]) -> Result<Vec<&'t TestRows>, AllocError>
     ensures { IfOk result (λ found. map (λ test. test.now) found.items ≡ firsts tests.now) }
 {
     let mut found: Vec<&'t TestRows> = Vec::new(alloc);
     for test in tests {
         let text = reported_text(alloc, test)?;
-        if !is_told(alloc, &found, text.as_str())? {
+        if !any_reported(alloc, &found, text.as_str())? {
             found.push(test)?;
         }
     }
@@ -143,7 +143,7 @@ fn add_grouped_test(out: &mut String, colour: Colour, test: &TestRows) -> Result
     add_test_line(out, colour, test.binary.as_str(), test.name.as_str())
 }
 
-/// Writes the tests of which a text is reported.
+/// Writes the tests for which pages show a text.
 fn add_grouped_tests(
     alloc: Global,
     out: &mut String,
@@ -194,7 +194,7 @@ fn add_groups(
     Ok(())
 }
 
-/// Writes the page of a list whose tests are put into groups.
+/// Writes the page of a list, with the tests in groups.
 pub(crate) fn add_grouped(
     alloc: Global,
     out: &mut String,

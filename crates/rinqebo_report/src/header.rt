@@ -7,7 +7,7 @@ use crate::layout::{Paper, add_remark, fits};
 use crate::piece::{Colour, Piece, Style};
 use std::alloc::{AllocError, Global};
 
-/// Whether a line of a header fits with one part more.
+/// Whether a line of a header has room for one more part.
 fn has_room(alloc: Global, columns: usize, line: &str, part: &str) -> Result<bool, AllocError>
     ensures { IfOk result (λ has. has ≡ has_room columns line.now part.now) }
 {
@@ -19,8 +19,8 @@ fn has_room(alloc: Global, columns: usize, line: &str, part: &str) -> Result<boo
     )
 }
 
-/// Puts a part behind a line of a header if there is room, and else writes the line and begins
-/// another.
+/// Returns a line of a header with one more part. If there is no room for it, writes the line,
+/// and returns another one with the part.
 fn add_part(
     alloc: Global,
     out: &mut String,
@@ -41,7 +41,7 @@ fn add_part(
     }
 }
 
-/// Writes a header: lines that begin with a mark, as many parts on each as fit.
+/// Writes a header: lines that begin with a number sign, with as many parts on each as fit.
 pub(crate) fn add_header(
     alloc: Global,
     out: &mut String,

@@ -84,7 +84,8 @@ impl Content {
                 tests,
                 unused,
                 scripts,
-            } => put_list(members, alloc, asked, tests, unused, scripts),
+                objects,
+            } => put_list(members, alloc, asked, tests, unused, scripts, objects),
             Content::ShowConfig { asked, entries } => put_config(members, alloc, asked, entries),
             Content::Check => Ok(()),
         }

@@ -25,8 +25,8 @@ pub fn law_durations()
     ensures { (n : ℕ) → n < 2 ^ 128 → read_duration (duration_text n) ≡ Some n }
 {}
 
-/// A page says the same for every number of columns: but for blanks, ends of lines, commas and
-/// number signs its text is the same.
+/// A page has the same text for every number of columns, apart from blanks, ends of lines, commas
+/// and number signs.
 pub fn law_columns()
     ensures pages { (columns others : ℕ) (report : Report) (content : Content)
         → solid_page (content_runs columns report content)
@@ -36,8 +36,8 @@ pub fn law_columns()
         ≡ solid_page (grouped_content_runs others report content) }
 {}
 
-/// Each line of a row fits if the row without what is said of it does, and each text that says it
-/// on a line of its own. Each line of a header fits if each part does on a line of its own.
+/// Each line of a row and its remarks fits if the row alone fits, and each remark on a line of its
+/// own. Each line of a header fits if each part fits on a line of its own.
 pub fn law_lines()
     ensures rows { (columns : ℕ) (front : List Run) (said : Said) → IsOnLine front
         → Fits columns front → AllByRecursion (λ text. Fits columns

@@ -1,4 +1,4 @@
-//! Rows within the columns of a page: what is said of a row is beside it, or else below it.
+//! Rows within the columns of a page: the remarks of a row are beside it, or else below it.
 ghost use Rattle.std.specs.Prelude.{◌≡◌, [], ◌∷◌, ◌++◌, OnOk, IfOk, codes, flat_map, map, string_bytes};
 ghost use Rattle.rinqebo_report.specs.Joined.{joined};
 ghost use Rattle.rinqebo_report.specs.Layout.{width, fits, remark_line, said_view, mark_text, mark_style, said_text, row_line, own_line_runs, below_runs, remarked_runs};
@@ -9,7 +9,7 @@ use crate::piece::{Colour, Piece, Style, add_end, add_pieces};
 use std::alloc::{AllocError, Global};
 use unicode_width::UnicodeWidthStr;
 
-/// What pages are written on.
+/// The colours of pages, and their width.
 #[derive(Clone, Copy)]
 pub struct Paper {
     /// Whether pages have colours.
@@ -18,7 +18,7 @@ pub struct Paper {
     pub columns: usize,
 }
 
-/// The column of the keys of rows.
+/// The column with the keys of rows.
 #[derive(Clone, Copy)]
 pub(crate) struct KeyColumn {
     /// How many blanks are before it.
@@ -30,22 +30,22 @@ pub(crate) struct KeyColumn {
 /// How remarks are marked.
 #[derive(Clone, Copy)]
 pub(crate) enum Mark {
-    /// As a comment.
+    /// With a number sign, as a comment.
     Comment,
-    /// Not at all.
+    /// Without a mark.
     Bare,
 }
 
-/// What is said of a row.
+/// The remarks of a row.
 #[derive(Drop)]
 pub(crate) struct Remarks {
-    /// How it is marked.
+    /// How they are marked.
     pub mark: Mark,
-    /// How many blanks are before it on the line of the row.
+    /// How many blanks are between the row and remarks beside it.
     pub gap: usize,
-    /// How many blanks are before it on a line below the row.
+    /// How many blanks are before remarks on a line below the row.
     pub indent: usize,
-    /// The texts that say it.
+    /// Their texts.
     pub texts: Vec<String>,
 }
 
@@ -56,7 +56,7 @@ pub(crate) fn width(text: &str) -> usize
     UnicodeWidthStr::width(text)
 }
 
-/// Whether pieces take no more columns than these.
+/// Whether pieces take at most so many columns.
 pub(crate) fn fits(alloc: Global, columns: usize, line: &[Piece<'_>]) -> Result<bool, AllocError>
     ensures { IfOk result (λ is. is ≡ fits columns (map piece_view line.now)) }
 {
@@ -102,7 +102,7 @@ impl Mark {
         }
     }
 
-    /// How remarks are shown.
+    /// The style in which pages show remarks.
     fn style(self) -> Style
         ensures { result ≡ mark_style self }
     {
@@ -114,7 +114,7 @@ impl Mark {
 }
 
 impl Remarks {
-    /// All that is said of a row.
+    /// All remarks on one line, with commas between them.
     #[tactic(auto, using(crate::proofs::Joined::joined_mapped))]
     fn text(&self, alloc: Global) -> Result<String, AllocError>
         ensures { IfOk result (λ text. string_bytes text ≡ said_text (said_view self.now)) }
@@ -186,7 +186,7 @@ fn add_line_below<'x>(
     )
 }
 
-/// Writes one of the texts on a line of its own.
+/// Writes a remark on a line of its own.
 fn add_text_below(
     alloc: Global,
     out: &mut String,
@@ -202,7 +202,7 @@ fn add_text_below(
     add_line_below(out, colour, remarks, line.as_str())
 }
 
-/// Writes each text on a line of its own.
+/// Writes each remark on a line of its own.
 fn add_apart(
     alloc: Global,
     out: &mut String,
@@ -237,7 +237,7 @@ fn fits_below(
     )
 }
 
-/// Writes what is said of a row below it: on one line, or a line for each text.
+/// Writes the remarks of a row below it: on one line if they fit, and else each on its own line.
 fn add_below(
     alloc: Global,
     out: &mut String,
@@ -255,7 +255,7 @@ fn add_below(
     }
 }
 
-/// Writes a row, and what is said of it beside it.
+/// Writes a row with its remarks beside it.
 fn add_one_line(
     out: &mut String,
     colour: Colour,
@@ -271,7 +271,7 @@ fn add_one_line(
     add_end(out, colour)
 }
 
-/// Writes a row, and what is said of it below it.
+/// Writes a row with its remarks below it.
 fn add_lines(
     alloc: Global,
     out: &mut String,
@@ -288,7 +288,7 @@ fn add_lines(
     add_below(alloc, out, paper, remarks)
 }
 
-/// Writes a row, and what is said of it: beside it if that fits on one line, and else below it.
+/// Writes a row and its remarks: beside it if they fit on its line, and else below it.
 pub(crate) fn add_remarked(
     alloc: Global,
     out: &mut String,

@@ -7,6 +7,7 @@ mod advice;
 mod check_page;
 mod config_page;
 mod duration;
+mod exact_value;
 mod excerpt;
 mod explain_page;
 mod finding;
@@ -31,6 +32,7 @@ mod toml_text;
 mod value;
 mod why_page;
 
+pub use exact_value::ExactValue;
 pub use finding::{
     CharSpan, Finding, HelpPlace, Level, LinePart, RefusedExpression, Sign, SourceLine,
 };

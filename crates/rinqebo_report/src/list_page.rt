@@ -1,12 +1,13 @@
-//! The page of a list: the request, each test and what is set for it, and the rules that hold for
-//! none.
+//! The page of a list: the request, each test with its settings, and the rules that apply to no
+//! test.
 ghost use Rattle.std.specs.Prelude.{◌≡◌, ◌++◌, ◌∷◌, IfOk, OnOk, flat_map, map, option_map, string_bytes};
 ghost use Rattle.serde_json.specs.View.{members_view};
-ghost use Rattle.rinqebo_report.specs.Document.{with_list};
+ghost use Rattle.rinqebo_report.specs.Document.{with_list, with_objects};
 ghost use Rattle.rinqebo_report.specs.Headers.{host_text, mode_part, build_parts, list_head_runs};
 ghost use Rattle.rinqebo_report.specs.Pages.{test_line_runs, listed_runs, unused_line_runs, unused_runs, count_runs, list_end_runs, list_runs};
 ghost use Rattle.rinqebo_report.specs.Pieces.{page_text};
 
+use crate::exact_value::ExactValue;
 use crate::explain_page::{add_host, add_rows, mode_part, profiles_part};
 use crate::header::add_header;
 use crate::json_parts::{origins_json, tests_json, texts_json, wrappers_json};
@@ -19,7 +20,7 @@ use crate::report::{Asked, ListScripts, Report, TestRows};
 use serde_json::{Map, Value, put};
 use std::alloc::{AllocError, Global};
 
-/// The triple of the host, and that it is only assumed.
+/// The triple of the host, and whether it is only assumed.
 fn host_text(alloc: Global, asked: &Asked) -> Result<String, AllocError>
     ensures { IfOk result (λ text. string_bytes text ≡ host_text asked.now) }
 {
@@ -28,8 +29,8 @@ fn host_text(alloc: Global, asked: &Asked) -> Result<String, AllocError>
     Ok(text)
 }
 
-/// The parts of the header of a list behind the profiles: the mode, and the triples of the build,
-/// that of the host alone where there is no target.
+/// The parts of the header of a list after the profiles: the mode, and the triples of the host and
+/// of the target, if there is one.
 fn build_parts(alloc: Global, asked: &Asked) -> Result<Vec<String>, AllocError>
     ensures { IfOk result (λ parts. map string_bytes parts.items ≡ mode_part asked.now
         ∷ build_parts (host_text asked.now) (option_map string_bytes asked.now.target)) }
@@ -46,7 +47,7 @@ fn build_parts(alloc: Global, asked: &Asked) -> Result<Vec<String>, AllocError>
     }
 }
 
-/// Writes what a list is about: the profiles, the mode, and what the tests run on.
+/// Writes the header of a list: the profiles, the mode, and the platforms.
 pub(crate) fn add_list_head(
     alloc: Global,
     out: &mut String,
@@ -99,7 +100,7 @@ fn add_listed(
     add_rows(alloc, out, paper, 4, root, sources, test)
 }
 
-/// Writes a rule that holds for no test, and its origin.
+/// Writes the origins of a rule that applies to no test.
 fn add_unused_line(
     alloc: Global,
     out: &mut String,
@@ -119,7 +120,7 @@ fn add_unused_line(
     add_remarked(alloc, out, paper, &front, &remarks)
 }
 
-/// Writes the rules that hold for no test.
+/// Writes the rules that apply to no test.
 pub(crate) fn add_unused(
     alloc: Global,
     out: &mut String,
@@ -138,7 +139,7 @@ pub(crate) fn add_unused(
     Ok(())
 }
 
-/// Writes how many tests there are.
+/// Writes the number of tests.
 pub(crate) fn add_count(out: &mut String, colour: Colour, count: u64) -> Result<(), AllocError>
     ensures { OnOk result (string_bytes out.new ≡ string_bytes out.old
         ++ page_text colour (count_runs count)) }
@@ -154,7 +155,7 @@ pub(crate) fn add_count(out: &mut String, colour: Colour, count: u64) -> Result<
     )
 }
 
-/// Writes how many tests a list has, and the rules that hold for none of them.
+/// Writes the number of tests, and the rules that apply to none of them.
 pub(crate) fn add_list_end(
     alloc: Global,
     out: &mut String,
@@ -209,7 +210,7 @@ pub(crate) fn add_list(
     add_list_end(alloc, out, paper, root, sources, count, unused)
 }
 
-/// What the page of a list shows before its tests: what the list is about.
+/// Returns the header of the page of a list: what it shows before its tests.
 pub fn render_list_head(alloc: Global, asked: &Asked, paper: Paper) -> Result<String, AllocError>
     ensures { IfOk result (λ text. string_bytes text
         ≡ page_text paper.colour (list_head_runs paper.columns asked.now)) }
@@ -219,8 +220,8 @@ pub fn render_list_head(alloc: Global, asked: &Asked, paper: Paper) -> Result<St
     Ok(text)
 }
 
-/// A test and its rows, as the page of a list shows them. The root and the sources are those of a
-/// report.
+/// Returns a test and its rows, as the page of a list shows them. The root and the sources are
+/// those of the report.
 pub fn render_listed(
     alloc: Global,
     report: &Report,
@@ -236,8 +237,8 @@ pub fn render_listed(
     Ok(text)
 }
 
-/// What the page of a list shows behind its tests: how many there are, and the rules that hold for
-/// none. The root and the sources are those of a report.
+/// Returns the end of the page of a list: the number of its tests, and the rules that apply to none
+/// of them. The root and the sources are those of the report.
 pub fn render_list_end(
     alloc: Global,
     report: &Report,
@@ -254,6 +255,21 @@ pub fn render_list_end(
     Ok(text)
 }
 
+/// Puts among members what a runner needs of a profile as a whole, where it is listed.
+fn put_objects(
+    members: &mut Map<String, Value>,
+    alloc: Global,
+    objects: &Option<ExactValue>,
+) -> Result<(), AllocError>
+    ensures { OnOk result (members_view members.new.entries
+        ≡ with_objects objects.now (members_view members.old.entries)) }
+{
+    match objects {
+        Some(objects) => put(members, alloc, "objects", objects.value.clone()?),
+        None => Ok(()),
+    }
+}
+
 /// Puts among members those of the page of a list.
 pub(crate) fn put_list(
     members: &mut Map<String, Value>,
@@ -262,9 +278,10 @@ pub(crate) fn put_list(
     tests: &[TestRows],
     unused: &[Origin],
     scripts: &ListScripts,
+    objects: &Option<ExactValue>,
 ) -> Result<(), AllocError>
     ensures { OnOk result (members_view members.new.entries
-        ≡ with_list asked.now tests.now unused.now scripts.now
+        ≡ with_list asked.now tests.now unused.now scripts.now objects.now
         (members_view members.old.entries)) }
 {
     put_requested(members, alloc, "list", asked)?;
@@ -273,5 +290,6 @@ pub(crate) fn put_list(
     let setup = texts_json(alloc, &scripts.setup)?;
     put(members, alloc, "setup-scripts", setup)?;
     put(members, alloc, "tests", tests_json(alloc, tests)?)?;
-    put(members, alloc, "unused", origins_json(alloc, unused)?)
+    put(members, alloc, "unused", origins_json(alloc, unused)?)?;
+    put_objects(members, alloc, objects)
 }

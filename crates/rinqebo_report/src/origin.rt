@@ -1,25 +1,25 @@
 //! Where a value, a rule or a finding comes from.
 ghost use Rattle.std.specs.Prelude.{◌≡◌, None};
 
-/// What brings a file.
+/// Where a source comes from.
 #[derive(Drop)]
 pub enum SourceKind {
-    /// The defaults, which are no file.
+    /// The defaults, which have no file.
     Default,
-    /// The tool of this name.
+    /// The tool with this name.
     Tool(String),
     /// The organisation.
     Organisation,
-    /// A user, who named it.
+    /// The user, who named the file.
     Explicit,
-    /// The workspace, below whose root it was looked for.
+    /// The workspace, which has the file below its root.
     Discovered,
 }
 
 /// A source of the configuration.
 #[derive(Drop)]
 pub struct Source {
-    /// What brings it.
+    /// Where it comes from.
     pub kind: SourceKind,
     /// The path of the file. The defaults have none.
     pub path: Option<String>,
@@ -30,7 +30,7 @@ pub struct Source {
 pub struct FileLines {
     /// The first line, from 1.
     pub first: u64,
-    /// The last line: the first one where there is one alone.
+    /// The last line: the first one again if there is only one.
     pub last: u64,
 }
 
@@ -48,7 +48,7 @@ pub struct Position {
 pub struct Range {
     /// Where it starts.
     pub start: Position,
-    /// Where it ends: the position behind its last character.
+    /// Where it ends: the position after its last character.
     pub end: Position,
 }
 
@@ -64,7 +64,7 @@ pub struct FilePlace {
 }
 
 impl FilePlace {
-    /// A place in a source of which nothing more is known.
+    /// Returns a place in a source, without lines and without a range.
     pub fn in_source(source: usize) -> FilePlace
         ensures { result ≡ record { source = source; lines = None; range = None } }
     {
@@ -76,7 +76,7 @@ impl FilePlace {
     }
 }
 
-/// What of a profile is meant.
+/// A part of a profile.
 #[derive(Clone, Copy)]
 pub enum Part {
     /// Its own fields.
@@ -94,7 +94,7 @@ pub struct Written {
     pub place: FilePlace,
     /// The profile under which it is.
     pub profile: String,
-    /// What of the profile it is.
+    /// The part of the profile.
     pub part: Part,
 }
 
@@ -107,6 +107,6 @@ pub enum Origin {
     DefaultTable,
     /// A file writes it, under a profile.
     Written(Written),
-    /// A file writes it beside all profiles.
+    /// A file writes it outside of all profiles.
     File(FilePlace),
 }

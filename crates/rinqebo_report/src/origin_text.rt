@@ -10,7 +10,7 @@ use crate::toml_text::add_key;
 use std::alloc::{AllocError, Global};
 use std::fmt::Write;
 
-/// What follows a prefix of a text, if the text begins with it.
+/// The rest of a text after a prefix, if the text begins with it.
 fn after_prefix<'a>(prefix: &str, text: &'a str) -> Option<&'a str>
     ensures { MatchOption result (after_prefix prefix.now text.now ≡ None)
         (λ rest. after_prefix prefix.now text.now ≡ Some rest.now) }
@@ -25,7 +25,7 @@ fn ends_with_slash(path: &str) -> bool
     path.ends_with('/')
 }
 
-/// A path below a root without the root and the slash behind it, and another path as it is. Nothing
+/// A path below a root without the root and the slash after it, and another path as it is. No path
 /// is below an empty root.
 pub(crate) fn below<'a>(root: &str, path: &'a str) -> &'a str
     ensures { result.now ≡ below root.now path.now }
@@ -91,7 +91,7 @@ fn add_range(
     }
 }
 
-/// The tool that brings a source, if one does.
+/// The tool that a source comes from, if it comes from one.
 fn tool_at(sources: &[Source], source: usize) -> Option<&str>
     ensures { option_map (λ tool. tool.now) result ≡ tool_at sources.now source }
 {
@@ -192,7 +192,7 @@ pub(crate) fn origin_text(
     Ok(text)
 }
 
-/// Puts the texts of origins behind other texts.
+/// Adds the texts of origins to other texts.
 fn push_origins(
     alloc: Global,
     texts: &mut Vec<String>,

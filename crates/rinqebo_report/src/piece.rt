@@ -12,26 +12,26 @@ use std::fmt::Write;
 pub enum Colour {
     /// It has none.
     Plain,
-    /// It has escapes, as terminals know them.
+    /// It has the escapes of terminals.
     Coloured,
 }
 
 /// What a text of a page is.
 #[derive(Clone, Copy, PartialEq, Eq)]
 pub enum Style {
-    /// A text like others.
+    /// A text without colours.
     Plain,
     /// The name of a setting.
     Key,
-    /// What is said beside.
+    /// A remark.
     Remark,
-    /// What decides.
+    /// A rule that decides.
     Good,
-    /// What is refused.
+    /// An error.
     Error,
-    /// What is warned of.
+    /// A warning.
     Warning,
-    /// What to do.
+    /// A help.
     Help,
 }
 
@@ -40,7 +40,7 @@ pub enum Style {
 pub enum Piece<'a> {
     /// A text in a style.
     Text(Style, &'a str),
-    /// So many characters of one kind.
+    /// A character, so many times.
     Repeat(char, usize),
     /// A number, in decimal digits.
     Number(u64),

@@ -1,4 +1,5 @@
-//! What is reported.
+//! Reports: what commands print.
+use crate::exact_value::ExactValue;
 use crate::finding::Finding;
 use crate::origin::{Origin, Source};
 use crate::value::Value;
@@ -101,15 +102,15 @@ pub enum Verdict {
     FilterNo,
     /// It does not write the setting.
     SetsNothing,
-    /// It would decide, but one before it does.
+    /// It would decide, but a rule before it does.
     DecidedBefore,
     /// It decides.
     Decides,
-    /// It is what counts where no rule decides.
+    /// It counts if no rule decides.
     Fallback,
 }
 
-/// What a condition of a rule says of a test.
+/// The result of a condition of a rule for a test.
 #[derive(Clone, Copy)]
 pub enum ConditionAnswer {
     /// The rule has no such condition.
@@ -129,7 +130,7 @@ pub enum ConditionAnswer {
 pub struct Condition {
     /// How the rule writes it.
     pub text: String,
-    /// What it says.
+    /// Its result.
     pub answer: ConditionAnswer,
 }
 
@@ -138,7 +139,7 @@ pub struct Condition {
 pub struct Rule {
     /// Its result.
     pub verdict: Verdict,
-    /// Where it is, or where the value comes from that counts where no rule decides.
+    /// Where it is, or where the value comes from that counts if no rule decides.
     pub origin: Origin,
     /// The other origins of a value that several files write parts of.
     pub others: Vec<Origin>,
@@ -148,7 +149,7 @@ pub struct Rule {
     pub target: Condition,
     /// Its condition on the test.
     pub filter: Condition,
-    /// What it writes for the setting, where it decides or would.
+    /// What it writes for the setting, if it decides or would.
     pub value: Option<Value>,
 }
 
@@ -188,7 +189,7 @@ pub enum Content {
         /// The test.
         test: TestRows,
     },
-    /// The rules of a setting, in order, and then what counts where none decides.
+    /// The rules of a setting, in order, and then what counts if none decides.
     Why {
         asked: Asked,
         /// The test that the rules are applied to.
@@ -207,6 +208,8 @@ pub enum Content {
         unused: Vec<Origin>,
         /// The scripts that run before the tests, or around the binaries.
         scripts: ListScripts,
+        /// What a runner needs of the profile as a whole, where it is listed. Pages do not show it.
+        objects: Option<ExactValue>,
     },
     /// Leaves of the configuration.
     ShowConfig {
@@ -217,17 +220,17 @@ pub enum Content {
     Check,
 }
 
-/// What is reported.
+/// A report: what a command prints.
 #[derive(Drop)]
 pub struct Report {
     /// The root of the workspace.
     pub root: String,
     /// The sources, the lowest first.
     pub sources: Vec<Source>,
-    /// What is wrong with them.
+    /// The findings in them.
     pub findings: Vec<Finding>,
-    /// The checks that one of them kept from others.
+    /// The checks that were not reached because of errors.
     pub unreached: Vec<Unreached>,
-    /// What the command reports.
+    /// What the command reports beside the findings.
     pub content: Content,
 }

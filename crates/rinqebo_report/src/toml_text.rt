@@ -13,9 +13,9 @@ use std::fmt::Write;
 /// How the durations of a value are spelled.
 #[derive(Clone, Copy)]
 enum Spelling {
-    /// As a file writes them, where one file alone writes the value.
+    /// As a file writes them, if one file alone writes the value.
     AsWritten,
-    /// As one number, and the longest unit that divides them.
+    /// As one number, with the longest unit that divides them.
     Canonical,
 }
 

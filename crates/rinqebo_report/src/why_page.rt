@@ -1,4 +1,4 @@
-//! The page of a key: the result of each rule, and what counts where none decides.
+//! The page of a key: the result of each rule, and what counts if none decides.
 ghost use Rattle.std.specs.Prelude.{◌≡◌, ◌++◌, [], ◌∷◌, ◌+◌, ◌^◌, ◌<◌, map, option_map, OnOk, string_bytes};
 ghost use Rattle.serde_json.specs.View.{members_view};
 ghost use Rattle.rinqebo_report.specs.Document.{with_ignored, with_why};
@@ -19,7 +19,7 @@ use crate::value::Value;
 use serde_json::{Map, Value as Json, put};
 use std::alloc::{AllocError, Global};
 
-/// How many characters a verdict's column has.
+/// The width of the column of verdicts.
 const VERDICT_WIDTH: usize = 14;
 
 impl Verdict {
@@ -37,7 +37,7 @@ impl Verdict {
         }
     }
 
-    /// How it is shown.
+    /// The style in which pages show it.
     fn style(self) -> Style
         ensures { result ≡ verdict_style self }
     {
@@ -47,7 +47,7 @@ impl Verdict {
         }
     }
 
-    /// The number of a rule, from 1: the fallback has none.
+    /// The number of the rule at a place, from 1. The fallback has none.
     fn number(self, place: u64) -> Piece<'static>
         requires { place + 1 < 2 ^ 64 }
         ensures { piece_view result ≡ number_run self place }
@@ -58,7 +58,7 @@ impl Verdict {
         }
     }
 
-    /// Whether what a rule writes is shown.
+    /// Whether pages show what the rule writes.
     fn shows_value(self) -> bool
         ensures { result ≡ shows_value self }
     {
@@ -70,9 +70,9 @@ impl Verdict {
 }
 
 impl ConditionAnswer {
-    /// What is shown of it: that it does not hold, or that it can't be decided.
-    fn told(self) -> Option<&'static str>
-        ensures { option_map (λ told. told.now) result ≡ reported_answer self }
+    /// What pages show of it: that the condition does not hold, or that it can't be decided.
+    fn shown(self) -> Option<&'static str>
+        ensures { option_map (λ shown. shown.now) result ≡ reported_answer self }
     {
         match self {
             ConditionAnswer::No => Some(": no"),
@@ -82,7 +82,7 @@ impl ConditionAnswer {
     }
 }
 
-/// Writes a condition, where it does not hold or can't be decided.
+/// Writes a condition, if it does not hold or can't be decided.
 fn add_condition<'x>(
     out: &mut String,
     colour: Colour,
@@ -92,7 +92,7 @@ fn add_condition<'x>(
     ensures { OnOk result (string_bytes out.new ≡ string_bytes out.old
         ++ page_text colour (condition_runs word.now condition.now)) }
 {
-    let Some(told) = condition.answer.told() else {
+    let Some(shown) = condition.answer.shown() else {
         return Ok(());
     };
     add_pieces(
@@ -103,7 +103,7 @@ fn add_condition<'x>(
             Piece::Text(Style::Plain, word),
             Piece::Text(Style::Plain, " "),
             Piece::Text(Style::Plain, condition.text.as_str()),
-            Piece::Text(Style::Plain, told),
+            Piece::Text(Style::Plain, shown),
             Piece::End,
         ],
     )
@@ -245,7 +245,7 @@ fn add_rules(
     Ok(())
 }
 
-/// Writes that a test does not run, where a list says that it is ignored.
+/// Writes that a test does not run, if a list says that it is ignored.
 fn add_ignored(out: &mut String, colour: Colour, is_ignored: bool) -> Result<(), AllocError>
     ensures { OnOk result (string_bytes out.new ≡ string_bytes out.old
         ++ page_text colour (ignored_runs is_ignored)) }
@@ -275,7 +275,7 @@ pub(crate) fn add_why(
     add_ignored(out, paper.colour, is_ignored)
 }
 
-/// Puts among members that a list says that a test is ignored.
+/// Puts `ignored` among members, if a list says that the test is ignored.
 fn put_ignored(
     members: &mut Map<String, Json>,
     alloc: Global,
@@ -290,7 +290,7 @@ fn put_ignored(
     put(members, alloc, "ignored", Json::Bool(true))
 }
 
-/// Puts among members those of the page of a key.
+/// Puts the members of the page of a key among members.
 pub(crate) fn put_why(
     members: &mut Map<String, Json>,
     alloc: Global,

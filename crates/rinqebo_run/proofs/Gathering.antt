@@ -77,7 +77,7 @@ pub why_moved : (content : Content) (P Q : TestId → List ℕ → List Rule →
     → IfWhy content P → IfWhy content Q
 why_moved (contents.Explain asked test) P Q moved is = absurd is
 why_moved (contents.Why asked test key rules is_ignored) P Q moved is = moved test (string_bytes key) rules.items is
-why_moved (contents.List asked tests unused scripts) P Q moved is = absurd is
+why_moved (contents.List asked tests unused scripts objects) P Q moved is = absurd is
 why_moved (contents.ShowConfig asked entries) P Q moved is = absurd is
 why_moved contents.Check P Q moved is = absurd is
 

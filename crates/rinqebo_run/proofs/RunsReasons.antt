@@ -195,7 +195,7 @@ why_runs_moved : (content : Content) (P Q : TestId → List ℕ → List Rule �
 why_runs_moved (contents.Explain asked test) P Q moved is = absurd is
 why_runs_moved (contents.Why asked test key rules is_ignored) P Q moved is =
     moved test (string_bytes key) rules.items is_ignored is
-why_runs_moved (contents.List asked tests unused scripts) P Q moved is = absurd is
+why_runs_moved (contents.List asked tests unused scripts objects) P Q moved is = absurd is
 why_runs_moved (contents.ShowConfig asked entries) P Q moved is = absurd is
 why_runs_moved contents.Check P Q moved is = absurd is
 

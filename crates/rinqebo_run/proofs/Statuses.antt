@@ -145,7 +145,7 @@ entries_low (entry ∷ entries) = omega arith
 pub shown_low : (content : Content) → shown_status content ≤ 1
 shown_low (contents.Explain asked test) = omega arith
 shown_low (contents.Why asked test key rules is_ignored) = omega arith
-shown_low (contents.List asked tests unused scripts) = omega arith
+shown_low (contents.List asked tests unused scripts objects) = omega arith
 shown_low (contents.ShowConfig asked entries) = entries_low entries.items
 shown_low contents.Check = omega arith
 

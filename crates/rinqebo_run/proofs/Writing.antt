@@ -222,7 +222,7 @@ page_of_list : (head : Report) (paper : Paper) (content : Content)
     (P : List TestRows → List Origin → ListScripts → Type 0) (old new : Option (List ℕ)) → IfListed content P
     → Appends old new (page_text paper.colour (content_runs paper.columns head content))
     → Appends old new (rendered (record head { content = content }) formats.Text paper)
-page_of_list head paper (contents.List asked tests unused scripts) P old new listed page = page
+page_of_list head paper (contents.List asked tests unused scripts objects) P old new listed page = page
 page_of_list head paper _ P old new listed page = absurd listed
 
 -- the page of a list went out by what was loaded

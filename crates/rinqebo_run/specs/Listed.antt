@@ -79,7 +79,7 @@ pub record AreTestsOf {M K P : Type 0} (meets : K → P → Option Bool) (matche
 
 -- a fact of the tests, of the rules and of the scripts that a report lists
 abbrev pub IfListed : Content → (List TestRows → List Origin → ListScripts → Type 0) → Type 0
-IfListed (contents.List asked tests unused scripts) P = P tests.items unused.items scripts
+IfListed (contents.List asked tests unused scripts objects) P = P tests.items unused.items scripts
 IfListed _ P = ⊥
 
 -- A report lists the tests of a list in a profile, by what the files mean.

@@ -40,7 +40,7 @@ pub record IsRequestedOf (session : Session) (profile : Name) (mode : NextestRun
 abbrev pub IfRequested : Content → (Asked → Type 0) → Type 0
 IfRequested (contents.Explain asked test) P = P asked
 IfRequested (contents.Why asked test key rules is_ignored) P = P asked
-IfRequested (contents.List asked tests unused scripts) P = P asked
+IfRequested (contents.List asked tests unused scripts objects) P = P asked
 IfRequested (contents.ShowConfig asked entries) P = P asked
 IfRequested contents.Check P = ⊥
 

@@ -111,6 +111,7 @@ fn listed<'c, P: Progress>(
         unused: unused_origins(alloc, &session.layers, &rows.unused)?,
         scripts: scripts_of_list(alloc, session, &on)?,
         tests: rows.tests,
+        objects: None,
     })
 }
 

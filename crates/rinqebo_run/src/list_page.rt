@@ -282,6 +282,7 @@ impl<'c> ListPage<'c, '_> {
             tests: rows.tests,
             unused,
             scripts,
+            objects: None,
         })
     }
 }

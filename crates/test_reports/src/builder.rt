@@ -117,6 +117,7 @@ impl Builder {
                 tests: mem::replace(&mut self.tests, Vec::new(alloc)),
                 unused: mem::replace(&mut self.unused, Vec::new(alloc)),
                 scripts: mem::replace(&mut self.scripts, no_scripts(alloc)),
+                objects: None,
             }),
             Some(Command::ShowConfig) => Ok(Content::ShowConfig {
                 asked,
