@@ -7,7 +7,7 @@ use Rattle.nextest_spans.specs.Paths.{path_step}
 use Rattle.nextest_spans.specs.Paths as paths
 use Rattle.nextest_tree.specs.declared.fault.ElementCause.TheVariants as causes
 use Rattle.rinqebo_findings.specs.declared.value_faults.ValueFault.{ValueFault}
-use Rattle.rinqebo_findings.specs.Told.{AreJoined, IsJoined, IsKeyIn, IsRefusedKey}
+use Rattle.rinqebo_findings.specs.Faults.{AreJoined, IsJoined, IsKeyIn, IsRefusedKey}
 
 -- one more step of a path
 front : (xs : List Step) (place : ℕ) (x : Step) → place < length xs → x ≡ get_or xs place x

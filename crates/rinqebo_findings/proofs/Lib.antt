@@ -1,4 +1,4 @@
 pub mod Joining
 pub mod Loads
-pub mod Telling
+pub mod Reporting
 pub mod Values

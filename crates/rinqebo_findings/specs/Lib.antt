@@ -3,4 +3,4 @@ pub mod Order
 pub mod Reports
 pub mod Shown
 pub mod Subjects
-pub mod Told
+pub mod Faults

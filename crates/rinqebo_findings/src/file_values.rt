@@ -1,7 +1,7 @@
 //! What is wrong with the values in the files of a run, which are then read without what is refused.
 ghost use Rattle.std.specs.Prelude.{◌≡◌, IfOk, MatchOption, None, Some};
 ghost use Rattle.nextest_tree.specs.View.{tree_view};
-ghost use Rattle.rinqebo_findings.specs.Told.{TellOfDocument, TellOfFiles, TellOfValues, document_in};
+ghost use Rattle.rinqebo_findings.specs.Faults.{ReportDocument, ReportFiles, ReportValues, document_in};
 
 use crate::edits::Edits;
 use crate::element_repairs::leave_out_element;
@@ -51,7 +51,7 @@ fn document_findings(
     edits: &mut Edits,
 ) -> Result<Vec<Finding>, AllocError>
     ensures { IfOk result
-        (λ findings. TellOfValues (tree_view document.now) findings.items) }
+        (λ findings. ReportValues (tree_view document.now) findings.items) }
 {
     let tree = lay_over(alloc, document, default_tree(alloc)?)?;
     let faults = file_faults(alloc, &tree)?;
@@ -69,7 +69,7 @@ fn layer_findings(
     edits: &mut Edits,
 ) -> Result<Vec<Finding>, AllocError>
     ensures { IfOk result
-        (λ findings. TellOfDocument (document_in layer.now) findings.items) }
+        (λ findings. ReportDocument (document_in layer.now) findings.items) }
 {
     match document_of(layer) {
         Some(document) => { Ok(document_findings(alloc, session, place, document, edits)?) }
@@ -85,7 +85,7 @@ pub fn value_findings(
     layers: &[Layer<'_>],
     edits: &mut Edits,
 ) -> Result<Vec<Finding>, AllocError>
-    ensures { IfOk result (λ findings. TellOfFiles layers.now findings.items) }
+    ensures { IfOk result (λ findings. ReportFiles layers.now findings.items) }
 {
     let mut findings = Vec::new(alloc);
     for (place, layer) in layers.iter().enumerate() {

@@ -2,7 +2,7 @@
 ghost use Rattle.std.specs.Prelude.{◌≡◌, IfOk};
 ghost use Rattle.rinqebo_findings.specs.Reports.{IsReportOf};
 ghost use Rattle.rinqebo_findings.specs.Shown.{AreReported};
-ghost use Rattle.rinqebo_findings.specs.Told.{ShowsFaults};
+ghost use Rattle.rinqebo_findings.specs.Faults.{ShowsFaults};
 
 use crate::excerpts::with_lines;
 use crate::nextest_forms::nextest_findings;

@@ -1,7 +1,7 @@
 //! All that is wrong with files that are refused: the faults of all values, and then what each later
 //! check finds in files without these.
 ghost use Rattle.std.specs.Prelude.{IfOk};
-ghost use Rattle.rinqebo_findings.specs.Told.{TellOfAll};
+ghost use Rattle.rinqebo_findings.specs.Faults.{ReportAll};
 
 use crate::checks::{Check, Scope, check_of, scope_of};
 use crate::edited_files::Reading;
@@ -326,7 +326,7 @@ pub fn all_findings(
     error: &ConfigParseError,
 ) -> Result<Found, AllocError>
     ensures { IfOk result
-        (λ found. TellOfAll session.now.layers.items found.findings.items) }
+        (λ found. ReportAll session.now.layers.items found.findings.items) }
 {
     let mut edits = Edits::new(alloc);
     let mut findings = value_findings(alloc, session, &session.layers, &mut edits)?;

@@ -3,7 +3,7 @@
 ghost use Rattle.std.specs.Prelude.{◌≡◌, ◌++◌, ◌∷◌, [], IfOk, IfSome, IsTrue, List, OnOk, Some, map, slice_get, slice_index_or, slice_set, true, false};
 ghost use Rattle.nextest_spans.specs.Paths.{path_step};
 ghost use Rattle.nextest_spans.specs.Paths as paths;
-ghost use Rattle.rinqebo_findings.specs.Told.{AreJoined, IsFindingOf, IsJoined, IsKeyIn, IsRefusedKey, Told};
+ghost use Rattle.rinqebo_findings.specs.Faults.{AreJoined, IsFindingOf, IsJoined, IsKeyIn, IsRefusedKey, ReportFaults};
 ghost use Rattle.rinqebo_findings.specs.declared.value_faults.ValueFault.{ValueFault};
 
 use crate::elements::fault_finding;
@@ -236,8 +236,8 @@ fn add_finding(
     findings: &mut Vec<Finding>,
 ) -> Result<(), AllocError>
     ensures { (Joined : ValueFault → Type 0) (earlier : List ValueFault)
-        → (is_joined ≡ true → Joined fault.now) → Told Joined earlier findings.old.items
-        → OnOk result (Told Joined (earlier ++ fault.now ∷ []) findings.new.items) }
+        → (is_joined ≡ true → Joined fault.now) → ReportFaults Joined earlier findings.old.items
+        → OnOk result (ReportFaults Joined (earlier ++ fault.now ∷ []) findings.new.items) }
 {
     if is_joined {
         return Ok(());
@@ -254,7 +254,7 @@ pub fn fault_findings(
     source: usize,
     faults: &[ValueFault<'_>],
 ) -> Result<Vec<Finding>, AllocError>
-    ensures { IfOk result (λ findings. Told (IsJoined faults.now) faults.now findings.items) }
+    ensures { IfOk result (λ findings. ReportFaults (IsJoined faults.now) faults.now findings.items) }
 {
     let marks = joined_marks(alloc, faults)?;
     let mut findings = Vec::new(alloc);

@@ -2,7 +2,7 @@
 ghost use Rattle.std.specs.Prelude.{◌≡◌, IfOk, IfErr};
 ghost use Rattle.nextest_sources.specs.Endings.{IsMemory};
 ghost use Rattle.rinqebo_findings.specs.Reports.{IsReportOf};
-ghost use Rattle.rinqebo_findings.specs.Told.{ShowsFaults};
+ghost use Rattle.rinqebo_findings.specs.Faults.{ShowsFaults};
 ghost use Rattle.rinqebo_load.specs.Beginning.{IsBeginningFailure};
 ghost use Rattle.rinqebo_run.specs.Checked.{IsCheckStatus, accepted_status, is_error};
 

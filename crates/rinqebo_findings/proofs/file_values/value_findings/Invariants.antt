@@ -1,7 +1,7 @@
 use Rattle.std.proofs.Common.{take}
-use Rattle.rinqebo_findings.specs.Told.{TellOfFiles}
+use Rattle.rinqebo_findings.specs.Faults.{ReportFiles}
 use Rattle.rinqebo_findings.proofs.file_values.value_findings.Given as goal
 
--- the findings tell of the files so far
+-- the findings report what is wrong with the files so far
 abbrev pub invariant-loop-place : goal.invariant-loop-place
-invariant-loop-place l = TellOfFiles (take l.place l.layers) l.findings.items
+invariant-loop-place l = ReportFiles (take l.place l.layers) l.findings.items

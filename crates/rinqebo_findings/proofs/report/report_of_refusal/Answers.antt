@@ -4,6 +4,6 @@ pub returns-clause-faults : goal.returns-clause-faults
 returns-clause-faults c =
     record {
       found = c.in_ok-all_findings.findings.items;
-      told = c.in_ok-all_findings.ensures;
-      reported = c.in_ok-report_of.ensures.findings;
+      all = c.in_ok-all_findings.ensures;
+      shows = c.in_ok-report_of.ensures.findings;
     }

@@ -1,7 +1,7 @@
 use Rattle.std.proofs.Common.{take}
-use Rattle.rinqebo_findings.specs.Told.{IsJoined, Told}
+use Rattle.rinqebo_findings.specs.Faults.{IsJoined, ReportFaults}
 use Rattle.rinqebo_findings.proofs.value_faults.fault_findings.Given as goal
 
--- the findings tell of the faults so far
+-- the findings report the faults so far
 abbrev pub invariant-loop-place : goal.invariant-loop-place
-invariant-loop-place l = Told (IsJoined l.faults) (take l.place l.faults) l.findings.items
+invariant-loop-place l = ReportFaults (IsJoined l.faults) (take l.place l.faults) l.findings.items

@@ -1,5 +1,5 @@
 use Rattle.std.proofs.Common.{length, sym, subst}
-use Rattle.rinqebo_findings.specs.Told.{AreJoined}
+use Rattle.rinqebo_findings.specs.Faults.{AreJoined}
 use Rattle.rinqebo_findings.proofs.Joining.{none_joined}
 use Rattle.rinqebo_findings.proofs.value_faults.joined_marks.Goals as goal
 

@@ -1,4 +1,4 @@
-use Rattle.rinqebo_findings.specs.Told.{AreJoined}
+use Rattle.rinqebo_findings.specs.Faults.{AreJoined}
 use Rattle.rinqebo_findings.proofs.value_faults.joined_marks.Given as goal
 
 -- the faults whose marks are set so far are joined

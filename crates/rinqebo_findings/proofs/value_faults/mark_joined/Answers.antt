@@ -1,5 +1,5 @@
 use Rattle.std.proofs.Common.{sym, subst}
-use Rattle.rinqebo_findings.specs.Told.{AreJoined}
+use Rattle.rinqebo_findings.specs.Faults.{AreJoined}
 use Rattle.rinqebo_findings.proofs.Joining.{one_joined}
 use Rattle.rinqebo_findings.proofs.value_faults.mark_joined.Goals as goal
 

@@ -1,6 +1,6 @@
 use Rattle.std.proofs.Common.{length, refl}
 use Rattle.std.proofs.lemmas.Option.{slice_get_read}
-use Rattle.rinqebo_findings.specs.Told.{IsRefusedKey}
+use Rattle.rinqebo_findings.specs.Faults.{IsRefusedKey}
 use Rattle.rinqebo_findings.proofs.Joining.{read_again}
 use Rattle.rinqebo_findings.proofs.value_faults.refused_before.Goals as goal
 

@@ -1,4 +1,4 @@
--- Which findings tell of which faults.
+-- Which findings report which faults.
 use Rattle.std.specs.Prelude.{◌≡◌, ◌⊎◌, ℕ, List, [], ◌∷◌, ◌++◌, Bool, true, false, Contains, Option, None, Some, String, map, slice_get, slice_index_or}
 use Rattle.std.specs.Option.{option_and_then}
 use Rattle.std.specs.Borrow.{Bor}
@@ -13,7 +13,7 @@ use Rattle.nextest_spans.specs.Paths as paths
 use Rattle.nextest_tables.specs.Defaults.{defaults}
 use Rattle.nextest_tables.specs.Tables.{a_file}
 use Rattle.nextest_tree.specs.Node.{Node}
-use Rattle.nextest_tree.specs.Schema.{faults}
+use Rattle.nextest_tree.specs.Schema as schema
 use Rattle.nextest_tree.specs.declared.fault.ElementCause.TheVariants as causes
 use Rattle.rinqebo_files.specs.declared.layers.Layer.{Layer}
 use Rattle.rinqebo_report.specs.declared.finding.Finding.{Finding}
@@ -52,48 +52,49 @@ abbrev pub IsFindingOf : ValueFault → Finding → Type 0
 IsFindingOf fault finding =
     IsElementFinding fault.fault.cause fault.fault.path.items fault.stray finding
 
--- Findings tell of faults, each in turn: a fault has one finding of its own, or it is joined.
-abbrev pub Told : (ValueFault → Type 0) → List ValueFault → List Finding → Type 0
-Told Joined [] [] = Unit {0}
-Told Joined [] (finding ∷ findings) = ⊥
-Told Joined (fault ∷ faults) [] = Joined fault × Told Joined faults []
-Told Joined (fault ∷ faults) (finding ∷ findings) =
-    (Joined fault × Told Joined faults (finding ∷ findings))
-    ⊎ (IsFindingOf fault finding × Told Joined faults findings)
+-- Findings report faults, each in turn: a fault has one finding of its own, or it is joined.
+abbrev pub ReportFaults : (ValueFault → Type 0) → List ValueFault → List Finding → Type 0
+ReportFaults Joined [] [] = Unit {0}
+ReportFaults Joined [] (finding ∷ findings) = ⊥
+ReportFaults Joined (fault ∷ faults) [] = Joined fault × ReportFaults Joined faults []
+ReportFaults Joined (fault ∷ faults) (finding ∷ findings) =
+    (Joined fault × ReportFaults Joined faults (finding ∷ findings))
+    ⊎ (IsFindingOf fault finding × ReportFaults Joined faults findings)
 
--- Findings tell of the values of a document: of exactly the faults that the definitions list of it, over
--- the table of defaults, each in turn.
-pub record TellOfValues (document : Node) (findings : List Finding) : Type 0 where
+-- Findings report what is wrong with the values of a document: exactly the faults that the
+-- definitions list of it, over the table of defaults, each in turn.
+pub record ReportValues (document : Node) (findings : List Finding) : Type 0 where
   pub found : List ValueFault
-  pub are_all : Adds [] (map (λ f. f.fault) found) (faults a_file [] (over document defaults))
-  pub told : Told (IsJoined found) found findings
+  pub are_all : Adds [] (map (λ f. f.fault) found) (schema.faults a_file [] (over document defaults))
+  pub reported : ReportFaults (IsJoined found) found findings
 
--- of the values of a document, if there is one
-abbrev pub TellOfDocument : Option Node → List Finding → Type 0
-TellOfDocument (Some document) findings = TellOfValues document findings
-TellOfDocument None findings = findings ≡ []
+-- what is wrong with the values of a document, if there is one
+abbrev pub ReportDocument : Option Node → List Finding → Type 0
+ReportDocument (Some document) findings = ReportValues document findings
+ReportDocument None findings = findings ≡ []
 
 -- the document that the file of a layer is, if it is one
 abbrev pub document_in : Layer → Option Node
 document_in layer = option_and_then tree_of layer.places
 
--- Findings tell of the values in the files of layers, file by file.
-abbrev pub TellOfFiles : List Layer → List Finding → Type 0
-TellOfFiles [] findings = findings ≡ []
-TellOfFiles (layer ∷ layers) findings =
+-- Findings report what is wrong with the values in the files of layers, file by file.
+abbrev pub ReportFiles : List Layer → List Finding → Type 0
+ReportFiles [] findings = findings ≡ []
+ReportFiles (layer ∷ layers) findings =
     (own : List Finding) × (others : List Finding) × (findings ≡ own ++ others)
-    × TellOfDocument (document_in layer) own × TellOfFiles layers others
+    × ReportDocument (document_in layer) own × ReportFiles layers others
 
--- Some of the findings tell of the values in the files of layers. The others are about keys, and about
--- what later checks refuse.
-pub record TellOfAll (layers : List Layer) (findings : List Finding) : Type 0 where
+-- Some of the findings report what is wrong with the values in the files of layers. The others are
+-- about keys, and about what later checks refuse.
+pub record ReportAll (layers : List Layer) (findings : List Finding) : Type 0 where
   pub of_values : List Finding
   pub others : List Finding
   pub whole : findings ≡ of_values ++ others
-  pub told : TellOfFiles layers of_values
+  pub reported : ReportFiles layers of_values
 
--- a report shows what is wrong with the files of layers: all findings that tell of their values
+-- A report shows what is wrong with the files of layers: its findings report all that is wrong with
+-- their values.
 pub record ShowsFaults (layers : List Layer) (shown : List Finding) : Type 0 where
   pub found : List Finding
-  pub told : TellOfAll layers found
-  pub reported : AreReported found shown
+  pub all : ReportAll layers found
+  pub shows : AreReported found shown
