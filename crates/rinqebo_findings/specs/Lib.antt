@@ -1,6 +1,6 @@
 pub mod Failures
+pub mod Faults
 pub mod Order
 pub mod Reports
 pub mod Shown
 pub mod Subjects
-pub mod Faults
