@@ -1,6 +1,6 @@
 -- Findings that report faults.
 use Rattle.std.proofs.Common.{◌≡◌, ◌<◌, ◌≤◌, ℕ, List, [], ◌∷◌, ◌++◌, ◌+◌, Bool, true, false, Option, Some, None, length, map, take, get_or, set, slice_get, inl, inr, refl, sym, ap, ◌∙◌, subst, arith}
-use Rattle.std.proofs.lemmas.List.{append_assoc, append-nil, take_all, take_more}
+use Rattle.std.proofs.lemmas.List.{append_assoc, append-nil, length-take, take_all, take_more}
 use Rattle.nextest_documents.specs.Merge.{over}
 use Rattle.nextest_faults.specs.Found.{Adds}
 use Rattle.nextest_faults.specs.declared.found.FoundFault.{FoundFault}
@@ -13,10 +13,10 @@ use Rattle.rinqebo_report.specs.declared.finding.Finding.{Finding}
 use Rattle.rinqebo_findings.specs.declared.value_faults.ValueFault.{ValueFault}
 use Rattle.rinqebo_findings.specs.Faults.{IsFindingOf, IsJoined, ReportAll, ReportDocument, ReportFiles, ReportValues, ReportFaults, document_in}
 
-module _ (Joined : ValueFault → Type 0) where
+module _ (IsOf : ValueFault → Finding → Type 0) (Joined : ValueFault → Type 0) where
   -- one more fault, which is joined
   pub with_joined : (faults : List ValueFault) (findings : List Finding) (fault : ValueFault)
-      → Joined fault → ReportFaults Joined faults findings → ReportFaults Joined (faults ++ fault ∷ []) findings
+      → Joined fault → ReportFaults IsOf Joined faults findings → ReportFaults IsOf Joined (faults ++ fault ∷ []) findings
   with_joined [] [] fault is reported = (is, tt)
   with_joined [] (x ∷ xs) fault is reported = absurd reported
   with_joined (f ∷ fs) [] fault is reported = (reported.0, with_joined fs [] fault is reported.1)
@@ -28,8 +28,8 @@ module _ (Joined : ValueFault → Type 0) where
 
   -- one more fault, with a finding of its own
   pub with_one : (faults : List ValueFault) (findings : List Finding) (fault : ValueFault) (finding : Finding)
-      → IsFindingOf fault finding → ReportFaults Joined faults findings
-      → ReportFaults Joined (faults ++ fault ∷ []) (findings ++ finding ∷ [])
+      → IsOf fault finding → ReportFaults IsOf Joined faults findings
+      → ReportFaults IsOf Joined (faults ++ fault ∷ []) (findings ++ finding ∷ [])
   with_one [] [] fault finding is reported = inr (is, tt)
   with_one [] (x ∷ xs) fault finding is reported = absurd reported
   with_one (f ∷ fs) [] fault finding is reported = inl (reported.0, with_one fs [] fault finding is reported.1)
@@ -42,23 +42,24 @@ module _ (Joined : ValueFault → Type 0) where
   -- the findings of the faults up to one, and of this one
   pub up_to_next : (faults : List ValueFault) (place : ℕ) (fault : ValueFault) (findings : List Finding)
       → place < length faults → fault ≡ get_or faults place fault
-      → ReportFaults Joined (take place faults ++ fault ∷ []) findings → ReportFaults Joined (take (place + 1) faults) findings
+      → ReportFaults IsOf Joined (take place faults ++ fault ∷ []) findings → ReportFaults IsOf Joined (take (place + 1) faults) findings
   up_to_next faults place fault findings within is reported =
-      subst (λ fs. ReportFaults Joined fs findings)
+      subst (λ fs. ReportFaults IsOf Joined fs findings)
       (sym (take_more faults place fault within ∙ ap (λ f. take place faults ++ f ∷ []) (sym is))) reported
 
   -- the findings of all faults
   pub up_to_end : (faults : List ValueFault) (place : ℕ) (findings : List Finding) → length faults ≤ place
-      → ReportFaults Joined (take place faults) findings → ReportFaults Joined faults findings
+      → ReportFaults IsOf Joined (take place faults) findings → ReportFaults IsOf Joined faults findings
   up_to_end faults place findings no_more reported =
-      subst (λ fs. ReportFaults Joined fs findings) (take_all place faults no_more) reported
+      subst (λ fs. ReportFaults IsOf Joined fs findings) (take_all place faults no_more) reported
 
 -- the findings of the values of a document over the defaults
-pub of_values_found : (document laid : Node) (found : List FoundFault) (made given : List ValueFault)
-    (findings : List Finding) → laid ≡ over document defaults → Adds [] found (schema.faults a_file [] laid)
-    → map (λ f. f.fault) made ≡ found → given ≡ made → ReportFaults (IsJoined given) given findings
-    → ReportValues document findings
-of_values_found document laid found made given findings laid_is are_all same same_made reported =
+pub of_values_found : (layers : List Layer) (source : ℕ) (document laid : Node) (found : List FoundFault)
+    (made given : List ValueFault) (findings : List Finding) → laid ≡ over document defaults
+    → Adds [] found (schema.faults a_file [] laid) → map (λ f. f.fault) made ≡ found → given ≡ made
+    → ReportFaults (IsFindingOf layers source) (IsJoined given) given findings
+    → ReportValues layers source document findings
+of_values_found layers source document laid found made given findings laid_is are_all same same_made reported =
     record {
       found = given;
       are_all = subst (λ fs. Adds [] fs (schema.faults a_file [] (over document defaults)))
@@ -67,46 +68,56 @@ of_values_found document laid found made given findings laid_is are_all same sam
       reported = reported;
     }
 
--- one more file
-pub with_file : (layers : List Layer) (findings own : List Finding) (layer : Layer) → ReportFiles layers findings
-    → ReportDocument (document_in layer) own → ReportFiles (layers ++ layer ∷ []) (findings ++ own)
-with_file [] findings own layer reported of_own =
-    (own, [], ap (λ fs. fs ++ own) reported ∙ sym (append-nil own), of_own, refl)
-with_file (l ∷ ls) findings own layer reported of_own = (
-  reported.0,
-  reported.1 ++ own,
-  ap (λ fs. fs ++ own) reported.2 ∙ append_assoc reported.0 reported.1 own,
-  reported.3,
-  with_file ls reported.1 own layer reported.4 of_own,
-)
+module _ (all : List Layer) where
+  -- one more file
+  pub with_file : (source : ℕ) (layers : List Layer) (findings own : List Finding) (layer : Layer)
+      → ReportFiles all source layers findings → ReportDocument all (source + length layers) (document_in layer) own
+      → ReportFiles all source (layers ++ layer ∷ []) (findings ++ own)
+  with_file source [] findings own layer reported of_own = (
+    own,
+    [],
+    ap (λ fs. fs ++ own) reported ∙ sym (append-nil own),
+    subst (λ n. ReportDocument all n (document_in layer) own) (omega arith) of_own,
+    refl,
+  )
+  with_file source (l ∷ ls) findings own layer reported of_own = (
+    reported.0,
+    reported.1 ++ own,
+    ap (λ fs. fs ++ own) reported.2 ∙ append_assoc reported.0 reported.1 own,
+    reported.3,
+    with_file (source + 1) ls reported.1 own layer reported.4
+        (subst (λ n. ReportDocument all n (document_in layer) own) (omega arith) of_own),
+  )
 
--- the findings of the files up to one, and of this one
-pub with_next_file : (layers : List Layer) (place : ℕ) (layer : Layer) (findings own all : List Finding)
-    → place < length layers → layer ≡ get_or layers place layer → all ≡ findings ++ own
-    → ReportFiles (take place layers) findings → ReportDocument (document_in layer) own
-    → ReportFiles (take (place + 1) layers) all
-with_next_file layers place layer findings own all within is whole reported of_own =
-    let more : take (place + 1) layers ≡ take place layers ++ layer ∷ [] =
-    take_more layers place layer within ∙ ap (λ l. take place layers ++ l ∷ []) (sym is) in
-    subst (λ ls. ReportFiles ls all) (sym more)
-    (subst (ReportFiles (take place layers ++ layer ∷ [])) (sym whole)
-    (with_file (take place layers) findings own layer reported of_own))
+  -- the findings of the files up to one, and of this one
+  pub with_next_file : (layers : List Layer) (place : ℕ) (layer : Layer) (findings own whole : List Finding)
+      → place < length layers → layer ≡ get_or layers place layer → whole ≡ findings ++ own
+      → ReportFiles all 0 (take place layers) findings → ReportDocument all place (document_in layer) own
+      → ReportFiles all 0 (take (place + 1) layers) whole
+  with_next_file layers place layer findings own whole within is whole_is reported of_own =
+      let more : take (place + 1) layers ≡ take place layers ++ layer ∷ [] =
+      take_more layers place layer within ∙ ap (λ l. take place layers ++ l ∷ []) (sym is) in
+      let at : place ≡ 0 + length (take place layers) = omega (arith, length-take place layers) in
+      subst (λ ls. ReportFiles all 0 ls whole) (sym more)
+      (subst (ReportFiles all 0 (take place layers ++ layer ∷ [])) (sym whole_is)
+      (with_file 0 (take place layers) findings own layer reported
+      (subst (λ n. ReportDocument all n (document_in layer) own) at of_own)))
 
--- the findings of all files
-pub with_all_files : (layers : List Layer) (place : ℕ) (findings : List Finding) → length layers ≤ place
-    → ReportFiles (take place layers) findings → ReportFiles layers findings
-with_all_files layers place findings no_more reported =
-    subst (λ ls. ReportFiles ls findings) (take_all place layers no_more) reported
+  -- the findings of all files
+  pub with_all_files : (layers : List Layer) (place : ℕ) (findings : List Finding) → length layers ≤ place
+      → ReportFiles all 0 (take place layers) findings → ReportFiles all 0 layers findings
+  with_all_files layers place findings no_more reported =
+      subst (λ ls. ReportFiles all 0 ls findings) (take_all place layers no_more) reported
 
 -- the findings of all files, and others
 pub with_others : (layers read : List Layer) (findings others all : List Finding) → read ≡ layers
-    → all ≡ findings ++ others → ReportFiles read findings → ReportAll layers all
+    → all ≡ findings ++ others → ReportFiles layers 0 read findings → ReportAll layers all
 with_others layers read findings others all same whole reported =
     record {
       of_values = findings;
       others = others;
       whole = whole;
-      reported = subst (λ ls. ReportFiles ls findings) same reported;
+      reported = subst (λ ls. ReportFiles layers 0 ls findings) same reported;
     }
 
 -- more findings, of other faults
@@ -116,6 +127,7 @@ with_more layers findings all more is reported =
     record {
       of_values = reported.of_values;
       others = reported.others ++ more;
-      whole = is ∙ ap (λ fs. fs ++ more) reported.whole ∙ append_assoc reported.of_values reported.others more;
+      whole = is ∙ ap (λ fs. fs ++ more) reported.whole
+          ∙ append_assoc reported.of_values reported.others more;
       reported = reported.reported;
     }

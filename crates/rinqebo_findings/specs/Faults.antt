@@ -1,5 +1,5 @@
 -- Which findings report which faults.
-use Rattle.std.specs.Prelude.{◌≡◌, ◌⊎◌, ℕ, List, [], ◌∷◌, ◌++◌, Bool, true, false, Contains, Option, None, Some, String, map, slice_get, slice_index_or}
+use Rattle.std.specs.Prelude.{◌≡◌, ◌⊎◌, ℕ, List, [], ◌∷◌, ◌++◌, ◌+◌, Bool, true, false, Contains, Option, None, Some, String, map, slice_get, slice_index_or}
 use Rattle.std.specs.Option.{option_and_then}
 use Rattle.std.specs.Borrow.{Bor}
 use Rattle.std.specs.declared.alloc.Global.{Global}
@@ -47,42 +47,46 @@ AreJoined faults marks =
     (place : ℕ) (fault : ValueFault) → slice_index_or marks place false ≡ true
     → slice_get faults place ≡ Some fault → IsJoined faults fault
 
--- a finding is that of a fault
-abbrev pub IsFindingOf : ValueFault → Finding → Type 0
-IsFindingOf fault finding =
-    IsElementFinding fault.fault.cause fault.fault.path.items fault.stray finding
+-- a finding is that of a fault of a source
+abbrev pub IsFindingOf : List Layer → ℕ → ValueFault → Finding → Type 0
+IsFindingOf layers source fault finding =
+    IsElementFinding layers (Some source) fault.fault.cause fault.fault.path.items fault.stray finding
 
 -- Findings report faults, each in turn: a fault has one finding of its own, or it is joined.
-abbrev pub ReportFaults : (ValueFault → Type 0) → List ValueFault → List Finding → Type 0
-ReportFaults Joined [] [] = Unit {0}
-ReportFaults Joined [] (finding ∷ findings) = ⊥
-ReportFaults Joined (fault ∷ faults) [] = Joined fault × ReportFaults Joined faults []
-ReportFaults Joined (fault ∷ faults) (finding ∷ findings) =
-    (Joined fault × ReportFaults Joined faults (finding ∷ findings))
-    ⊎ (IsFindingOf fault finding × ReportFaults Joined faults findings)
+abbrev pub ReportFaults : (ValueFault → Finding → Type 0) → (ValueFault → Type 0)
+    → List ValueFault → List Finding → Type 0
+ReportFaults IsOf Joined [] [] = Unit {0}
+ReportFaults IsOf Joined [] (finding ∷ findings) = ⊥
+ReportFaults IsOf Joined (fault ∷ faults) [] =
+    Joined fault × ReportFaults IsOf Joined faults []
+ReportFaults IsOf Joined (fault ∷ faults) (finding ∷ findings) =
+    (Joined fault × ReportFaults IsOf Joined faults (finding ∷ findings))
+    ⊎ (IsOf fault finding × ReportFaults IsOf Joined faults findings)
 
--- Findings report what is wrong with the values of a document: exactly the faults that the
--- definitions list of it, over the table of defaults, each in turn.
-pub record ReportValues (document : Node) (findings : List Finding) : Type 0 where
+-- Findings report what is wrong with the values of a document, which is a source: exactly the faults
+-- that the definitions list of it, over the table of defaults, each in turn.
+pub record ReportValues (layers : List Layer) (source : ℕ) (document : Node) (findings : List Finding)
+    : Type 0 where
   pub found : List ValueFault
   pub are_all : Adds [] (map (λ f. f.fault) found) (schema.faults a_file [] (over document defaults))
-  pub reported : ReportFaults (IsJoined found) found findings
+  pub reported : ReportFaults (IsFindingOf layers source) (IsJoined found) found findings
 
 -- what is wrong with the values of a document, if there is one
-abbrev pub ReportDocument : Option Node → List Finding → Type 0
-ReportDocument (Some document) findings = ReportValues document findings
-ReportDocument None findings = findings ≡ []
+abbrev pub ReportDocument : List Layer → ℕ → Option Node → List Finding → Type 0
+ReportDocument layers source (Some document) findings = ReportValues layers source document findings
+ReportDocument layers source None findings = findings ≡ []
 
 -- the document that the file of a layer is, if it is one
 abbrev pub document_in : Layer → Option Node
 document_in layer = option_and_then tree_of layer.places
 
--- Findings report what is wrong with the values in the files of layers, file by file.
-abbrev pub ReportFiles : List Layer → List Finding → Type 0
-ReportFiles [] findings = findings ≡ []
-ReportFiles (layer ∷ layers) findings =
+-- Findings report what is wrong with the values in the files of some of the layers, from a source on,
+-- file by file.
+abbrev pub ReportFiles : List Layer → ℕ → List Layer → List Finding → Type 0
+ReportFiles all source [] findings = findings ≡ []
+ReportFiles all source (layer ∷ layers) findings =
     (own : List Finding) × (others : List Finding) × (findings ≡ own ++ others)
-    × ReportDocument (document_in layer) own × ReportFiles layers others
+    × ReportDocument all source (document_in layer) own × ReportFiles all (source + 1) layers others
 
 -- Some of the findings report what is wrong with the values in the files of layers. The others are
 -- about keys, and about what later checks refuse.
@@ -90,7 +94,7 @@ pub record ReportAll (layers : List Layer) (findings : List Finding) : Type 0 wh
   pub of_values : List Finding
   pub others : List Finding
   pub whole : findings ≡ of_values ++ others
-  pub reported : ReportFiles layers of_values
+  pub reported : ReportFiles layers 0 layers of_values
 
 -- A report shows what is wrong with the files of layers: its findings report all that is wrong with
 -- their values.

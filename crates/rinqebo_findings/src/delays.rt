@@ -1,6 +1,7 @@
 //! The finding of retries whose longest delay is shorter than the first one.
 ghost use Rattle.std.specs.Prelude.{◌≡◌, IfOk};
-ghost use Rattle.rinqebo_findings.specs.Subjects.{IsErrorBelow, error_at, subject};
+ghost use Rattle.rinqebo_findings.specs.Placed.{file_and_lines};
+ghost use Rattle.rinqebo_findings.specs.Subjects.{IsDelaysFinding, IsErrorAt, subject};
 
 use crate::excerpts::{Mark, lines_of};
 use crate::findings::with_note;
@@ -68,7 +69,9 @@ fn with_entry(
     fault: &[Step<'_>],
     related: &[Step<'_>],
 ) -> Result<Finding, AllocError>
-    ensures { IfOk result (λ shown. subject shown ≡ subject found) }
+    ensures about { IfOk result (λ shown. subject shown ≡ subject found) }
+    ensures place { IfOk result
+        (λ shown. file_and_lines shown.place ≡ file_and_lines found.place) }
 {
     let Some(FilePlace { source, lines, .. }) = found.place else {
         return Ok(found);
@@ -139,7 +142,8 @@ fn entry_finding(
     wrong: &str,
     least: &str,
 ) -> Result<Finding, AllocError>
-    ensures { IfOk result (λ found. subject found ≡ error_at Code.MaxDelayBelowDelay fault.now) }
+    ensures { IfOk result (IsErrorAt refused.now.source.layers.now refused.now.source.position
+        Code.MaxDelayBelowDelay SpanPart.Value fault.now) }
 {
     let alloc = refused.alloc;
     let mut found = refused.at(Code::MaxDelayBelowDelay, fault, wrong)?;
@@ -156,7 +160,9 @@ fn with_other(
     related: &[Step<'_>],
     key: &str,
 ) -> Result<Finding, AllocError>
-    ensures { IfOk result (λ shown. subject shown ≡ subject found) }
+    ensures about { IfOk result (λ shown. subject shown ≡ subject found) }
+    ensures place { IfOk result
+        (λ shown. file_and_lines shown.place ≡ file_and_lines found.place) }
 {
     let note = elsewhere_note(refused, key, related)?;
     let noted = with_note(found, note)?;
@@ -166,7 +172,8 @@ fn with_other(
 /// The finding that the longest delay of retries is shorter than the first one: at the longest one,
 /// unless another file writes it.
 pub fn delays_finding(refused: &Refused<'_, '_>, path: &[Step<'_>]) -> Result<Finding, AllocError>
-    ensures { IfOk result (IsErrorBelow Code.MaxDelayBelowDelay path.now) }
+    ensures { IfOk result
+        (IsDelaysFinding refused.now.source.layers.now refused.now.source.position path.now) }
 {
     let alloc = refused.alloc;
     let longest = path_with(alloc, path, "max-delay")?;

@@ -1,6 +1,6 @@
 //! Findings of values that a file may not have where it writes them.
 ghost use Rattle.std.specs.Prelude.{◌≡◌, IfOk, None};
-ghost use Rattle.rinqebo_findings.specs.Subjects.{IsElementFinding, code_of, error_at, lack_path, subject};
+ghost use Rattle.rinqebo_findings.specs.Subjects.{IsElementFinding, IsErrorAt, code_of, lack_path, part_of};
 
 use crate::delays::delays_finding;
 use crate::expected::expected_at;
@@ -81,7 +81,9 @@ fn wrong_element(
 }
 
 /// Whether the key is wrong or the value, where a table or a value is refused.
-fn wrong_part(cause: &ElementCause) -> SpanPart {
+fn wrong_part(cause: &ElementCause) -> SpanPart
+    ensures { result ≡ part_of cause.now }
+{
     match cause {
         ElementCause::Missing(_) | ElementCause::UnknownField => SpanPart::Key,
         ElementCause::WrongKind
@@ -155,7 +157,8 @@ fn value_finding(
     cause: &ElementCause,
     path: &[Step<'_>],
 ) -> Result<Finding, AllocError>
-    ensures { IfOk result (λ found. subject found ≡ error_at (code_of cause.now) path.now) }
+    ensures { IfOk result (IsErrorAt refused.now.source.layers.now refused.now.source.position
+        (code_of cause.now) (part_of cause.now) path.now) }
 {
     let alloc = refused.alloc;
     let wrong = wrong_element(alloc, refused.source, cause, path)?;
@@ -177,7 +180,8 @@ fn element_finding(
     cause: &ElementCause,
     path: &[Step<'_>],
 ) -> Result<Finding, AllocError>
-    ensures { IfOk result (IsElementFinding cause.now path.now None) }
+    ensures { IfOk result (IsElementFinding refused.now.source.layers.now
+        refused.now.source.position cause.now path.now None) }
 {
     match cause {
         ElementCause::OutOfRange if has_table(refused.source, path) => {
@@ -219,7 +223,8 @@ fn lack_finding(
     at: &[Step<'_>],
     has_stray: bool,
 ) -> Result<Finding, AllocError>
-    ensures { IfOk result (λ found. subject found ≡ error_at Code.MissingKey at.now) }
+    ensures { IfOk result (IsErrorAt refused.now.source.layers.now refused.now.source.position
+        Code.MissingKey SpanPart.Key at.now) }
 {
     let wrong = lack_text(refused.alloc, key, table)?;
     let (help, help_place) = lack_help(refused, key, table, has_stray)?;
@@ -238,8 +243,8 @@ fn missing_finding<'x>(
     table: &[Step<'x>],
     stray: Option<&'x str>,
 ) -> Result<Finding, AllocError>
-    ensures { IfOk result (λ found. subject found
-        ≡ error_at Code.MissingKey (lack_path table.now stray.entry)) }
+    ensures { IfOk result (IsErrorAt refused.now.source.layers.now refused.now.source.position
+        Code.MissingKey SpanPart.Key (lack_path table.now stray.entry)) }
 {
     match stray {
         Some(stray) => {
@@ -258,7 +263,8 @@ pub fn fault_finding<'x>(
     path: &[Step<'x>],
     stray: Option<&'x str>,
 ) -> Result<Finding, AllocError>
-    ensures { IfOk result (IsElementFinding cause.now path.now stray.entry) }
+    ensures { IfOk result (IsElementFinding refused.now.source.layers.now
+        refused.now.source.position cause.now path.now stray.entry) }
 {
     match cause {
         ElementCause::Missing(key) => { Ok(missing_finding(refused, key.as_str(), path, stray)?) }

@@ -50,8 +50,8 @@ fn document_findings(
     document: &Tree,
     edits: &mut Edits,
 ) -> Result<Vec<Finding>, AllocError>
-    ensures { IfOk result
-        (λ findings. ReportValues (tree_view document.now) findings.items) }
+    ensures { IfOk result (λ findings.
+        ReportValues session.now.layers.items place (tree_view document.now) findings.items) }
 {
     let tree = lay_over(alloc, document, default_tree(alloc)?)?;
     let faults = file_faults(alloc, &tree)?;
@@ -68,8 +68,8 @@ fn layer_findings(
     layer: &Layer<'_>,
     edits: &mut Edits,
 ) -> Result<Vec<Finding>, AllocError>
-    ensures { IfOk result
-        (λ findings. ReportDocument (document_in layer.now) findings.items) }
+    ensures { IfOk result (λ findings.
+        ReportDocument session.now.layers.items place (document_in layer.now) findings.items) }
 {
     match document_of(layer) {
         Some(document) => { Ok(document_findings(alloc, session, place, document, edits)?) }
@@ -85,7 +85,8 @@ pub fn value_findings(
     layers: &[Layer<'_>],
     edits: &mut Edits,
 ) -> Result<Vec<Finding>, AllocError>
-    ensures { IfOk result (λ findings. ReportFiles layers.now findings.items) }
+    ensures { IfOk result
+        (λ findings. ReportFiles session.now.layers.items 0 layers.now findings.items) }
 {
     let mut findings = Vec::new(alloc);
     for (place, layer) in layers.iter().enumerate() {

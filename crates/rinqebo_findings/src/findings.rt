@@ -1,6 +1,7 @@
 //! Findings: how they are made, and those of warnings.
 ghost use Rattle.std.specs.Prelude.{◌≡◌, IfOk, Some, None};
 ghost use Rattle.rinqebo_codes.specs.Codes.{code_word};
+ghost use Rattle.rinqebo_findings.specs.Placed.{IsPlaceIn};
 ghost use Rattle.rinqebo_findings.specs.Subjects.{shown_path, subject};
 
 use crate::paths::{path_text, spelled_path};
@@ -45,7 +46,9 @@ impl<'l, 't> SourceAt<'l, 't> {
     }
 
     /// The place of the value at a path of the source, or of its key.
-    fn place_at(self, path: &[Step<'_>], part: SpanPart) -> Option<FilePlace> {
+    fn place_at(self, path: &[Step<'_>], part: SpanPart) -> Option<FilePlace>
+        ensures { IsPlaceIn part self.entry.layers.now self.entry.position path.now result }
+    {
         Some(part_place(self.layers, self.position?, path, part))
     }
 }
@@ -129,11 +132,13 @@ pub fn finding_at(
     part: SpanPart,
     message: String,
 ) -> Result<Finding, AllocError>
-    ensures { IfOk result (λ found. subject found ≡ record {
+    ensures about { IfOk result (λ found. subject found ≡ record {
       level = level;
       code = code_word label.code;
       path = Some (shown_path path.now);
     }) }
+    ensures place { IfOk result (λ found.
+        IsPlaceIn part source.entry.layers.now source.entry.position path.now found.place) }
 {
     let mut found = finding(alloc, level, label, source, message)?;
     found.place = source.place_at(path, part);
@@ -143,7 +148,8 @@ pub fn finding_at(
 
 /// Returns a finding with one more note, if there is one.
 pub fn with_note(found: Finding, note: Option<String>) -> Result<Finding, AllocError>
-    ensures { IfOk result (λ noted. subject noted ≡ subject found) }
+    ensures about { IfOk result (λ noted. subject noted ≡ subject found) }
+    ensures place { IfOk result (λ noted. noted.place ≡ found.place) }
 {
     let mut noted = found;
     match note {

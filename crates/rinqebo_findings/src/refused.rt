@@ -1,5 +1,7 @@
 //! The findings of a refused source.
-ghost use Rattle.std.specs.Prelude.{◌≡◌, IfOk};
+ghost use Rattle.std.specs.Prelude.{◌≡◌, ℕ, IfOk, IfSome, Option};
+ghost use Rattle.rinqebo_files.specs.Origins.{IsPartPlace};
+ghost use Rattle.rinqebo_findings.specs.Placed.{IsPlaceIn, IsPlacedAt};
 ghost use Rattle.rinqebo_findings.specs.Subjects.{error_at, subject};
 
 use crate::findings::{Label, SourceAt, finding, finding_at};
@@ -53,7 +55,9 @@ impl Refused<'_, '_> {
         part: SpanPart,
         wrong: &str,
     ) -> Result<Finding, AllocError>
-        ensures { IfOk result (λ found. subject found ≡ error_at code path.now) }
+        ensures about { IfOk result (λ found. subject found ≡ error_at code path.now) }
+        ensures place { IfOk result (λ found. IsPlacedAt part self.now.source.layers.now
+            self.now.source.position path.now found.place) }
     {
         let alloc = self.alloc;
         let message = String::from_str(alloc, wrong)?;
@@ -66,9 +70,11 @@ impl Refused<'_, '_> {
 
     /// A finding about the value at a path.
     pub fn at(&self, code: Code, path: &[Step<'_>], wrong: &str) -> Result<Finding, AllocError>
-        ensures { IfOk result (λ found. subject found ≡ error_at code path.now) }
+        ensures about { IfOk result (λ found. subject found ≡ error_at code path.now) }
+        ensures place { IfOk result (λ found. IsPlacedAt SpanPart.Value self.now.source.layers.now
+            self.now.source.position path.now found.place) }
     {
-        self.part_at(code, path, SpanPart::Value, wrong)
+        Ok(self.part_at(code, path, SpanPart::Value, wrong)?)
     }
 
     /// A finding with a message alone.
@@ -117,15 +123,27 @@ fn written_place(
     place: Option<FilePlace>,
     path: &[Step<'_>],
     part: SpanPart,
-) -> Option<FilePlace> {
-    match place {
-        Some(FilePlace { lines: None, .. }) => highest_place(layers, path, part).or(place),
-        _ => place,
+) -> Option<FilePlace>
+    ensures { (source : Option ℕ) → IsPlaceIn part layers.now source path.now place
+        → IsPlacedAt part layers.now source path.now result }
+{
+    let Some(own) = place else {
+        return place;
+    };
+    if own.lines.is_some() {
+        return place;
+    }
+    match highest_place(layers, path, part) {
+        Some(other) => Some(other),
+        None => place,
     }
 }
 
 /// The place of the value at a path, or of its key, in the highest layer that writes it.
-fn highest_place(layers: &[Layer], path: &[Step<'_>], part: SpanPart) -> Option<FilePlace> {
+fn highest_place(layers: &[Layer], path: &[Step<'_>], part: SpanPart) -> Option<FilePlace>
+    ensures { IfSome result (λ place.
+        (other : ℕ) × IsPartPlace part layers.now other path.now place) }
+{
     for (source, _layer) in layers.iter().enumerate().rev() {
         let place = part_place(layers, source, path, part);
         if place.lines.is_some() {

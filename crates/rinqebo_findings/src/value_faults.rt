@@ -207,7 +207,7 @@ fn finding_of(
     source: usize,
     fault: &ValueFault<'_>,
 ) -> Result<Finding, AllocError>
-    ensures { IfOk result (IsFindingOf fault.now) }
+    ensures { IfOk result (IsFindingOf session.now.layers.items source fault.now) }
 {
     let left_out = LeftOut::new(alloc);
     let mut none = Vec::new(alloc);
@@ -235,9 +235,12 @@ fn add_finding(
     is_joined: bool,
     findings: &mut Vec<Finding>,
 ) -> Result<(), AllocError>
-    ensures { (Joined : ValueFault → Type 0) (earlier : List ValueFault)
-        → (is_joined ≡ true → Joined fault.now) → ReportFaults Joined earlier findings.old.items
-        → OnOk result (ReportFaults Joined (earlier ++ fault.now ∷ []) findings.new.items) }
+    ensures { let IsOf = IsFindingOf session.now.layers.items source in
+        (Joined : ValueFault → Type 0) (earlier : List ValueFault)
+        → (is_joined ≡ true → Joined fault.now)
+        → ReportFaults IsOf Joined earlier findings.old.items
+        → OnOk result
+        (ReportFaults IsOf Joined (earlier ++ fault.now ∷ []) findings.new.items) }
 {
     if is_joined {
         return Ok(());
@@ -254,7 +257,9 @@ pub fn fault_findings(
     source: usize,
     faults: &[ValueFault<'_>],
 ) -> Result<Vec<Finding>, AllocError>
-    ensures { IfOk result (λ findings. ReportFaults (IsJoined faults.now) faults.now findings.items) }
+    ensures { IfOk result (λ findings. ReportFaults
+        (IsFindingOf session.now.layers.items source) (IsJoined faults.now) faults.now
+        findings.items) }
 {
     let marks = joined_marks(alloc, faults)?;
     let mut findings = Vec::new(alloc);

@@ -1,18 +1,16 @@
-use Rattle.std.proofs.Common.{◌∙◌, ap}
-use Rattle.rinqebo_codes.specs.declared.code.Code.TheVariants.{MaxDelayBelowDelay}
-use Rattle.rinqebo_findings.specs.Subjects.{error_at}
-use Rattle.rinqebo_findings.proofs.Values.{error_below, error_here}
+use Rattle.std.proofs.Common.{◌∙◌, ◌∷◌, []}
+use Rattle.rinqebo_findings.proofs.Values.{delays_below, delays_here}
 use Rattle.rinqebo_findings.proofs.delays.delays_finding.Goals as goal
 
 pub returns-in_ok-at : goal.returns-in_ok-at
-returns-in_ok-at c = error_here _ _ _ c.in_ok-at.ensures
+returns-in_ok-at c = delays_here _ _ _ _ c.in_ok-at.ensures.about c.in_ok-at.ensures.place
 
 pub returns-in_ok-with_other : goal.returns-in_ok-with_other
 returns-in_ok-with_other c =
-    error_below _ _ _ _ _ (c.deref.ensures.value ∙ c.in_ok-longest.ensures)
-    (c.in_ok-with_other.ensures ∙ c.in_ok-found.ensures)
+    delays_below _ _ _ _ _ _ _ (c.deref.ensures.value ∙ c.in_ok-longest.ensures) c.in_ok-found.ensures
+    c.in_ok-with_other.ensures.about c.in_ok-with_other.ensures.place
 
 pub returns-in_ok-with_other-else-writes : goal.returns-in_ok-with_other-else-writes
 returns-in_ok-with_other-else-writes c =
-    error_below _ _ _ _ _ (c.deref.ensures.value ∙ c.in_ok-first.ensures)
-    (c.in_ok-with_other-else-writes.ensures ∙ c.in_ok-found-else-writes.ensures)
+    delays_below _ _ _ _ _ _ _ (c.deref.ensures.value ∙ c.in_ok-first.ensures) c.in_ok-found-else-writes.ensures
+    c.in_ok-with_other-else-writes.ensures.about c.in_ok-with_other-else-writes.ensures.place

@@ -7,4 +7,4 @@ returns-in_ok-delays_finding-in-OutOfRange c =
     rw c.in-OutOfRange.is (inr c.in_ok-delays_finding-in-OutOfRange.ensures)
 
 pub returns : goal.returns
-returns c = element_here _ _ _ c.in_ok-value_finding-in_default.ensures
+returns c = element_here _ _ _ _ _ c.in_ok-value_finding-in_default.ensures

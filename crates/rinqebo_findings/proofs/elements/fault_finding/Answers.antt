@@ -5,4 +5,4 @@ pub returns-in_ok-missing_finding-in-Missing : goal.returns-in_ok-missing_findin
 returns-in_ok-missing_finding-in-Missing c = rw c.in-Missing.is c.in_ok-missing_finding-in-Missing.ensures
 
 pub returns : goal.returns
-returns c = other_here _ _ _ _ c.in_default.not-Missing c.in_ok-element_finding-in_default.ensures
+returns c = other_here _ _ _ _ _ _ c.in_default.not-Missing c.in_ok-element_finding-in_default.ensures
