@@ -42,7 +42,7 @@ same_value : {A : Type 0} (x y : A) → Some x ≡ Some y → x ≡ y
 same_value x y e = cc
 
 both : {b : Bool} → b ≡ false → b ≡ true → ⊥
-both no yes = cc
+both unset is_set = cc
 
 -- what is at a place is what was read there
 pub read_again : (Holds : ValueFault → Type 0) (faults : List ValueFault) (place : ℕ) (fault : ValueFault)
@@ -60,7 +60,7 @@ none_set count place =
 
 -- no mark is set
 pub none_joined : (faults : List ValueFault) (count : ℕ) → AreJoined faults (replicate count false)
-none_joined faults count place fault set is = absurd (both (none_set count place) set)
+none_joined faults count place fault is_set is = absurd (both (none_set count place) is_set)
 
 same_or_not : (m n : ℕ) → (m ≡ n) ⊎ (m ≢ n)
 same_or_not m n =

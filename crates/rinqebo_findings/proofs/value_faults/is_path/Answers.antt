@@ -10,4 +10,4 @@ loop-place-preserved c =
 
 pub returns : goal.returns
 returns c =
-    λ yes. steps_all c.args.one.now c.args.other.now c.loop-place.place (omega arith) (omega arith) c.loop-place.invariant
+    λ same. steps_all c.args.one.now c.args.other.now c.loop-place.place (omega arith) (omega arith) c.loop-place.invariant
