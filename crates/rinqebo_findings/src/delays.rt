@@ -176,18 +176,20 @@ pub fn delays_finding(refused: &Refused<'_, '_>, path: &[Step<'_>]) -> Result<Fi
         (IsDelaysFinding refused.now.source.layers.now refused.now.source.position path.now) }
 {
     let alloc = refused.alloc;
-    let longest = path_with(alloc, path, "max-delay")?;
-    let first = path_with(alloc, path, "delay")?;
-    let (Some(most), Some(least)) = (text_of(refused, &longest), text_of(refused, &first)) else {
+    let last_path = path_with(alloc, path, "max-delay")?;
+    let first_path = path_with(alloc, path, "delay")?;
+    let longest = last_path.as_slice();
+    let first = first_path.as_slice();
+    let (Some(most), Some(least)) = (text_of(refused, longest), text_of(refused, first)) else {
         let code = Code::MaxDelayBelowDelay;
         return Ok(refused.at(code, path, "`max-delay` is shorter than `delay`")?);
     };
     let wrong = format!(in alloc; "`max-delay` ({most}) is shorter than `delay` ({least})")?;
-    if writes(refused, &longest) {
-        let found = entry_finding(refused, &longest, wrong.as_str(), least)?;
-        Ok(with_other(refused, found, &longest, &first, "delay")?)
+    if writes(refused, longest) {
+        let found = entry_finding(refused, longest, wrong.as_str(), least)?;
+        Ok(with_other(refused, found, longest, first, "delay")?)
     } else {
-        let found = entry_finding(refused, &first, wrong.as_str(), least)?;
-        Ok(with_other(refused, found, &first, &longest, "max-delay")?)
+        let found = entry_finding(refused, first, wrong.as_str(), least)?;
+        Ok(with_other(refused, found, first, longest, "max-delay")?)
     }
 }
