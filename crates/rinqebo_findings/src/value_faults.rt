@@ -65,14 +65,27 @@ pub fn with_strays<'t>(
     Ok(found)
 }
 
+/// Whether a step is to a key.
+fn is_named(step: &Step<'_>, key: &str) -> bool
+    ensures { IsTrue result → path_step step.now ≡ paths.key key.now }
+{
+    matches!(step, Step::Key(name) if *name == key)
+}
+
+/// Whether a step is to a position.
+fn is_numbered(step: &Step<'_>, position: usize) -> bool
+    ensures { IsTrue result → path_step step.now ≡ paths.position position }
+{
+    matches!(step, Step::Position(own) if *own == position)
+}
+
 /// Whether two steps are the same.
 fn is_step(one: &Step<'_>, other: &Step<'_>) -> bool
     ensures { IsTrue result → path_step one.now ≡ path_step other.now }
 {
-    match (one, other) {
-        (Step::Key(one), Step::Key(other)) => *one == *other,
-        (Step::Position(one), Step::Position(other)) => *one == *other,
-        _ => false,
+    match one {
+        Step::Key(key) => is_named(other, *key),
+        Step::Position(position) => is_numbered(other, *position),
     }
 }
 
@@ -91,16 +104,6 @@ fn is_path(one: &[Step<'_>], other: &[Step<'_>]) -> bool
     true
 }
 
-/// Whether a step is to a key.
-fn is_named(step: &Step<'_>, key: &str) -> bool
-    ensures { IsTrue result → path_step step.now ≡ paths.key key.now }
-{
-    match step {
-        Step::Key(name) => *name == key,
-        Step::Position(_) => false,
-    }
-}
-
 /// Whether a path is that of a key of the table at another one.
 fn is_key_in(path: &[Step<'_>], table: &[Step<'_>], key: &str) -> bool
     ensures { IsTrue result → IsKeyIn path.now table.now key.now }
@@ -108,11 +111,10 @@ fn is_key_in(path: &[Step<'_>], table: &[Step<'_>], key: &str) -> bool
     let Some((last, rest)) = path.split_last() else {
         return false;
     };
-    if is_named(last, key) {
-        is_path(rest, table)
-    } else {
-        false
+    if !is_named(last, key) {
+        return false;
     }
+    is_path(rest, table)
 }
 
 /// Whether a fault is that the table at a path refuses a key.

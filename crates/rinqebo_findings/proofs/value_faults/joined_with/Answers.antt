@@ -10,6 +10,6 @@ returns-in-Missing c =
       missing = c.in-Missing.field-0;
       lacks = c.in-Missing.is;
       key = c.in_ok-stray.stray;
-      in_place = c.in_ok-stray.is;
+      in_place = c.in_ok-stray.was;
       stands = stands refused is;
     })
