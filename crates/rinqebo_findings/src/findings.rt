@@ -49,7 +49,8 @@ impl<'l, 't> SourceAt<'l, 't> {
     fn place_at(self, path: &[Step<'_>], part: SpanPart) -> Option<FilePlace>
         ensures { IsPlaceIn part self.entry.layers.now self.entry.position path.now result }
     {
-        Some(part_place(self.layers, self.position?, path, part))
+        let source = self.position?;
+        Some(part_place(self.layers, source, path, part))
     }
 }
 
