@@ -1,6 +1,4 @@
-use Rattle.std.proofs.Common.{◌∙◌, ap}
-use Rattle.rinqebo_codes.specs.declared.code.Code.TheVariants.{MaxDelayBelowDelay}
-use Rattle.rinqebo_findings.specs.Subjects.{error_at}
+use Rattle.std.proofs.Common.{◌∙◌}
 use Rattle.rinqebo_findings.proofs.Values.{error_below, error_here}
 use Rattle.rinqebo_findings.proofs.delays.delays_finding.Goals as goal
 

@@ -1,5 +1,4 @@
 use Rattle.std.proofs.Common.{◌∙◌, take, length, refl, sym, arith}
-use Rattle.std.proofs.lemmas.List.{take_all}
 use Rattle.std.proofs.lemmas.Option.{slice_get_read}
 use Rattle.rinqebo_findings.specs.Faults.{IsJoined}
 use Rattle.rinqebo_findings.proofs.Reporting.{up_to_end, up_to_next}
