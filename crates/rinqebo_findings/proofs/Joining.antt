@@ -1,13 +1,12 @@
 -- Faults that are joined, and their paths.
-use Rattle.std.proofs.Common.{◌≡◌, ◌≢◌, ◌<◌, ◌≤◌, ◌⊎◌, ℕ, List, [], ◌∷◌, ◌++◌, ◌+◌, Bool, true, false, Option, Some, None, length, take, get_or, set, map, replicate, slice_get, inl, inr, refl, sym, ap, ◌∙◌, subst, arith}
+use Rattle.std.proofs.Common.{◌≡◌, ◌≢◌, ◌<◌, ◌≤◌, ◌⊎◌, ℕ, List, [], ◌∷◌, ◌++◌, ◌+◌, Bool, true, false, Some, length, take, get_or, set, map, replicate, slice_get, inl, inr, sym, ap, ◌∙◌, subst, arith}
 use Rattle.std.proofs.lemmas.Bool.{cases_lt}
 use Rattle.std.proofs.lemmas.List.{get_or_past, get_or-replicate, get_or-set_other, length-replicate, map-append, take_all, take_more}
 use Rattle.nextest_places.specs.declared.step.Step.{Step}
 use Rattle.nextest_spans.specs.Paths.{path_step}
 use Rattle.nextest_spans.specs.Paths as paths
-use Rattle.nextest_tree.specs.declared.fault.ElementCause.TheVariants as causes
 use Rattle.rinqebo_findings.specs.declared.value_faults.ValueFault.{ValueFault}
-use Rattle.rinqebo_findings.specs.Faults.{AreJoined, IsJoined, IsKeyIn, IsRefusedKey}
+use Rattle.rinqebo_findings.specs.Faults.{AreJoined, IsJoined, IsKeyIn}
 
 -- one more step of a path
 front : (xs : List Step) (place : ℕ) (x : Step) → place < length xs → x ≡ get_or xs place x

@@ -1,5 +1,5 @@
 -- What findings are about.
-use Rattle.std.specs.Prelude.{◌≡◌, ◌⊎◌, ℕ, List, [], ◌∷◌, ◌++◌, Option, Some, option_map, string_bytes, codes}
+use Rattle.std.specs.Prelude.{◌≡◌, ◌⊎◌, ℕ, List, [], ◌∷◌, ◌++◌, Option, None, Some, option_map, string_bytes, codes}
 use Rattle.std.specs.Borrow.{Bor}
 use Rattle.nextest_faults.specs.Found.{step_text}
 use Rattle.nextest_places.specs.declared.step.Step.{Step}
