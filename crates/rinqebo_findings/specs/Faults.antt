@@ -39,7 +39,7 @@ pub record IsJoined (faults : List ValueFault) (fault : ValueFault) : Type 0 whe
   pub lacks : other.fault.cause ≡ causes.Missing missing
   pub key : Bor (List ℕ)
   pub in_place : other.stray ≡ Some key
-  pub stands : IsRefusedKey other.fault.path.items key.now fault.fault
+  pub refuses : IsRefusedKey other.fault.path.items key.now fault.fault
 
 -- the faults whose marks are set are joined
 abbrev pub AreJoined : List ValueFault → List Bool → Type 0
@@ -65,7 +65,8 @@ ReportFaults Joined (fault ∷ faults) (finding ∷ findings) =
 -- definitions list of it, over the table of defaults, each in turn.
 pub record ReportValues (document : Node) (findings : List Finding) : Type 0 where
   pub found : List ValueFault
-  pub are_all : Adds [] (map (λ f. f.fault) found) (schema.faults a_file [] (over document defaults))
+  pub are_all : Adds [] (map (λ f. f.fault) found)
+      (schema.faults a_file [] (over document defaults))
   pub reported : ReportFaults (IsJoined found) found findings
 
 -- what is wrong with the values of a document, if there is one

@@ -61,9 +61,9 @@ abbrev pub lack_path : List Step → Option (Bor (List ℕ)) → List Step
 lack_path table None = table
 lack_path table (Some key) = table ++ steps.Key key ∷ []
 
--- A finding is that of a value: an error with the code of what is wrong there, at its path. That a table
--- lacks a key is at the key that it has in its place, if there is one. Of a table, delays are out of
--- range: at the table, or below it.
+-- A finding is that of a value: an error with the code of what is wrong there, at its path. That a
+-- table lacks a key is at the key that it has in its place, if there is one. Of a table, delays are
+-- out of range: at the table, or below it.
 abbrev pub IsElementFinding : ElementCause → List Step → Option (Bor (List ℕ)) → Finding → Type 0
 IsElementFinding (causes.Missing key) path stray finding =
     subject finding ≡ error_at MissingKey (lack_path path stray)
