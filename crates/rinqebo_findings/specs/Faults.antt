@@ -39,7 +39,7 @@ pub record IsJoined (faults : List ValueFault) (fault : ValueFault) : Type 0 whe
   pub lacks : other.fault.cause ≡ causes.Missing missing
   pub key : Bor (List ℕ)
   pub in_place : other.stray ≡ Some key
-  pub stands : IsRefusedKey other.fault.path.items key.now fault.fault
+  pub refuses : IsRefusedKey other.fault.path.items key.now fault.fault
 
 -- the faults whose marks are set are joined
 abbrev pub AreJoined : List ValueFault → List Bool → Type 0
@@ -50,7 +50,8 @@ AreJoined faults marks =
 -- a finding is that of a fault of a source
 abbrev pub IsFindingOf : List Layer → ℕ → ValueFault → Finding → Type 0
 IsFindingOf layers source fault finding =
-    IsElementFinding layers (Some source) fault.fault.cause fault.fault.path.items fault.stray finding
+    IsElementFinding layers (Some source) fault.fault.cause fault.fault.path.items fault.stray
+    finding
 
 -- Findings report faults, each in turn: a fault has one finding of its own, or it is joined.
 abbrev pub ReportFaults : (ValueFault → Finding → Type 0) → (ValueFault → Type 0)
@@ -63,12 +64,13 @@ ReportFaults IsOf Joined (fault ∷ faults) (finding ∷ findings) =
     (Joined fault × ReportFaults IsOf Joined faults (finding ∷ findings))
     ⊎ (IsOf fault finding × ReportFaults IsOf Joined faults findings)
 
--- Findings report what is wrong with the values of a document, which is a source: exactly the faults
--- that the definitions list of it, over the table of defaults, each in turn.
-pub record ReportValues (layers : List Layer) (source : ℕ) (document : Node) (findings : List Finding)
-    : Type 0 where
+-- Findings report what is wrong with the values of a document, which is a source: exactly the
+-- faults that the definitions list of it, over the table of defaults, each in turn.
+pub record ReportValues (layers : List Layer) (source : ℕ) (document : Node)
+    (findings : List Finding) : Type 0 where
   pub found : List ValueFault
-  pub are_all : Adds [] (map (λ f. f.fault) found) (schema.faults a_file [] (over document defaults))
+  pub are_all : Adds [] (map (λ f. f.fault) found)
+      (schema.faults a_file [] (over document defaults))
   pub reported : ReportFaults (IsFindingOf layers source) (IsJoined found) found findings
 
 -- what is wrong with the values of a document, if there is one
@@ -80,8 +82,8 @@ ReportDocument layers source None findings = findings ≡ []
 abbrev pub document_in : Layer → Option Node
 document_in layer = option_and_then tree_of layer.places
 
--- Findings report what is wrong with the values in the files of some of the layers, from a source on,
--- file by file.
+-- Findings report what is wrong with the values in the files of some of the layers, from a source
+-- on, file by file.
 abbrev pub ReportFiles : List Layer → ℕ → List Layer → List Finding → Type 0
 ReportFiles all source [] findings = findings ≡ []
 ReportFiles all source (layer ∷ layers) findings =

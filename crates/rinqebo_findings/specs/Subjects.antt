@@ -67,8 +67,8 @@ pub record IsErrorAt (layers : List Layer) (source : Option ℕ) (code : Code) (
   pub about : subject finding ≡ error_at code path
   pub place : IsPlacedAt part layers source path finding.place
 
--- A finding is that delays do not agree, which a table or values of it have: it is on the lines of the
--- table or of one of them.
+-- A finding is that delays do not agree, which a table or values of it have: it is on the lines of
+-- the table or of one of them.
 pub record IsDelaysFinding (layers : List Layer) (source : Option ℕ) (table : List Step)
     (finding : Finding) : Type 0 where
   pub rest : List Step
@@ -81,8 +81,8 @@ lack_path table None = table
 lack_path table (Some key) = table ++ steps.Key key ∷ []
 
 -- A finding is that of a value: an error with the code of what is wrong there, at its path and its
--- place. That a table lacks a key is at the key that it has in its place, if there is one. Of a table,
--- delays are out of range.
+-- place. That a table lacks a key is at the key that it has in its place, if there is one. Of a
+-- table, delays are out of range.
 abbrev pub IsElementFinding :
     List Layer → Option ℕ → ElementCause → List Step → Option (Bor (List ℕ)) → Finding → Type 0
 IsElementFinding layers source (causes.Missing key) path stray finding =

@@ -151,8 +151,8 @@ fn entry_finding(
     Ok(found)
 }
 
-/// Returns a finding about an entry of a table, with what it says of the other entry that it does not
-/// agree with.
+/// Returns a finding about an entry of a table, with what it says of the other entry that it does
+/// not agree with.
 fn with_other(
     refused: &Refused<'_, '_>,
     found: Finding,

@@ -197,8 +197,8 @@ fn lack_text(alloc: Global, key: &str, table: &[Step<'_>]) -> Result<String, All
     format!(in alloc; "{name} needs `{key}`")
 }
 
-/// What to do about a key that the table at a path lacks, and where that is shown: it may have another
-/// one in its place.
+/// What to do about a key that the table at a path lacks, and where that is shown: it may have
+/// another one in its place.
 fn lack_help(
     refused: &Refused<'_, '_>,
     key: &str,
@@ -214,8 +214,8 @@ fn lack_help(
     Ok((help, HelpPlace::Below))
 }
 
-/// The finding, at a path, that the table at another one lacks a key: at that of the key that it has
-/// in its place, or of the table itself.
+/// The finding, at a path, that the table at another one lacks a key: at that of the key that it
+/// has in its place, or of the table itself.
 fn lack_finding(
     refused: &Refused<'_, '_>,
     key: &str,
@@ -255,8 +255,8 @@ fn missing_finding<'x>(
     }
 }
 
-/// The finding of a fault of a value at a path. A table that lacks a key may have another one in its
-/// place.
+/// The finding of a fault of a value at a path. A table that lacks a key may have another one in
+/// its place.
 pub fn fault_finding<'x>(
     refused: &Refused<'_, '_>,
     cause: &ElementCause,
@@ -284,8 +284,8 @@ fn path_of_stray<'p>(
     path_with(alloc, &table, stray)
 }
 
-/// A copy of the key that the table at a path has in place of one that it lacks, if one is near that
-/// it does not know.
+/// A copy of the key that the table at a path has in place of one that it lacks, if one is near
+/// that it does not know.
 fn stray_at(
     alloc: Global,
     source: SourceAt<'_, '_>,
@@ -301,7 +301,8 @@ fn stray_at(
     }
 }
 
-/// The finding that a table of a source lacks a key: at a key that it does not know, if one is near.
+/// The finding that a table of a source lacks a key: at a key that it does not know, if one is
+/// near.
 fn missing_in_source(
     refused: &Refused<'_, '_>,
     fault: &ElementFault,

@@ -178,8 +178,8 @@ fn lines_at(
     }
 }
 
-/// Returns a finding, behind some others, with the lines of its file that show it, unless it has some
-/// or a page does not show it.
+/// Returns a finding, behind some others, with the lines of its file that show it, unless it has
+/// some or a page does not show it.
 fn lined(
     alloc: Global,
     gathered: &Gathered,

@@ -1,4 +1,5 @@
-//! What is wrong with the values in the files of a run, which are then read without what is refused.
+//! What is wrong with the values in the files of a run, which are then read without what is
+//! refused.
 ghost use Rattle.std.specs.Prelude.{◌≡◌, IfOk, MatchOption, None, Some};
 ghost use Rattle.nextest_tree.specs.View.{tree_view};
 ghost use Rattle.rinqebo_findings.specs.Faults.{ReportDocument, ReportFiles, ReportValues, document_in};
@@ -15,7 +16,7 @@ use rinqebo_load::Session;
 use rinqebo_report::Finding;
 use std::alloc::{AllocError, Global};
 
-/// Leaves out the values of a source that are refused, and the keys that stand in place of missing
+/// Leaves out the values of a source that are refused, and the keys that are in place of missing
 /// ones.
 fn leave_out_faults(
     edits: &mut Edits,
@@ -77,8 +78,8 @@ fn layer_findings(
     }
 }
 
-/// The findings of the values in the files of layers, which are those of a session, file by file. What
-/// is refused is left out.
+/// The findings of the values in the files of layers, which are those of a session, file by file.
+/// What is refused is left out.
 pub fn value_findings(
     alloc: Global,
     session: &Session<'_>,

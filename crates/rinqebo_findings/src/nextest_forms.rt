@@ -1,4 +1,4 @@
-//! What nextest refuses and a load does not look at: the version that a file asks for, the features
+//! What nextest refuses and a load does not look at: the version that a file needs, the features
 //! that it switches on, archives, and how running tests are ended.
 use crate::findings::{SourceAt, UNKNOWN_KEY, key_warning};
 use crate::given::kind_words;
@@ -65,7 +65,7 @@ fn add_kind(
     refused.add_finding(found)
 }
 
-/// Adds that a string is none that may stand at a path.
+/// Adds that a string is none that a path may have.
 fn add_text(
     refused: &mut Refused<'_, '_>,
     path: &[Step<'_>],
@@ -163,7 +163,7 @@ fn add_version(
     }
 }
 
-/// Adds what is wrong with the version that a file asks for.
+/// Adds what is wrong with the version that a file needs.
 fn add_versions(refused: &mut Refused<'_, '_>, tree: &Tree) -> Result<(), AllocError> {
     let alloc = refused.alloc;
     let path = [Step::Key("nextest-version")];

@@ -56,8 +56,8 @@ pub fn report_of_refusal(
     Ok(report_of(alloc, session, findings, unreached, Content::Check)?)
 }
 
-/// The report of a check whose load refuses: what is wrong with the files, also what nextest refuses
-/// and a load does not look at.
+/// The report of a check whose load refuses: what is wrong with the files, also what nextest
+/// refuses and a load does not look at.
 pub fn report_of_refused_check(
     alloc: Global,
     session: &Session<'_>,

@@ -1,5 +1,5 @@
-//! All that is wrong with files that are refused: the faults of all values, and then what each later
-//! check finds in files without these.
+//! All that is wrong with files that are refused: the faults of all values, and then what each
+//! later check finds in files without these.
 ghost use Rattle.std.specs.Prelude.{IfOk};
 ghost use Rattle.rinqebo_findings.specs.Faults.{ReportAll};
 
@@ -158,8 +158,8 @@ impl<'s, 'g> Search<'s, 'g> {
     }
 
     /// Leaves out settings of a source whose values are refused although others are left out: they
-    /// follow from these. If there are none, the merged files are refused. Returns whether the search
-    /// goes on.
+    /// follow from these. If there are none, the merged files are refused. Returns whether the
+    /// search goes on.
     fn take_element(&mut self, place: usize, error: &ConfigParseError) -> Result<bool, AllocError> {
         let alloc = self.alloc;
         let Some(text) = self.reading.text_at(alloc, &self.session.layers, place)? else {
@@ -246,7 +246,8 @@ impl<'s, 'g> Search<'s, 'g> {
         }
     }
 
-    /// Adds what a check of a source refuses, and leaves it out. Returns whether the search goes on.
+    /// Adds what a check of a source refuses, and leaves it out. Returns whether the search goes
+    /// on.
     fn take_check(&mut self, place: usize, error: &ConfigParseError) -> Result<bool, AllocError> {
         let kind = error.kind();
         if !self.rests_on_unread(place, kind) {
@@ -295,8 +296,8 @@ impl<'s, 'g> Search<'s, 'g> {
         }
     }
 
-    /// Adds what is wrong with the files beside their values, of which those that are refused are left
-    /// out. The load of the files reports warnings and refuses them.
+    /// Adds what is wrong with the files beside their values, of which those that are refused are
+    /// left out. The load of the files reports warnings and refuses them.
     fn run(
         &mut self,
         warnings: &DefaultConfigWarnings,

@@ -127,8 +127,8 @@ fn is_refused_key(fault: &FoundFault<'_>, table: &[Step<'_>], key: &str) -> bool
     }
 }
 
-/// The place, before another one, of the fault that the table at a path refuses a key. The faults of
-/// keys that a table refuses come right before those of the keys that it lacks.
+/// The place, before another one, of the fault that the table at a path refuses a key. The faults
+/// of keys that a table refuses come right before those of the keys that it lacks.
 fn refused_before(
     faults: &[ValueFault<'_>],
     end: usize,
@@ -227,8 +227,8 @@ fn finding_of(
     fault_finding(&refused, &fault.fault.cause, &fault.fault.path, fault.stray)
 }
 
-/// Adds the finding of a fault in the source at a place among the layers, unless the fault is joined
-/// with another one.
+/// Adds the finding of a fault in the source at a place among the layers, unless the fault is
+/// joined with another one.
 fn add_finding(
     alloc: Global,
     session: &Session<'_>,
@@ -252,7 +252,8 @@ fn add_finding(
     Ok(())
 }
 
-/// The findings of all faults of the values of the source at a place among the layers, in their order.
+/// The findings of all faults of the values of the source at a place among the layers, in their
+/// order.
 pub fn fault_findings(
     alloc: Global,
     session: &Session<'_>,

@@ -18,15 +18,15 @@ is_error_level levels.Warning = false
 abbrev pub is_error : Finding → Bool
 is_error finding = is_error_level finding.level
 
--- The status of a check whose load accepts: 1 exactly where a finding is an error, or there is one and
--- warnings are denied.
+-- The status of a check whose load accepts: 1 exactly where a finding is an error, or there is one
+-- and warnings are denied.
 abbrev pub accepted_status : Bool → List Finding → ℕ
 accepted_status denies findings =
     if list_any is_error findings || (denies && nat_lt 0 (length findings)) then 1 else 0
 
--- The status of a check: 3 only where some rule does not hold of the files, and then the report shows
--- all that is wrong with their values; and another one only where all rules hold, which the findings of
--- the report decide.
+-- The status of a check: 3 only where some rule does not hold of the files, and then the report
+-- shows all that is wrong with their values; and another one only where all rules hold, which the
+-- findings of the report decide.
 pub record IsCheckStatus (session : Session) (denies : Bool) (report : Report) (status : ℕ)
     : Type 0 where
   pub refused : status ≡ 3 → ¬ AreAccepted session
