@@ -1,10 +1,11 @@
 //! The document of a run, as the library writes it in JSON.
 
+use crate::objects::Objects;
 use crate::{Error, Mode, Platform};
 use serde::{Deserialize, Serialize};
 use std::collections::BTreeMap;
 
-/// What a run returns: all settings of each test, and the scripts of the list.
+/// What a run returns: all settings of each test, the scripts of the list, and the objects of the profile.
 #[derive(Clone, Debug, PartialEq, Serialize, Deserialize)]
 #[serde(rename_all = "kebab-case")]
 #[non_exhaustive]
@@ -31,6 +32,8 @@ pub struct Document {
     pub setup_scripts: Vec<String>,
     /// The list wrappers of the binaries that have one, in the order of the list's keys.
     pub list_wrappers: Vec<ListWrapper>,
+    /// What a runner needs of the profile beside the settings of tests. Programs are as files write them.
+    pub objects: Objects,
 }
 
 /// The script that wraps a binary while it lists its tests.

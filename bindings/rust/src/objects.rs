@@ -181,7 +181,7 @@ pub struct WrapperScript {
     pub target_runner: TargetRunner,
 }
 
-/// The objects of a profile, as the library writes them in JSON.
+/// The objects of a profile, as the library writes them in JSON, for a session and in the document of a run.
 #[derive(Clone, Debug, PartialEq, Eq, Serialize, Deserialize)]
 #[serde(rename_all = "kebab-case")]
 #[non_exhaustive]

@@ -713,6 +713,20 @@ fn a_session_tells_its_warnings() {
 }
 
 #[test]
+fn a_run_has_the_objects_of_its_profile() {
+    let list = example("list.json");
+    for profile in ["ci", "quick", "default"] {
+        let objects = runner(None).profile(profile).unwrap().objects().unwrap();
+        let mut sources = Sources::of_file("/w", RUNNER, TRIPLE);
+        for target in [None, Some("/t".to_owned())] {
+            sources.target_directory = target;
+            let request = RunRequest { sources: &sources, profile, mode: Mode::Test, list: &list };
+            assert_eq!(resolve(&request).unwrap().objects, objects);
+        }
+    }
+}
+
+#[test]
 fn objects_are_written_as_they_are_read() {
     let objects = runner(Some("/t")).profile("ci").unwrap().objects().unwrap();
     let written = serde_json::to_value(&objects).unwrap();

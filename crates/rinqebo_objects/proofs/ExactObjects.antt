@@ -15,7 +15,7 @@ use Rattle.nextest_sources.specs.Sources.{Source}
 use Rattle.nextest_sources.specs.Warnings.{Warning, unknown_keys, reserved_profiles, deprecated_scripts, empty_sections}
 use Rattle.nextest_tables.specs.Written.{Name}
 use Rattle.rinqebo_codes.specs.declared.code.Code.{Code}
-use Rattle.rinqebo_objects.specs.Objects.{AreObjectsOf, objects_data, run_data, with_bounds, with_names, with_output}
+use Rattle.rinqebo_objects.specs.Objects.{objects_data, run_data, with_bounds, with_names, with_output}
 use Rattle.rinqebo_objects.specs.Scripts.{Directories, command_data, group_data, setup_script_data, wrapper_script_data, variables_data}
 use Rattle.rinqebo_objects.specs.Values.{global_timeout_data, leak_data, max_fail_data, optional_data, report_data, slow_data, threads_data}
 use Rattle.rinqebo_objects.specs.WarningObjects.{warning_data, warning_of, warnings_data}
@@ -141,12 +141,12 @@ objects facts run profiles ws ds =
 within : (d : Data) → IsExact 5 d → depth d ≤ 8
 within d h = omega (arith, h.nests)
 
-pub objects_nest : {facts : ProfileFacts} {profiles : List Name} {ws : List Warning} {ds : Option Directories}
-    (value : Data) → AreObjectsOf facts profiles ws ds value → depth value ≤ 8
-objects_nest {facts} {profiles} {ws} {ds} value are =
-    subst (λ (d : Data). depth d ≤ 8) (sym are.same) (within _ (objects facts are.run profiles ws ds))
+pub objects_nest : (facts : ProfileFacts) (run : RunValues) (profiles : List Name) (ws : List Warning)
+    (ds : Option Directories) (value : Data) → value ≡ objects_data facts run profiles ws ds → depth value ≤ 8
+objects_nest facts run profiles ws ds value same =
+    subst (λ (d : Data). depth d ≤ 8) (sym same) (within _ (objects facts run profiles ws ds))
 
-pub objects_are_whole : {facts : ProfileFacts} {profiles : List Name} {ws : List Warning} {ds : Option Directories}
-    (value : Data) → AreObjectsOf facts profiles ws ds value → has_float value ≡ false
-objects_are_whole {facts} {profiles} {ws} {ds} value are =
-    rw are.same (objects facts are.run profiles ws ds).whole
+pub objects_are_whole : (facts : ProfileFacts) (run : RunValues) (profiles : List Name) (ws : List Warning)
+    (ds : Option Directories) (value : Data) → value ≡ objects_data facts run profiles ws ds → has_float value ≡ false
+objects_are_whole facts run profiles ws ds value same =
+    subst (λ (d : Data). has_float d ≡ false) (sym same) (objects facts run profiles ws ds).whole

@@ -5,6 +5,7 @@ use Rattle.nextest_elements.specs.declared.run_mode.NextestRunMode.{NextestRunMo
 use Rattle.nextest_rules.specs.KnownView.{features_view}
 use Rattle.nextest_settings.specs.Settings.{settings}
 use Rattle.rinqebo_files.specs.declared.files.Gathered.{Gathered}
+use Rattle.rinqebo_report.specs.declared.format.Format.TheVariants as formats
 use Rattle.rinqebo_request.specs.declared.request.RequestedSettings.{RequestedSettings}
 use Rattle.rinqebo_request.specs.declared.request.RequestedSettings.TheVariants.{Decided, These}
 use Rattle.rinqebo_request.specs.declared.request.EngineOptions.{EngineOptions}
@@ -66,12 +67,13 @@ pub record AreEnginesFor (asked : RequestedText) (engines : EngineOptions) : Typ
   pub target : option_map (λ target. target.now) engines.target ≡ asked.target
   pub build_target : engines.build_target ≡ None
 
--- A request of the program is the one of a run.
+-- A request of the program is the one of a run, for a document of JSON.
 pub record IsRequestFor (asked : RequestedText) (request : Request) : Type 0 where
   pub question : AsksForAll asked request.question
   pub engines : AreEnginesFor asked request.engines
   pub features : (feature : ConfigExperimental)
       → features_view request.features feature ≡ is_on asked.features feature
+  pub format : request.format ≡ formats.Json
 
 -- The files that the program reads are those of a run: its root, its sources, the list of tests,
 -- the metadata, and what the compiler prints for its machines.

@@ -1,5 +1,5 @@
 -- What is told of the tests of a list and of the rules that hold for none.
-use Rattle.std.proofs.Common.{◌≡◌, ◌∙◌, List, [], ◌∷◌, ◌++◌, Bool, Bor, map, Option, ap, refl, string_bytes, subst, sym}
+use Rattle.std.proofs.Common.{◌≡◌, ◌∙◌, List, [], ◌∷◌, ◌++◌, Bool, Bor, map, IfSome, Option, ap, refl, string_bytes, subst, sym}
 use Rattle.std.specs.List.{AllZip}
 use Rattle.filter_language.specs.Filtersets.{marks_view}
 use Rattle.filter_language.specs.declared.filterset.Filterset.{Filterset}
@@ -29,6 +29,7 @@ use Rattle.rinqebo_rules.specs.Rows.{AreTestsReported}
 use Rattle.rinqebo_rules.specs.Scripts.{AreScriptsReported}
 use Rattle.rinqebo_rules.specs.Unused.{unused_among, AreUnusedIn}
 use Rattle.rinqebo_rules.specs.declared.unused.UnusedRules.{UnusedRules}
+use Rattle.rinqebo_report.specs.declared.exact_value.ExactValue.{ExactValue}
 use Rattle.rinqebo_report.specs.declared.origin.Origin.{Origin}
 use Rattle.rinqebo_report.specs.declared.report.Content.{Content}
 use Rattle.rinqebo_report.specs.declared.report.ListScripts.{ListScripts}
@@ -41,7 +42,7 @@ use Rattle.nextest_lists.specs.ListView.{list_view}
 use Rattle.nextest_lists.specs.Lists.{all_binaries, all_tests, list_tests}
 use Rattle.rinqebo_load.specs.Accepted.{AreAccepted}
 use Rattle.rinqebo_rules.specs.Conditions.{is_met_by}
-use Rattle.rinqebo_run.specs.Listed.{IsProfileOn, unused_places, AreTestsOf, IfListed, TellsTests}
+use Rattle.rinqebo_run.specs.Listed.{IsProfileOn, unused_places, AreObjectsListed, AreTestsOf, IfListed, TellsTests}
 use Rattle.rinqebo_run.specs.ListedBy.{basis_of, read_by, listed_by, places_of}
 use Rattle.rinqebo_run.specs.Requested.{IsRequestedIn}
 use Rattle.rinqebo_run.proofs.Requests.{requested_meant}
@@ -50,6 +51,7 @@ use Rattle.rinqebo_rules.specs.Origins.{IsOriginOf}
 use Rattle.rinqebo_rules.specs.RulePlaces.{Place, id_place, script_place}
 use Rattle.rinqebo_load.specs.Sessions.{files_view, readings, IsLoadedFrom}
 use Rattle.rinqebo_load.specs.declared.session.Session.{Session}
+use Rattle.serde_json.specs.View.{view}
 
 -- what holds of each and what is told of it holds of what is made of each
 pub zip_mapped : {A B C : Type 0} (f : A → B) (R : B → C → Type 0) (xs : List A) (ys : List C)
@@ -110,10 +112,11 @@ pub basis_here : (session : Session) (basis : Basis) (layers : List FileLayer) (
     → basis ≡ basis_of session chain
 basis_here session basis layers chain is same = is ∙ ap (based chain) same
 
--- tests, rules and scripts are told by a configuration that was loaded
+-- tests, rules, scripts and objects are told by a configuration that was loaded
 pub listed_here : (session : Session) (loaded : Loaded (Filterset FieldMatcher) TargetSpec) (name : Name)
     (mode : NextestRunMode) (asked : RequestedSettings) (on : EvaluatableModel (Filterset FieldMatcher))
     (names chain : List Name) (ids : UnusedRules) (tests : List TestRows) (unused : List Origin) (scripts : ListScripts)
+    (objects : Option ExactValue)
     → IsProfileOn is_met_by session.engines.platforms (read_by session loaded) name on
     → IsChainAndDefault (parents_in (config_parents loaded.config)) name names → chain ≡ names
     → AreTestsReported (basis_of session chain) (readings session.engines.filters).matches_test mode
@@ -125,9 +128,10 @@ pub listed_here : (session : Session) (loaded : Loaded (Filterset FieldMatcher) 
     → AreScriptsReported (readings session.engines.filters).matches_test (readings session.engines.filters).matches_binary
     (profile_meaning (marks_view names_of) on) (all_tests (list_view session.tests))
     (all_binaries (list_view session.tests)) scripts
-    → listed_by session loaded name mode asked tests unused scripts
-listed_here session loaded name mode asked on names chain ids tests unused scripts is ends same told are origins
-    scripted =
+    → IfSome objects (λ exact. AreObjectsListed on.facts (names_in loaded.config.profiles) (view exact.value))
+    → listed_by session loaded name mode asked tests unused scripts objects
+listed_here session loaded name mode asked on names chain ids tests unused scripts objects is ends same told are origins
+    scripted beside =
     let engines = readings session.engines.filters in
     let profile = profile_meaning (marks_view names_of) on in
     record {
@@ -143,6 +147,7 @@ listed_here session loaded name mode asked on names chain ids tests unused scrip
           are)
           origins;
       scripts_reported = scripted;
+      objects_reported = beside;
     }
 
 -- a report tells the tests of a list by what was loaded

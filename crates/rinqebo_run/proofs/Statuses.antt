@@ -7,7 +7,7 @@ use Rattle.rinqebo_report.specs.declared.report.Content.{Content}
 use Rattle.rinqebo_report.specs.declared.report.Content.TheVariants as contents
 use Rattle.rinqebo_report.specs.declared.report.Entry.{Entry}
 use Rattle.rinqebo_report.specs.declared.report.Report.{Report}
-use Rattle.rinqebo_run.specs.Answered.{AnswersQuestion, IsAnswer, Tells}
+use Rattle.rinqebo_run.specs.Answered.{AnswersQuestion, HasObjectsFor, IsAnswer, Tells}
 use Rattle.rinqebo_load.specs.SessionOf.{IsSessionOf}
 use Rattle.rinqebo_run.specs.LookedUp.{AreLookedUp}
 use Rattle.rinqebo_run.specs.Refused.{Fails, IsFailureIn}
@@ -187,12 +187,14 @@ pub is_answered : (request : Request) (gathered : Gathered) (session : Session) 
     → IfOk answer (λ a. AnswersQuestion request.question session a.report a.status)
     → IfOk answer (λ a. IsReportOf session a.report)
     → IfOk answer (λ _. AreLookedUp session request.question)
+    → IfOk answer (λ a. HasObjectsFor request.question a.report.content)
     → IfOk answer (λ a. IsAnswer request gathered a.report a.status)
-is_answered request gathered session (Ok answer) begun answers about looked_up = record {
+is_answered request gathered session (Ok answer) begun answers about looked_up objects = record {
   session = session;
   begun = begun;
   about = about;
   answers = answers;
   looked_up = looked_up;
+  objects = λ _. objects;
 }
-is_answered request gathered session (Err failure) begun answers about looked_up = tt
+is_answered request gathered session (Err failure) begun answers about looked_up objects = tt

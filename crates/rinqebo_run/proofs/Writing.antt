@@ -28,6 +28,7 @@ use Rattle.rinqebo_report.specs.Pages.{content_runs, list_end_runs, list_runs, l
 use Rattle.rinqebo_report.specs.Pieces.{painted, page_text}
 use Rattle.rinqebo_report.specs.Rendered.{rendered}
 use Rattle.rinqebo_report.specs.declared.format.Format.TheVariants as formats
+use Rattle.rinqebo_report.specs.declared.exact_value.ExactValue.{ExactValue}
 use Rattle.rinqebo_report.specs.declared.origin.Origin.{Origin}
 use Rattle.rinqebo_report.specs.declared.layout.Paper.{Paper}
 use Rattle.rinqebo_report.specs.declared.report.Asked.{Asked}
@@ -45,6 +46,7 @@ use Rattle.platform_language.specs.declared.expression.TargetSpec.{TargetSpec}
 use Rattle.nextest_lists.specs.ListView.{list_test_view, list_view}
 use Rattle.nextest_lists.specs.Lists.{ListTest, list_tests}
 use Rattle.nextest_lists.specs.declared.list.ListedTest.{ListedTest}
+use Rattle.rinqebo_run.proofs.Documents.{text_or_json}
 use Rattle.rinqebo_run.proofs.Listing.{given_means, tells_tests, zip_mapped}
 use Rattle.rinqebo_run.proofs.Refused.{failure_reported}
 use Rattle.rinqebo_run.proofs.Statuses.{failed_silent, failed_status}
@@ -219,7 +221,8 @@ begins_list session profile mode asked paper loaded old new accepted from there 
 
 -- the page of a list does not speak of what else its report has
 page_of_list : (head : Report) (paper : Paper) (content : Content)
-    (P : List TestRows → List Origin → ListScripts → Type 0) (old new : Option (List ℕ)) → IfListed content P
+    (P : List TestRows → List Origin → ListScripts → Option ExactValue → Type 0) (old new : Option (List ℕ))
+    → IfListed content P
     → Appends old new (page_text paper.colour (content_runs paper.columns head content))
     → Appends old new (rendered (record head { content = content }) formats.Text paper)
 page_of_list head paper (contents.List asked tests unused scripts objects) P old new listed page = page
@@ -316,6 +319,7 @@ list_reported request gathered list session old new begun asks is_text writes = 
     about = writes.about;
     answers = answers_list request.question list session writes.report asks writes.tells;
     looked_up = looked_list request.question list session asks writes.looked_up;
+    objects = text_or_json request.format is_text;
   };
   page = subst (λ format. Appends old new (rendered writes.report format request.paper)) (sym is_text) writes.page;
 }

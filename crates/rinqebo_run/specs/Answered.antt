@@ -4,10 +4,12 @@ use Rattle.std.specs.Io.KnownBytes.{Appends}
 use Rattle.nextest_grounds.specs.Layers.{keys_view}
 use Rattle.rinqebo_findings.specs.Reports.{IsReportOf}
 use Rattle.rinqebo_report.specs.Rendered.{rendered}
+use Rattle.rinqebo_report.specs.declared.format.Format.TheVariants as formats
+use Rattle.rinqebo_report.specs.declared.report.Content.{Content}
 use Rattle.rinqebo_report.specs.declared.report.Report.{Report}
 use Rattle.rinqebo_run.specs.Checked.{IsCheckStatus}
 use Rattle.rinqebo_run.specs.Explained.{Explains}
-use Rattle.rinqebo_run.specs.Listed.{TellsTests}
+use Rattle.rinqebo_run.specs.Listed.{HasObjects, TellsTests}
 use Rattle.rinqebo_load.specs.FindTests.{IsFoundFor}
 use Rattle.rinqebo_run.specs.LookedUp.{AreLookedUp}
 use Rattle.rinqebo_load.specs.SessionOf.{IsSessionOf}
@@ -47,9 +49,18 @@ AnswersQuestion (questions.ShowConfig profile keys with_hidden) session report s
 AnswersQuestion (questions.Check deny_warnings) session report status =
     IsCheckStatus session deny_warnings report status
 
+-- the result of a list has objects
+abbrev pub HasObjectsFor : Question → Content → Type 0
+HasObjectsFor (questions.Explain profile test asked) content = Unit {0}
+HasObjectsFor (questions.Why profile test setting) content = Unit {0}
+HasObjectsFor (questions.WhyRuns profile test) content = Unit {0}
+HasObjectsFor (questions.List profile mode list asked) content = HasObjects content
+HasObjectsFor (questions.ShowConfig profile keys with_hidden) content = Unit {0}
+HasObjectsFor (questions.Check deny_warnings) content = Unit {0}
+
 -- A report and a status are the result of a request over the files that were read: the report is
 -- one of a session of the request, and the two are the result of the request in it. Each filter
--- that the program evaluates for it was looked up.
+-- that the program evaluates for it was looked up. In JSON the result of a list has objects.
 pub record IsAnswer (request : Request) (gathered : Gathered) (report : Report) (status : ℕ)
     : Type 0 where
   pub session : Session
@@ -57,6 +68,7 @@ pub record IsAnswer (request : Request) (gathered : Gathered) (report : Report) 
   pub about : IsReportOf session report
   pub answers : AnswersQuestion request.question session report status
   pub looked_up : AreLookedUp session request.question
+  pub objects : request.format ≡ formats.Json → HasObjectsFor request.question report.content
 
 -- A writer received the page of a result: known bytes grew by exactly the report, in the format and
 -- on the paper of the request.

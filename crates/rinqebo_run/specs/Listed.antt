@@ -1,5 +1,5 @@
 -- The tests of a list and the rules that hold for none of them, as a report lists them.
-use Rattle.std.specs.Prelude.{◌≡◌, ◌++◌, [], Bool, List, map, Option}
+use Rattle.std.specs.Prelude.{◌≡◌, ◌++◌, [], Bool, List, map, None, Option, Some, IfSome}
 use Rattle.std.specs.List.{AllZip}
 use Rattle.nextest_elements.specs.declared.run_mode.NextestRunMode.{NextestRunMode}
 use Rattle.nextest_engines.specs.Engines.{Test}
@@ -10,15 +10,18 @@ use Rattle.nextest_load.specs.Config.{ScriptTables, config_parents}
 use Rattle.nextest_load.specs.Scripts.{AreScriptsOf}
 use Rattle.nextest_profiles.specs.Profiles.{IsChainAndDefault}
 use Rattle.nextest_settings.specs.Deciding.{QueryContext}
-use Rattle.nextest_settings.specs.Profile.{Configured, EvaluatableModel, profile_of, profile_on}
+use Rattle.nextest_settings.specs.Profile.{Configured, EvaluatableModel, ProfileFacts, profile_of, profile_on}
 use Rattle.nextest_settings.specs.Queries.{query_in}
 use Rattle.nextest_sources.specs.Inputs.{sources_in}
+use Rattle.nextest_sources.specs.Warnings.{Warning}
 use Rattle.nextest_tables.specs.FileTexts.{names_in, IsIn}
 use Rattle.nextest_tables.specs.Written.{Name}
 use Rattle.rinqebo_files.specs.declared.layers.Layer.{Layer}
+use Rattle.rinqebo_objects.specs.Objects.{AreObjectsOf}
 use Rattle.rinqebo_rules.specs.Rows.{AreTestsReported}
 use Rattle.rinqebo_rules.specs.Scripts.{AreScriptsReported}
 use Rattle.rinqebo_rules.specs.Unused.{unused_among}
+use Rattle.rinqebo_report.specs.declared.exact_value.ExactValue.{ExactValue}
 use Rattle.rinqebo_report.specs.declared.origin.Origin.{Origin}
 use Rattle.rinqebo_report.specs.declared.report.Content.{Content}
 use Rattle.rinqebo_report.specs.declared.report.Content.TheVariants as contents
@@ -36,6 +39,8 @@ use Rattle.rinqebo_load.specs.Sessions.{files_view, readings}
 use Rattle.rinqebo_run.specs.Requested.{IsRequestedIn}
 use Rattle.rinqebo_run.specs.TellsReasons.{configured_by}
 use Rattle.rinqebo_load.specs.declared.session.Session.{Session}
+use Rattle.serde_json.specs.Data.{Data}
+use Rattle.serde_json.specs.View.{view}
 
 -- A profile on the platforms of a build is that of a name: it is the one of the name's chain.
 pub record IsProfileOn {M K P : Type 0} (meets : K → P → Option Bool) (platforms : BuildPlatforms P)
@@ -58,14 +63,22 @@ abbrev pub AreUnused : {M : Type 0} → List Layer → List (QueryContext M) →
 AreUnused layers tests profile unused =
     AllZip (λ place. IsOriginOf layers place []) (unused_places tests profile) unused
 
+-- A value is the objects of a profile, among profiles of these names, with some warnings. Its
+-- programs are as files write them.
+pub record AreObjectsListed (facts : ProfileFacts) (profiles : List Name) (value : Data) : Type 0
+  where
+    pub warnings : List Warning
+    pub are : AreObjectsOf facts profiles warnings None value
+
 -- A report lists tests as the profile of a name gives them settings on the platforms of a build,
 -- with the origins of these in the layers of the files and in the chain of the profile, the rules
--- of the profile that hold for none, and the scripts that it gives to the list.
+-- of the profile that hold for none, and the scripts that it gives to the list. Where it has
+-- objects, they are those of the profile.
 pub record AreTestsOf {M K P : Type 0} (meets : K → P → Option Bool) (matches : M → Test → M → Bool)
     (matches_binary : BinaryMatch M) (platforms : BuildPlatforms P) (configured : Configured M K)
     (name : Name) (mode : NextestRunMode) (asked : RequestedSettings) (layers : List Layer)
     (list : TestList) (tests : List TestRows) (unused : List Origin) (scripts : ListScripts)
-    : Type 0 where
+    (objects : Option ExactValue) : Type 0 where
   pub profile : EvaluatableModel M
   pub is_profile : IsProfileOn meets platforms configured name profile
   pub chain : List Name
@@ -76,11 +89,20 @@ pub record AreTestsOf {M K P : Type 0} (meets : K → P → Option Bool) (matche
       profile unused
   pub scripts_reported : AreScriptsReported matches matches_binary profile (all_tests list)
       (all_binaries list) scripts
+  pub objects_reported : IfSome objects (λ exact. AreObjectsListed profile.facts
+      (names_in configured.config.profiles) (view exact.value))
 
--- a fact of the tests, of the rules and of the scripts that a report lists
-abbrev pub IfListed : Content → (List TestRows → List Origin → ListScripts → Type 0) → Type 0
-IfListed (contents.List asked tests unused scripts objects) P = P tests.items unused.items scripts
+-- a fact of the tests, of the rules, of the scripts and of the objects that a report lists
+abbrev pub IfListed : Content
+    → (List TestRows → List Origin → ListScripts → Option ExactValue → Type 0) → Type 0
+IfListed (contents.List asked tests unused scripts objects) P =
+    P tests.items unused.items scripts objects
 IfListed _ P = ⊥
+
+-- a report lists tests beside objects
+abbrev pub HasObjects : Content → Type 0
+HasObjects (contents.List asked tests unused scripts (Some objects)) = Unit {0}
+HasObjects _ = ⊥
 
 -- A report lists the tests of a list in a profile, by what the files mean.
 pub record TellsTests (session : Session) (profile : Name) (mode : NextestRunMode)

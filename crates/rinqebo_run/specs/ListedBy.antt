@@ -1,5 +1,5 @@
 -- A test, and the tests of a list, as a report lists them by a configuration that was read.
-use Rattle.std.specs.Prelude.{◌++◌, List, map, string_bytes}
+use Rattle.std.specs.Prelude.{◌++◌, List, Option, map, string_bytes}
 use Rattle.filter_language.specs.Filtersets.{marks_view}
 use Rattle.filter_language.specs.declared.filterset.Filterset.{Filterset}
 use Rattle.nextest_elements.specs.declared.run_mode.NextestRunMode.{NextestRunMode}
@@ -10,6 +10,7 @@ use Rattle.nextest_profiles.specs.Meaning.{configured_meaning}
 use Rattle.nextest_rules.specs.View.{id_view, script_rule_id_view}
 use Rattle.nextest_settings.specs.Profile.{Configured}
 use Rattle.nextest_tables.specs.Written.{Name}
+use Rattle.rinqebo_report.specs.declared.exact_value.ExactValue.{ExactValue}
 use Rattle.rinqebo_report.specs.declared.origin.Origin.{Origin}
 use Rattle.rinqebo_report.specs.declared.report.ListScripts.{ListScripts}
 use Rattle.rinqebo_report.specs.declared.report.TestRows.{TestRows}
@@ -40,9 +41,11 @@ abbrev pub places_of : UnusedRules → List Place
 places_of unused = map (λ id. id_place (id_view id.now)) unused.overrides.items
     ++ map (λ id. script_place (script_rule_id_view id.now)) unused.script_rules.items
 
--- a report lists tests, rules and scripts as the profile of a name gives them, by what was loaded
+-- a report lists tests, rules, scripts and objects as the profile of a name gives them, by what was
+-- loaded
 abbrev pub listed_by : Session → Loaded (Filterset FieldMatcher) TargetSpec → Name
-    → NextestRunMode → RequestedSettings → List TestRows → List Origin → ListScripts → Type 0
+    → NextestRunMode → RequestedSettings → List TestRows → List Origin → ListScripts
+    → Option ExactValue → Type 0
 listed_by session loaded profile mode asked =
     AreTestsOf (readings session.engines.filters).meets
     (readings session.engines.filters).matches_test

@@ -15,6 +15,7 @@ mod idle;
 mod in_force;
 mod list;
 mod list_fault;
+mod list_objects;
 mod list_origins;
 mod list_page;
 mod list_scripts;

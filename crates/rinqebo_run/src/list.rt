@@ -1,4 +1,5 @@
-//! The settings of each test of a list, the rules that hold for none, and the scripts of the list.
+//! The settings of each test of a list, the rules that hold for none, the scripts of the list, and
+//! the objects of its profile.
 ghost use Rattle.std.specs.Prelude.{IfErr, IfOk, map};
 ghost use Rattle.filter_language.specs.Filtersets.{marks_view};
 ghost use Rattle.filter_engine.specs.Compiling.{names_of};
@@ -14,13 +15,14 @@ ghost use Rattle.nextest_lists.specs.Lists.{all_tests, list_tests};
 ghost use Rattle.rinqebo_rules.specs.Rows.{AreTestsReported};
 ghost use Rattle.rinqebo_rules.specs.Unused.{AreUnusedIn};
 ghost use Rattle.rinqebo_rules.specs.Conditions.{is_met_by};
-ghost use Rattle.rinqebo_run.specs.Listed.{IfListed, IsProfileOn, TellsTests};
+ghost use Rattle.rinqebo_run.specs.Listed.{HasObjects, IfListed, IsProfileOn, TellsTests};
 ghost use Rattle.rinqebo_run.specs.ListedBy.{basis_of, read_by, listed_by};
 ghost use Rattle.rinqebo_run.specs.Requested.{IsRequestedIn};
 ghost use Rattle.rinqebo_run.specs.LookedUp.{IsFailureOn, IsLookedUp};
 ghost use Rattle.rinqebo_findings.specs.Reports.{IsReportOf};
 
 use crate::asked::requested_of;
+use crate::list_objects::objects_of_list;
 use crate::list_origins::unused_origins;
 use crate::list_scripts::scripts_of_list;
 use crate::looked_up::config_looked_up;
@@ -86,11 +88,13 @@ fn listed_rows<'c, P: Progress>(
     asking.list(alloc, &tests, &mut tally, &mut origins, progress)
 }
 
-/// The tests and the binaries of a session, by a configuration, as a report lists them.
+/// The tests and the binaries of a session, by a configuration that was loaded with warnings, as a
+/// report lists them beside the objects of the profile.
 fn listed<'c, P: Progress>(
     alloc: Global,
     session: &'c Session<'_>,
     config: &'c Config,
+    warnings: &DefaultConfigWarnings,
     profile: &'c str,
     mode: NextestRunMode,
     asked: &RequestedSettings,
@@ -101,22 +105,24 @@ fn listed<'c, P: Progress>(
         (listed_by session.now config.now profile.now mode asked.now)) }
     ensures requested { IfOk result (IsRequestedIn session.now
         (parents_in (config_parents config.now.config)) profile.now mode) }
+    ensures objects { IfOk result HasObjects }
 {
     let chain = chain_of_profile(alloc, config, profile)?;
     let requested = requested_of(alloc, session, profile, &chain, mode)?;
     let on = profile_on(alloc, session, config, profile)?;
     let rows = listed_rows(alloc, session, &chain, &on, mode, asked, progress)?;
+    let objects = objects_of_list(alloc, config, warnings, &on)?;
     Ok(Content::List {
         asked: requested,
         unused: unused_origins(alloc, &session.layers, &rows.unused)?,
         scripts: scripts_of_list(alloc, session, &on)?,
         tests: rows.tests,
-        objects: None,
+        objects: Some(objects),
     })
 }
 
-/// The settings of each test of a list in a profile, the rules that hold for none, and the scripts
-/// of the list.
+/// The settings of each test of a list in a profile, the rules that hold for none, the scripts of
+/// the list, and the objects of the profile.
 pub fn list<P: Progress>(
     alloc: Global,
     session: &Session<'_>,
@@ -128,11 +134,14 @@ pub fn list<P: Progress>(
     ensures ok { IfOk result (TellsTests session.now profile.now mode asked.now) }
     ensures about { IfOk result (IsReportOf session.now) }
     ensures looked_up { IfOk result (λ _. IsLookedUp session.now profile.now) }
+    ensures objects { IfOk result (λ report. HasObjects report.content) }
     ensures err { IfErr result (IsFailureOn session.now profile.now) }
 {
     let mut warnings = DefaultConfigWarnings::new(alloc);
     let config = config_looked_up(alloc, session, profile, &mut warnings)?;
-    let content = listed(alloc, &*session, &config, profile, mode, asked, progress)?;
+    let content = listed(
+        alloc, &*session, &config, &warnings, profile, mode, asked, progress,
+    )?;
     let findings = warning_findings(alloc, &session.layers, &warnings)?;
     let report = report_of(alloc, session, findings, Vec::new(alloc), content)?;
     Ok(report)

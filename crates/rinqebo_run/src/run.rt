@@ -7,7 +7,7 @@ ghost use Rattle.nextest_shape.specs.Page.{schema_data};
 ghost use Rattle.serde_json.specs.Written.{compact_text};
 ghost use Rattle.rinqebo_findings.specs.Reports.{IsReportOf};
 ghost use Rattle.rinqebo_report.specs.Rendered.{rendered};
-ghost use Rattle.rinqebo_run.specs.Answered.{AnswersQuestion, IsAboutTest, IsAnswer, Tells};
+ghost use Rattle.rinqebo_run.specs.Answered.{AnswersQuestion, HasObjectsFor, IsAboutTest, IsAnswer, Tells};
 ghost use Rattle.rinqebo_run.specs.Begun.{IsBegun};
 ghost use Rattle.rinqebo_run.specs.Explained.{Explains};
 ghost use Rattle.rinqebo_run.specs.LookedUp.{AreLookedUp, IsLookedUp};
@@ -144,6 +144,8 @@ fn answer_in<P: Progress>(
         AnswersQuestion request.now.question session.now answer.report answer.status) }
     ensures about { IfOk result (λ answer. IsReportOf session.now answer.report) }
     ensures looked_up { IfOk result (λ _. AreLookedUp session.now request.now.question) }
+    ensures objects { IfOk result (λ answer.
+        HasObjectsFor request.now.question answer.report.content) }
     ensures err { IfErr result (IsFailureIn session.now request.now.question) }
 {
     let path = request.engines.metadata;

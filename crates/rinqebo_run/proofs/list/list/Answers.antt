@@ -1,5 +1,7 @@
+use Rattle.std.proofs.Common.{subst, sym}
 use Rattle.rinqebo_run.proofs.Listing.{tells_tests}
 use Rattle.rinqebo_run.proofs.Refused.{want_evaluated}
+use Rattle.rinqebo_run.specs.Listed.{HasObjects}
 use Rattle.rinqebo_run.proofs.list.list.Goals as goal
 
 pub returns-clause-ok : goal.returns-clause-ok
@@ -8,6 +10,10 @@ returns-clause-ok g c =
     c.in_ok-content.content c.in_ok-config.config c.in_ok-config.ensures.accepted c.in_ok-config.ensures.means
     c.in_ok-config.ensures.known c.in_ok-report.ensures.content c.in_ok-content.ensures.told
     c.in_ok-content.ensures.requested
+
+pub returns-clause-objects : goal.returns-clause-objects
+returns-clause-objects g c =
+    subst HasObjects (sym c.in_ok-report.ensures.content) c.in_ok-content.ensures.objects
 
 pub returns-in_err-findings-clause-err : goal.returns-in_err-findings-clause-err
 returns-in_err-findings-clause-err g c =

@@ -1,4 +1,4 @@
-use Rattle.std.proofs.Common.{ap}
+use Rattle.std.proofs.Common.{Some, ap}
 use Rattle.nextest_inheritance.specs.View.{borrowed_view}
 use Rattle.rinqebo_run.proofs.Listing.{listed_here, reported_in}
 use Rattle.rinqebo_run.proofs.Requests.{requested_on}
@@ -11,9 +11,11 @@ pub returns-clause-told : goal.returns-clause-told
 returns-clause-told g c =
     listed_here c.args.session.now c.args.config.now c.args.profile.now c.args.mode c.args.asked.now
     c.in_ok-on.on (borrowed_view c.in_ok-chain.chain.items) (borrowed_view c.deref-2.result.now) _ _ _ _
+    (Some c.in_ok-objects.objects)
     c.in_ok-on.ensures (c.in_ok-chain.ensures c.requires) (ap borrowed_view c.deref-2.ensures.value)
     c.in_ok-rows.ensures.tests c.in_ok-rows.ensures.unused
     (reported_in _ _ _ _ c.deref-3.ensures.value c.in_ok-unused_origins.ensures) c.in_ok-scripts_of_list.ensures
+    c.in_ok-objects.ensures
 
 pub returns-clause-requested : goal.returns-clause-requested
 returns-clause-requested g c = record {

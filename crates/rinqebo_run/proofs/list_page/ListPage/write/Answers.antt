@@ -1,4 +1,4 @@
-use Rattle.std.proofs.Common.{◌≡◌, ap, arith, inl, length, subst}
+use Rattle.std.proofs.Common.{◌≡◌, None, ap, arith, inl, length, subst}
 use Rattle.filter_language.specs.Filtersets.{marks_view}
 use Rattle.filter_engine.specs.Compiling.{names_of}
 use Rattle.filter_engine.specs.Engine.{filter_holds}
@@ -23,9 +23,9 @@ returns-clause-told g c =
     let self = c.args.self.now in
     let list = self.list in
     listed_here self.session.now self.config.now list.profile.now list.mode list.settings.now c.in_ok-on.on
-    (borrowed_view c.in_ok-chain.chain.items) (borrowed_view c.deref-2.result.now) _ _ _ _ c.in_ok-on.ensures
+    (borrowed_view c.in_ok-chain.chain.items) (borrowed_view c.deref-2.result.now) _ _ _ _ None c.in_ok-on.ensures
     (c.in_ok-chain.ensures c.requires) (ap borrowed_view c.deref-2.ensures.value) c.in_ok-rows.ensures.tests
-    c.in_ok-rows.ensures.unused c.in_ok-unused.ensures.origins c.in_ok-scripts.ensures
+    c.in_ok-rows.ensures.unused c.in_ok-unused.ensures.origins c.in_ok-scripts.ensures tt
 
 pub returns-clause-requested : goal.returns-clause-requested
 returns-clause-requested g c =
