@@ -46,7 +46,8 @@ path_text path = fold (λ p step. below p (step_text step)) [] path
 -- the fault of the definitions that one which is found is
 abbrev pub found_view : FoundFault → Option Fault
 found_view f =
-    option_map (λ c. let fault : Fault = record { path = path_text f.path.items; cause = c } in fault)
+    option_map
+    (λ c. let fault : Fault = record { path = path_text f.path.items; cause = c } in fault)
     (cause_view f.cause)
 
 -- exactly these faults of the definitions were added
