@@ -1,7 +1,7 @@
 -- Places as the schemas that they stand for, and their faults.
 use Rattle.std.proofs.Common.{◌≡◌, ℕ, List, [], ◌∷◌, ◌++◌, Vec, Box, Global, Option, Some, None, rules, refl, sym, ap, ◌∙◌}
 use Rattle.nextest_tree.specs.Node.{Node, table, array, text, int, bool, opaque, Nodes, Entries, as_table, as_array}
-use Rattle.nextest_tree.specs.Schema.{Fault, FaultCause, Schema, any, leaf, fields, map_of, items_of, Fields, field, append_fields, at, each_entry, each_item, faults, fields_faults, names_of, others_faults, wrong_kind}
+use Rattle.nextest_tree.specs.Schema.{FaultCause, Schema, any, leaf, fields, map_of, items_of, Fields, field, append_fields, at, each_entry, each_item, faults, fields_faults, names_of, others_faults, wrong_kind}
 use Rattle.nextest_tree.specs.Schema as schemas
 use Rattle.nextest_tree.specs.Leaf.{a_text, a_bool}
 use Rattle.nextest_texts.specs.IdentifierReader.{an_identifier}

@@ -1,9 +1,9 @@
 -- The schema that a `Place` stands for.
-use Rattle.std.specs.Prelude.{ℕ, Bool, true, false, List, [], ◌∷◌, map, Option, None, Some}
+use Rattle.std.specs.Prelude.{ℕ, Bool, true, false, List, [], ◌∷◌, map, Option, None}
 use Rattle.nextest_tree.specs.Leaf.{cause_of, text_at, a_text, bool_at, a_bool, any_key}
 use Rattle.nextest_tree.specs.Node.{Node, Nodes, Entries}
 use Rattle.nextest_tree.specs.Schema.{FaultCause, Schema, any, leaf, fields, map_of, items_of, are_noted, are_refused, Fields, no_more, field, not_table, not_array}
-use Rattle.nextest_tree.specs.Schema as Schema
+use Rattle.nextest_tree.specs.Schema as schemas
 use Rattle.nextest_texts.specs.IdentifierReader.{identifier_at, identifier_cause, an_identifier}
 use Rattle.nextest_texts.specs.Nanoseconds.{duration_at, a_duration}
 use Rattle.nextest_elements.specs.FlakyResult.{flaky_result_at, a_flaky_result}
@@ -122,7 +122,7 @@ need_test needs.Must = λ es. true
 need_test needs.Growing = grows_in
 
 -- what becomes of other keys
-abbrev pub others_view : Others → Schema.Others
+abbrev pub others_view : Others → schemas.Others
 others_view others.Noted = are_noted
 others_view others.Refused = are_refused
 
