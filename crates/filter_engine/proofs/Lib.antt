@@ -1,4 +1,0 @@
-pub mod Asks
-pub mod Members
-pub mod Sought
-pub mod Readings

@@ -1,9 +1,0 @@
-pub mod Edges
-pub mod Graph
-pub mod GraphView
-pub mod Marks
-pub mod Metadata
-pub mod Names
-pub mod Results
-pub mod Targets
-pub mod TargetView

@@ -1,6 +1,0 @@
-pub mod Demands
-pub mod Faults
-pub mod Lists
-pub mod ListView
-pub mod SuiteView
-pub mod Reading

@@ -1,7 +1,0 @@
-use Rattle.nextest_rules.specs.View.{layer_profile_view}
-use Rattle.nextest_settings.proofs.AtName.{got_at}
-use Rattle.nextest_settings.proofs.gather.profile_at.Goals as goal
-
-pub returns : goal.returns
-returns g c = got_at layer_profile_view c.args.name.now c.args.layer.now.profiles.entries c.get.result
-    c.get.ensures.value

@@ -1,8 +1,0 @@
-pub mod Form
-pub mod View
-pub mod Accepts
-pub mod FileForm
-pub mod About
-pub mod Page
-pub mod Keys
-pub mod Mild

@@ -1,9 +1,0 @@
-pub mod Written
-pub mod Tables
-pub mod Texts
-pub mod FileTexts
-pub mod View
-pub mod Scripts
-pub mod Defaults
-pub mod Complete
-pub mod Values

@@ -1,2 +1,0 @@
-pub mod CfgLineLemmas
-pub mod Triples

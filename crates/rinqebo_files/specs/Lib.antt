@@ -1,3 +1,0 @@
-pub mod Features
-pub mod Origins
-pub mod Layers

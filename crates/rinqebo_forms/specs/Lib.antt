@@ -1,5 +1,0 @@
-pub mod Reading
-pub mod Requests
-pub mod Numbers
-pub mod Machines
-pub mod Runs

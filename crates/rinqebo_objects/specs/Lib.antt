@@ -1,4 +1,0 @@
-pub mod Values
-pub mod Scripts
-pub mod Objects
-pub mod WarningObjects

@@ -1,9 +1,0 @@
-use Rattle.std.proofs.Common.{◌≡◌, ◌++◌, flat_map, take, string_bytes}
-use Rattle.rinqebo_report.specs.Groups.{reported_row_runs}
-use Rattle.rinqebo_report.specs.Pieces.{page_text}
-use Rattle.rinqebo_report.proofs.group_page.add_reported.Given as goal
-
-abbrev pub invariant-loop-row : goal.invariant-loop-row
-invariant-loop-row l =
-    string_bytes l.out ≡ string_bytes l.initial.out
-    ++ page_text l.colour (flat_map reported_row_runs (take l.row-index l.test.settings.items))

@@ -1,2 +1,0 @@
-pub mod KeyLists
-mod FeatureNames

@@ -1,8 +1,0 @@
-use Rattle.nextest_settings.specs.Settings.{settings}
-use Rattle.rinqebo_request.specs.Keys.{key_text}
-use Rattle.rinqebo_request.proofs.KeyLists.{NoneHas}
-use Rattle.rinqebo_request.proofs.keys.setting_of.Given as goal
-
--- no setting so far has the key
-abbrev pub invariant-loop-setting : goal.invariant-loop-setting
-invariant-loop-setting l = NoneHas (λ s. key_text s l.mode) settings l.key l.setting-index

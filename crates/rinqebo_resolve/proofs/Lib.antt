@@ -1,3 +1,0 @@
-mod Taking
-mod Telling
-mod Reading

@@ -1,7 +1,0 @@
-use Rattle.std.proofs.Common.{◌≡◌, take}
-use Rattle.nextest_settings.specs.Settings.{settings}
-use Rattle.rinqebo_resolve.proofs.asking.all_settings.Given as goal
-
--- the settings so far
-abbrev pub invariant-loop-setting : goal.invariant-loop-setting
-invariant-loop-setting l = l.all.items ≡ take l.setting-index settings

@@ -1,4 +1,0 @@
-pub mod Loads
-pub mod Numbering
-pub mod Faults
-pub mod Statuses

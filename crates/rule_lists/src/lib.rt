@@ -1,8 +1,0 @@
-//! Rising lists of rules, kept as one table, and a walk over it that evaluates a rule at most once.
-#![tactic(auto)]
-
-mod rows;
-mod walk;
-
-pub use rows::{Listed, Row, build_rows};
-pub use walk::{Query, walk_rows};
