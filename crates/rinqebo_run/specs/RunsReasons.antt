@@ -107,12 +107,14 @@ pub record AreRunsTold (layers : List Layer) (found : List FilterRule) (matches 
       ≡ default_value (not (list_any is_decision (filter_verdicts found))) matches
 
 -- whether the default filter that counts in a profile matches a test
-abbrev pub is_selected_on : {M : Type 0} → (M → Test → M → Bool) → EvaluatableModel M → Test → Bool
+abbrev pub is_selected_on : {M : Type 0} → (M → Test → M → Bool) → EvaluatableModel M → Test
+    → Bool
 is_selected_on matches profile test = is_selected (query_in matches profile test) profile
 
 -- A report lists why a test runs or not in a profile, on the platforms of a build.
 abbrev pub AreRunsReasons : {M K P : Type 0} → List Layer → (K → P → Option Bool)
-    → (M → Test → M → Bool) → BuildPlatforms P → FoundTest → EarlyModel M K → List Rule → Type 0
+    → (M → Test → M → Bool) → BuildPlatforms P → FoundTest → EarlyModel M K → List Rule
+    → Type 0
 AreRunsReasons layers meets matches platforms test profile rules =
     AreRunsTold layers (filter_rules meets platforms profile.overrides)
     (is_selected_on matches (profile_on meets platforms profile) (found_view test).test) rules

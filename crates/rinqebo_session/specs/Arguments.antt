@@ -36,7 +36,8 @@ IsCopiedOrNone text old new needed status =
     (λ text. IsCopiedOut text old new needed status)
 
 -- what an open profile returns: an argument, or the fault of the test
-abbrev pub AnswersArgument : Opened → CallerTest → ℕ → List ℕ → List ℕ → ℕ → ℕ → Type 0
+abbrev pub AnswersArgument : Opened → CallerTest → ℕ → List ℕ → List ℕ → ℕ → ℕ
+    → Type 0
 AnswersArgument opened asked index old new needed status =
     ((text : Option (List ℕ)) × IsArgumentOf opened asked index text
     × IsCopiedOrNone text old new needed status)
@@ -44,8 +45,8 @@ AnswersArgument opened asked index old new needed status =
     × IsNothingCopied (fault_status fault) old new needed status)
 
 -- what a profile returns; where it is not open, the status says why
-abbrev pub AnswersArgumentBy : Result Opened OpenFailure → CallerTest → ℕ → List ℕ → List ℕ → ℕ
-    → ℕ → Type 0
+abbrev pub AnswersArgumentBy : Result Opened OpenFailure → CallerTest → ℕ → List ℕ → List ℕ
+    → ℕ → ℕ → Type 0
 AnswersArgumentBy (Ok opened) asked index old new needed status =
     AnswersArgument opened asked index old new needed status
 AnswersArgumentBy (Err failure) asked index old new needed status =
