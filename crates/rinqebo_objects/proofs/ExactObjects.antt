@@ -8,6 +8,7 @@ use Rattle.nextest_elements.specs.declared.max_fail.MaxFail.TheVariants as limit
 use Rattle.nextest_elements.specs.declared.test_group.TestGroupConfig.{TestGroupConfig}
 use Rattle.nextest_elements.specs.declared.test_threads.TestThreads.{TestThreads}
 use Rattle.nextest_elements.specs.declared.test_threads.TestThreads.TheVariants as threads
+use Rattle.nextest_engines.specs.Engines.{Test}
 use Rattle.nextest_scripts.specs.ScriptTexts.{CommandText, SetupScriptText, WrapperScriptText}
 use Rattle.nextest_scripts.specs.declared.setup_timeout.SetupScriptSlowTimeout.{SetupScriptSlowTimeout}
 use Rattle.nextest_settings.specs.Profile.{ProfileFacts}
@@ -15,6 +16,7 @@ use Rattle.nextest_sources.specs.Sources.{Source}
 use Rattle.nextest_sources.specs.Warnings.{Warning, unknown_keys, reserved_profiles, deprecated_scripts, empty_sections}
 use Rattle.nextest_tables.specs.Written.{Name}
 use Rattle.rinqebo_codes.specs.declared.code.Code.{Code}
+use Rattle.rinqebo_objects.specs.Enabling.{Enabling, enabling_data, test_data}
 use Rattle.rinqebo_objects.specs.Objects.{objects_data, run_data, with_bounds, with_names, with_output}
 use Rattle.rinqebo_objects.specs.Scripts.{Directories, command_data, group_data, setup_script_data, wrapper_script_data, variables_data}
 use Rattle.rinqebo_objects.specs.Values.{global_timeout_data, leak_data, max_fail_data, optional_data, report_data, slow_data, threads_data}
@@ -73,13 +75,22 @@ command ds c =
     exact_object 1 (and_member _ (exact_list 0 string (exact_text 0) c.args)
     (and_member _ (variables 0 c.env) (and_member _ (exact_text 1 _) (and_member _ (exact_text 1 _) (no_more 1)))))
 
-setup : (ds : Option Directories) (e : List ℕ × SetupScriptText) → IsExact 3 (setup_script_data ds e)
-setup ds e =
+listed : (t : Test) → IsExact 1 (test_data t)
+listed t = exact_object 0 (and_member _ (exact_text 0 _) (and_member _ (exact_text 0 _) (no_more 0)))
+
+enabling : (en : Option Enabling) (id : Name) → IsExact 2 (enabling_data en id)
+enabling None id = exact_null 2
+enabling (Some tests) id = exact_list 1 test_data listed (tests id)
+
+setup : (ds : Option Directories) (en : Option Enabling) (e : Name × SetupScriptText)
+    → IsExact 3 (setup_script_data ds en e)
+setup ds en e =
     let junit = exact_object 1 (and_member _ (exact_truth 1 _) (and_member _ (exact_truth 1 _) (no_more 1))) in
     exact_object 2 (and_member _ (exact_truth 2 _) (and_member _ (exact_truth 2 _)
     (and_member _ (command ds e.1.command) (and_member _ (exact_text 2 _)
     (and_member _ junit (and_member _ (optional 2 leak_data (leak 1) e.1.leak_timeout)
-    (and_member _ (optional 2 slow_data (slow 1) e.1.slow_timeout) (no_more 2))))))))
+    (and_member _ (optional 2 slow_data (slow 1) e.1.slow_timeout)
+    (and_member _ (enabling en e.0) (no_more 2)))))))))
 
 wrapper : (ds : Option Directories) (e : List ℕ × WrapperScriptText) → IsExact 3 (wrapper_script_data ds e)
 wrapper ds e =
@@ -130,23 +141,25 @@ warning (empty_sections source profile times) =
     warned _ source [] (string profile) (count_data times) (exact_text 2 profile) (count 2 times)
 
 objects : (facts : ProfileFacts) (run : RunValues) (profiles : List Name) (ws : List Warning) (ds : Option Directories)
-    → IsExact 5 (objects_data facts run profiles ws ds)
-objects facts run profiles ws ds =
+    (en : Option Enabling) → IsExact 5 (objects_data facts run profiles ws ds en)
+objects facts run profiles ws ds en =
     exact_object 4 (and_member _ (exact_list 3 warning_data warning ws)
     (and_member _ (exact_list 3 group_data (group 2) facts.groups)
     (and_member _ (run_is run profiles)
-    (and_member _ (exact_list 3 (setup_script_data ds) (setup ds) facts.scripts.setup)
+    (and_member _ (exact_list 3 (setup_script_data ds en) (setup ds en) facts.scripts.setup)
     (and_member _ (exact_list 3 (wrapper_script_data ds) (wrapper ds) facts.scripts.wrapper) (no_more 4))))))
 
 within : (d : Data) → IsExact 5 d → depth d ≤ 8
 within d h = omega (arith, h.nests)
 
 pub objects_nest : (facts : ProfileFacts) (run : RunValues) (profiles : List Name) (ws : List Warning)
-    (ds : Option Directories) (value : Data) → value ≡ objects_data facts run profiles ws ds → depth value ≤ 8
-objects_nest facts run profiles ws ds value same =
-    subst (λ (d : Data). depth d ≤ 8) (sym same) (within _ (objects facts run profiles ws ds))
+    (ds : Option Directories) (en : Option Enabling) (value : Data) → value ≡ objects_data facts run profiles ws ds en
+    → depth value ≤ 8
+objects_nest facts run profiles ws ds en value same =
+    subst (λ (d : Data). depth d ≤ 8) (sym same) (within _ (objects facts run profiles ws ds en))
 
 pub objects_are_whole : (facts : ProfileFacts) (run : RunValues) (profiles : List Name) (ws : List Warning)
-    (ds : Option Directories) (value : Data) → value ≡ objects_data facts run profiles ws ds → has_float value ≡ false
-objects_are_whole facts run profiles ws ds value same =
-    subst (λ (d : Data). has_float d ≡ false) (sym same) (objects facts run profiles ws ds).whole
+    (ds : Option Directories) (en : Option Enabling) (value : Data) → value ≡ objects_data facts run profiles ws ds en
+    → has_float value ≡ false
+objects_are_whole facts run profiles ws ds en value same =
+    subst (λ (d : Data). has_float d ≡ false) (sym same) (objects facts run profiles ws ds en).whole

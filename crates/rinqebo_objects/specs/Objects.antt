@@ -8,6 +8,7 @@ use Rattle.nextest_settings.specs.Settings.{global_timeout_in}
 use Rattle.nextest_settings.specs.Values.{nearest}
 use Rattle.nextest_sources.specs.Warnings.{Warning}
 use Rattle.nextest_tables.specs.Written.{Name}
+use Rattle.rinqebo_objects.specs.Enabling.{Enabling}
 use Rattle.rinqebo_objects.specs.Scripts.{Directories, group_data, setup_script_data, wrapper_script_data}
 use Rattle.rinqebo_objects.specs.Values.{global_timeout_data, max_fail_data, optional_data, report_data, threads_data}
 use Rattle.rinqebo_objects.specs.WarningObjects.{warnings_data}
@@ -64,18 +65,20 @@ run_data run profiles =
 
 -- the objects of a profile, with the values that it has for a whole run
 abbrev pub objects_data : ProfileFacts → RunValues → List Name → List Warning → Option Directories
-    → Data
-objects_data facts run profiles warnings directories =
+    → Option Enabling → Data
+objects_data facts run profiles warnings directories enabling =
     object (member (codes "findings") (warnings_data warnings)
     (member (codes "groups") (list_data group_data facts.groups)
     (member (codes "run") (run_data run profiles)
-    (member (codes "setup-scripts") (list_data (setup_script_data directories) facts.scripts.setup)
+    (member (codes "setup-scripts")
+    (list_data (setup_script_data directories enabling) facts.scripts.setup)
     (member (codes "wrappers") (list_data (wrapper_script_data directories) facts.scripts.wrapper)
     no_members)))))
 
--- A value is the objects of a profile, among profiles of these names, with the warnings of the load.
+-- A value is the objects of a profile, among profiles of these names, with the warnings of the load
+-- and with the tests of a list that enable each setup script.
 pub record AreObjectsOf (facts : ProfileFacts) (profiles : List Name) (warnings : List Warning)
-    (directories : Option Directories) (value : Data) : Type 0 where
+    (directories : Option Directories) (enabling : Option Enabling) (value : Data) : Type 0 where
   pub run : RunValues
   pub is_run : IsRunOf facts run
-  pub same : value ≡ objects_data facts run profiles warnings directories
+  pub same : value ≡ objects_data facts run profiles warnings directories enabling
