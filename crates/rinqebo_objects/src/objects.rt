@@ -54,7 +54,12 @@ fn objects_with<F: Filters, S: Specs>(
     let groups = groups_json(alloc, profile.test_group_config())?;
     let run = run_json(alloc, run, around.profiles)?;
     let setup = setup_scripts_json(
-        alloc, around.directories, profile, &scripts.setup, tests, tally,
+        alloc,
+        around.directories,
+        profile,
+        &scripts.setup,
+        tests,
+        tally,
     )?;
     let wrappers = wrapper_scripts_json(alloc, around.directories, &scripts.wrapper)?;
     json!(in alloc; {
