@@ -11,5 +11,5 @@ mod values;
 mod warnings;
 
 pub use objects::{Surroundings, objects_json, objects_text};
-pub use run::RunValues;
+pub use run::RunSettings;
 pub use scripts::Directories;

@@ -11,7 +11,7 @@ ghost use Rattle.rinqebo_objects.specs.Objects.{AreObjectsOf, objects_data};
 ghost use Rattle.rinqebo_objects.specs.Scripts.{directories_view};
 
 use crate::groups::groups_json;
-use crate::run::{RunValues, run_json};
+use crate::run::{RunSettings, run_json};
 use crate::scripts::{Directories, setup_scripts_json, wrapper_scripts_json};
 use crate::warnings::warnings_json;
 use nextest_engines::{Filters, Specs, TestQuery};
@@ -36,7 +36,7 @@ pub struct Surroundings<'a> {
 fn objects_with<F: Filters, S: Specs>(
     alloc: Global,
     profile: &EvaluatableProfile<'_, F, S>,
-    run: &RunValues<'_>,
+    run: &RunSettings<'_>,
     around: Surroundings<'_>,
     tests: Option<&[TestQuery<'_>]>,
     tally: &mut F::Tally,
@@ -89,12 +89,12 @@ pub fn objects_json<F: Filters, S: Specs>(
         IfOk result (λ objects. AreObjectsOf profile.now.facts profiles warnings directories
         enabling (view objects.value)) }
 {
-    let run = RunValues::of(alloc, profile)?;
+    let run = RunSettings::of(alloc, profile)?;
     let value = objects_with(alloc, profile, &run, around, tests, tally)?;
     Ok(ExactValue { value })
 }
 
-/// The objects of a profile as a text without spaces. There is no list of tests.
+/// The objects of a profile without a list of tests, as a text without spaces.
 pub fn objects_text<F: Filters, S: Specs>(
     alloc: Global,
     profile: &EvaluatableProfile<'_, F, S>,
