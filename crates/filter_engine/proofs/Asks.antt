@@ -1,7 +1,6 @@
 -- Which names have what is asked.
 use Rattle.std.proofs.Common.{◌≡◌, ◌≤◌, ◌<◌, ◌↔◌, ◌||◌, ℕ, Bool, true, false, List, [], ◌∷◌, ◌++◌, Option, None, Some, Ok, Err, is_some, IsTrue, Decides, le-leb, leb-true, lt-ltb, ltb-true, arith, refl, ◌∙◌, ap}
 use Rattle.std.specs.Prelude.{chars, IsSomeAnd, IsSome, nat_lt}
-use Rattle.std.specs.Str.{bytes_eq}
 use Rattle.std.specs.Str.Iter.{HasSubslice}
 use Rattle.std.proofs.lemmas.Bool.Decides.{same_from_decides}
 use Rattle.std.proofs.lemmas.Slice.Eq.{bytes_eq-Decides}
@@ -10,7 +9,7 @@ use Rattle.regex_hir.specs.Re.{Re}
 use Rattle.regex_syntax.specs.Brackets.{Nested}
 use Rattle.regex_syntax.specs.Grammar.{Names, read}
 use Rattle.regex_syntax.specs.Verdict.{default_config}
-use Rattle.filter_matchers.specs.GlobDecisions.{writes_glob, glob_takes}
+use Rattle.filter_matchers.specs.GlobDecisions.{writes_glob}
 use Rattle.filter_matchers.specs.GlobSizes.{glob_size}
 use Rattle.filter_matchers.specs.Globs.{IsGlob}
 use Rattle.filter_matchers.specs.Matches.{NameQuestion, equal, contains, glob, regex, Matches}

@@ -1,11 +1,13 @@
 -- The engine's filters match the tests of which they are true.
-use Rattle.std.proofs.Common.{◌≡◌, ◌≤◌, ◌↔◌, ◌++◌, ℕ, nat_lt, Bool, true, false, inl, inr, List, [], ◌∷◌, Option, None, Some, Result, Ok, Err, is_none, ◌&&◌, Decides, codes, refl, sym, ◌∙◌, ap, subst, arith, append-nil, if◌then◌else◌}
+use Rattle.std.proofs.Common.{◌≡◌, ◌≤◌, ◌↔◌, ◌++◌, ℕ, nat_lt, Bool, true, false, inl, inr, List, [], ◌∷◌, Option, None, Some, Result, Ok, Err, is_none, ◌&&◌, Decides, chars, codes, refl, sym, ◌∙◌, ap, subst, arith, append-nil, if◌then◌else◌}
 use Rattle.std.specs.Result.{result_map_both}
 use Rattle.std.specs.Str.Iter.{HasSubslice}
+use Rattle.regex_syntax.specs.Grammar.{read}
+use Rattle.regex_syntax.specs.Verdict.{default_config}
 use Rattle.std.proofs.lemmas.Bool.Decides.{Decides-at}
-use Rattle.std.proofs.lemmas.Slice.Eq.{bytes_eq-Decides}
 use Rattle.nextest_engines.specs.Engines.{Test}
 use Rattle.nextest_engines.specs.declared.queries.FiltersetKind.{FiltersetKind}
+use Rattle.filter_language.specs.declared.fault.FaultKind.{FaultKind}
 use Rattle.filter_language.specs.declared.fault.FiltersetFault.{FiltersetFault}
 use Rattle.filter_language.specs.declared.matchers.PatternFault.{PatternFault}
 use Rattle.filter_language.specs.declared.matchers.PatternFault.TheVariants.{Malformed, TooLarge}
@@ -13,18 +15,20 @@ use Rattle.filter_language.specs.declared.words.Field.{Field}
 use Rattle.filter_language.specs.declared.words.Field.TheVariants.{TestName, Package, Deps, Rdeps, BinaryId, BinaryName, Kind, Group}
 use Rattle.filter_language.specs.declared.words.Sign.{Sign}
 use Rattle.filter_language.specs.declared.words.Sign.TheVariants.{Equal, Contains, Glob, Regex}
-use Rattle.filter_language.specs.Bans.{field_ban, graph_ban, mark_ban, are_allowed}
+use Rattle.filter_language.specs.Bans.{field_ban, graph_ban}
+use Rattle.filter_language.specs.Evaluation.{marks_value}
 use Rattle.filter_language.specs.Filters.{filter_in}
 use Rattle.filter_language.specs.Filtersets.{says_true}
 use Rattle.filter_language.specs.Formula.{Pattern, Question, Always, Never, TheDefault, OfPlatform, OfName, Formula, Asks, Negated, Both, Either, Without, Grouped}
 use Rattle.filter_language.specs.Grammar.{Mark, Asked, NotMark, OpenMark, CloseMark, AndMark, OrMark, MinusMark, written}
 use Rattle.filter_language.specs.Messages.{message}
 use Rattle.filter_language.specs.Predicates.{Compiler}
-use Rattle.filter_language.specs.Truth.{NameHas, Answers, Holds, HoldsBeside}
-use Rattle.filter_language.specs.Values.{field_answer, of_test}
-use Rattle.filter_language.specs.Writing.{SpellsBody, SpellsRegex, SpellsFilled, SpellsPattern, SpellsQuestion, SpellsMark, Writes, IsFilter, field_word, sign_spelling}
+use Rattle.filter_language.specs.Truth.{NameHas, Answers, Holds}
+use Rattle.filter_language.specs.Values.{package_name, field_answer, answer, of_test}
+use Rattle.filter_language.specs.Writing.{SpellsBody, SpellsRegex, SpellsFilled, SpellsPattern, SpellsQuestion, Writes, IsFilter, field_word, sign_spelling}
 use Rattle.filter_language.proofs.MarksTell.{marks_truth}
 use Rattle.filter_language.proofs.Writings.{filter_is_read, read_is_filter}
+use Rattle.filter_matchers.specs.GlobDecisions.{writes_glob}
 use Rattle.filter_matchers.specs.GlobSizes.{glob_size}
 use Rattle.filter_matchers.specs.Globs.{IsGlob, GlobMatches}
 use Rattle.filter_matchers.specs.Matches.{NameQuestion, equal, contains, glob, regex}
@@ -37,8 +41,8 @@ use Rattle.filter_engine.specs.declared.engine.Packages.{Packages}
 use Rattle.filter_engine.specs.declared.engine.Packages.TheVariants.{Known, Unknown, Open}
 use Rattle.filter_engine.specs.Compiling.{sought, reads_packages, compiled_in}
 use Rattle.filter_engine.specs.Engine.{Filter, read_filter, is_among, filter_holds}
-use Rattle.filter_engine.specs.Names.{if_small, regex_question, glob_question, question_in, asks}
-use Rattle.filter_engine.specs.Truth.{NameMeets, FieldMeets, PatternMeets, QuestionMeets, IsTrueOf, IsTrueBeside, FiltersTellTheTruth, IsReadAs, IsInDepsBy, IsInRdepsBy}
+use Rattle.filter_engine.specs.Names.{nests_within, if_small, question_in, asks}
+use Rattle.filter_engine.specs.Truth.{NameMeets, FieldMeets, PatternMeets, QuestionMeets, IsTrueOf, FiltersTellTheTruth, IsReadAs, IsInDepsBy, IsInRdepsBy}
 use Rattle.filter_engine.proofs.Asks.{regex_found, asks_decides, regex_asked, glob_asked}
 use Rattle.filter_engine.proofs.Members.{dependency_decides, dependent_decides}
 use Rattle.filter_engine.proofs.Readings.{read_ok}
@@ -53,8 +57,11 @@ asked Regex text = regex text
 abbrev Asking : Type 0
 Asking = Result NameQuestion PatternFault
 
+ok_value : {A E : Type 0} (a b : A) → ◌≡◌ {A = Result A E} (Ok a) (Ok b) → a ≡ b
+ok_value a b e = cc
+
 ok_is : (question q : NameQuestion) → ◌≡◌ {A = Asking} (Ok question) (Ok q) → q ≡ question
-ok_is question q e = let same : question ≡ q = cc in sym same
+ok_is question q e = sym (ok_value {E = PatternFault} question q e)
 
 small_is : (large : Bool) (question q : NameQuestion)
     → ◌≡◌ {A = Asking} (if large then Err TooLarge else Ok question) (Ok q) → q ≡ question
@@ -69,8 +76,9 @@ written_is false states question q e = absurd (cc)
 question_is : (sign : Sign) (text : List ℕ) (q : NameQuestion) → question_in sign text ≡ Ok q → q ≡ asked sign text
 question_is Equal text q e = ok_is (equal text) q e
 question_is Contains text q e = ok_is (contains text) q e
-question_is Glob text q e = written_is _ (glob_size text) (glob text) q e
-question_is Regex text q e = written_is _ (regex_size text) (regex text) q e
+question_is Glob text q e = written_is (writes_glob text) (glob_size text) (glob text) q e
+question_is Regex text q e =
+    written_is (nests_within (read default_config (chars text))) (regex_size text) (regex text) q e
 
 -- The names that are asked for are those that have what the text requires.
 meets_decides : (sign : Sign) (text name : List ℕ) → Decides (asks (asked sign text) name) (NameMeets sign text name)
@@ -112,7 +120,7 @@ compiled_question : (engine : NextestFilters) (field : Field) (found : Asking) (
     → result_map_both (λ q. sought engine.packages field (asks q)) (λ (fault : PatternFault). fault) found ≡ Ok meaning
     → (q : NameQuestion) × (found ≡ Ok q) × (meaning ≡ sought engine.packages field (asks q))
 compiled_question engine field (Ok q) meaning e =
-    let same : sought engine.packages field (asks q) ≡ meaning = cc in (q, refl, sym same)
+    (q, refl, sym (ok_value {E = PatternFault} (sought engine.packages field (asks q)) meaning e))
 compiled_question engine field (Err fault) meaning e = absurd (cc)
 
 -- A pattern that was compiled accepts the names that have what it requires.
@@ -196,13 +204,13 @@ written_compiled compiler (Grouped a) rest are = written_compiled compiler a (Cl
 -- A filter whose patterns were compiled holds of the tests of which it is true.
 has_as : (P Q : List ℕ → Type 0) → ((name : List ℕ) → P name ↔ Q name) → (field : Field) (test : Test)
     → NameHas P field test ↔ NameHas Q field test
-has_as P Q same TestName test = same _
-has_as P Q same Package test = same _
-has_as P Q same Deps test = same _
-has_as P Q same Rdeps test = same _
-has_as P Q same BinaryId test = same _
-has_as P Q same BinaryName test = same _
-has_as P Q same Kind test = same _
+has_as P Q same TestName test = same test.name
+has_as P Q same Package test = same (package_name test.binary.binary_id)
+has_as P Q same Deps test = same (package_name test.binary.binary_id)
+has_as P Q same Rdeps test = same (package_name test.binary.binary_id)
+has_as P Q same BinaryId test = same test.binary.binary_id
+has_as P Q same BinaryName test = same test.binary.binary_name
+has_as P Q same Kind test = same test.binary.kind
 has_as P Q same Group test = (λ e. e, λ e. e)
 
 module _ (engine : NextestFilters) where
@@ -244,7 +252,7 @@ module _ (engine : NextestFilters) where
   -- What is read is written.
   read_itself : (found : Result Filter FiltersetFault) (filter : Filter)
       → result_map_both (λ (m : Filter). m) message found ≡ Ok filter → found ≡ Ok filter
-  read_itself (Ok marks) filter e = let same : marks ≡ filter = cc in ap Ok same
+  read_itself (Ok marks) filter e = ap Ok (ok_value {E = List ℕ} marks filter e)
   read_itself (Err fault) filter e = absurd (cc)
 
   is_filter : (kind : FiltersetKind) (text : List ℕ) (filter : Filter) → read_filter engine kind text ≡ Ok filter
@@ -300,7 +308,7 @@ module _ (engine : NextestFilters) where
   one_mark kind p spelling spells ban = (
     ([], spelling, [], tt, spells, sym (append-nil spelling), tt),
     (Asks (OfName p), (refl, refl), omega arith),
-    ap (λ (o : Option _). is_none o && true) ban,
+    ap (λ (o : Option FaultKind). is_none o && true) ban,
   )
 
   pub predicate_read : (kind : FiltersetKind) (p : Pattern Names) (spelling : List ℕ)
@@ -313,7 +321,7 @@ module _ (engine : NextestFilters) where
         (filter_is_read (compiled_in engine) (reads_packages engine.packages) kind spelling (Asked (OfName p) ∷ [])
         (one_mark kind p spelling spells ban)),
     λ test default.
-        let said = said_as p.meaning p.field test _ in
+        let said = said_as p.meaning p.field test (marks_value (answer is_among (of_test test (Some true))) default) in
         let same = pattern_as p (question_compiled (compiled_in engine) (OfName p) spelling spells) test in
         (λ e. same.0 (said.0 e), λ x. said.1 (same.1 x)),
   )
