@@ -13,7 +13,7 @@ use Rattle.rinqebo_report.specs.declared.value.TableMember.{TableMember}
 use Rattle.rinqebo_report.specs.declared.value.Value.{Value}
 use Rattle.rinqebo_report.specs.declared.value.Value.TheVariants as values
 use Rattle.rinqebo_request.specs.declared.request.RequestedSettings.{RequestedSettings}
-use Rattle.rinqebo_rules.specs.Told as told
+use Rattle.rinqebo_rules.specs.Reported as told
 use Rattle.rinqebo_changes.specs.Changes.{changed_rows, is_change, rows_in, runs_in, side_row, IsChangedTest}
 use Rattle.rinqebo_changes.specs.Diffs.{is_empty}
 use Rattle.rinqebo_changes.specs.ValueViews as plain

@@ -13,7 +13,7 @@ use Rattle.rinqebo_run.specs.LookedUp.{IsFailureOn}
 use Rattle.rinqebo_run.specs.Statuses.{failure_status}
 use Rattle.rinqebo_diff.specs.Differences.{Differs, diff_status, HasResult}
 use Rattle.rinqebo_diff.specs.Failing.{SideFails, FailsAt, DiffFails, IsRefusedSide, LacksItsProfile, HasCause}
-use Rattle.rinqebo_diff.specs.Statuses.{diff_failure_status, HasFailureStatus, TellsDiffFailure, TellsRefusal}
+use Rattle.rinqebo_diff.specs.Statuses.{diff_failure_status, HasFailureStatus, TellsDiffFailure, ReportsRefusal}
 use Rattle.rinqebo_diff.specs.Written.{IsRendered, TellsDiff}
 use Rattle.rinqebo_diff.specs.declared.loaded.DiffFailure.{DiffFailure}
 use Rattle.rinqebo_diff.specs.declared.loaded.DiffFailure.TheVariants as failures
@@ -221,7 +221,7 @@ answer_cause request from to diff n (inr (inr six)) =
 pub failure_quiet : (request : DiffRequest) (from to : Gathered) (failure : DiffFailure) (n : ℕ) (old new : Option (List ℕ))
     → DiffFails request from to failure
     → (n ≡ 6) ⊎ (new ≡ old) ⊎ TellsDiffFailure request failure n old new
-    → (n ≤ 1) ⊎ (n ≡ 6) ⊎ (new ≡ old) ⊎ TellsRefusal request from to n old new
+    → (n ≤ 1) ⊎ (n ≡ 6) ⊎ (new ≡ old) ⊎ ReportsRefusal request from to n old new
 failure_quiet request from to failure n old new fails (inl six) = inr (inl six)
 failure_quiet request from to failure n old new fails (inr (inl quiet)) = inr (inr (inl quiet))
 failure_quiet request from to failure n old new fails (inr (inr tells)) =

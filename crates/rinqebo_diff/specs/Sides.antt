@@ -20,7 +20,7 @@ use Rattle.rinqebo_load.specs.declared.session.Session.{Session}
 use Rattle.rinqebo_run.specs.Listed.{IsProfileOn}
 use Rattle.rinqebo_run.specs.LookedUp.{IsLookedUp}
 use Rattle.rinqebo_run.specs.Requested.{IsRequestedOf}
-use Rattle.rinqebo_run.specs.TellsReasons.{configured_by}
+use Rattle.rinqebo_run.specs.ReportsReasons.{configured_by}
 use Rattle.rinqebo_diff.specs.declared.request.DiffSide.{DiffSide}
 
 -- What a side is compared by: its session, its profile on the platforms of its build, and the

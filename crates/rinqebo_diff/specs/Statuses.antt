@@ -2,7 +2,7 @@
 use Rattle.std.specs.Prelude.{◌≡◌, ◌⊎◌, ℕ, List, Option}
 use Rattle.rinqebo_files.specs.declared.files.Gathered.{Gathered}
 use Rattle.rinqebo_report.specs.declared.format.Format.TheVariants as formats
-use Rattle.rinqebo_run.specs.Refused.{TellsFailure}
+use Rattle.rinqebo_run.specs.Refused.{ReportsFailure}
 use Rattle.rinqebo_run.specs.Statuses.{failure_status}
 use Rattle.rinqebo_diff.specs.Failing.{DiffFails}
 use Rattle.rinqebo_diff.specs.declared.loaded.DiffFailure.{DiffFailure}
@@ -23,13 +23,13 @@ HasFailureStatus failure n = (n ≡ diff_failure_status failure) ⊎ (n ≡ 5) �
 abbrev pub TellsDiffFailure : DiffRequest → DiffFailure → ℕ → Option (List ℕ) → Option (List ℕ)
     → Type 0
 TellsDiffFailure request (failures.Side names.From failure) status old new =
-    TellsFailure failure request.from.request status old new
+    ReportsFailure failure request.from.request status old new
 TellsDiffFailure request (failures.Side names.To failure) status old new =
-    TellsFailure failure request.to.request status old new
+    ReportsFailure failure request.to.request status old new
 TellsDiffFailure request failures.Memory status old new = ⊥
 
 -- A writer was given the document of why a request has no result.
-pub record TellsRefusal (request : DiffRequest) (from to : Gathered) (status : ℕ)
+pub record ReportsRefusal (request : DiffRequest) (from to : Gathered) (status : ℕ)
     (old new : Option (List ℕ)) : Type 0 where
   pub failure : DiffFailure
   pub fails : DiffFails request from to failure

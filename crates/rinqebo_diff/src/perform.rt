@@ -3,10 +3,10 @@ ghost use Rattle.std.specs.Prelude.{◌≡◌, ◌⊎◌, ◌≤◌, IfErr, IfOk
 ghost use Rattle.std.specs.Io.KnownBytes.{Appends};
 ghost use Rattle.rinqebo_diff.specs.Differences.{diff_status, HasResult, Differs, IsPageOf};
 ghost use Rattle.rinqebo_diff.specs.Failing.{DiffFails, HasCause};
-ghost use Rattle.rinqebo_diff.specs.Statuses.{AreForJson, HasFailureStatus, TellsDiffFailure, TellsRefusal};
+ghost use Rattle.rinqebo_diff.specs.Statuses.{AreForJson, HasFailureStatus, TellsDiffFailure, ReportsRefusal};
 ghost use Rattle.rinqebo_diff.specs.Written.{TellsDiff};
 ghost use Rattle.rinqebo_report.specs.declared.format.Format.TheVariants as formats;
-ghost use Rattle.rinqebo_run.specs.Refused.{TellsFailure};
+ghost use Rattle.rinqebo_run.specs.Refused.{ReportsFailure};
 ghost use Rattle.rinqebo_run.specs.Statuses.{failure_status};
 
 use crate::format::render_diff;
@@ -97,10 +97,10 @@ fn refuse_side<O: Write, E: Write>(
 ) -> u8
     ensures status { (result ≡ failure_status failure.now) ⊎ (result ≡ 5) ⊎ (result ≡ 6) }
     ensures quiet { (result ≡ 6) ⊎ (O.contents out.new ≡ O.contents out.old)
-        ⊎ TellsFailure failure.now side.now.request result
+        ⊎ ReportsFailure failure.now side.now.request result
         (O.contents out.old) (O.contents out.new) }
     ensures document { side.now.request.format ≡ formats.Json → (result ≡ 3) ⊎ (result ≡ 4)
-        → TellsFailure failure.now side.now.request result
+        → ReportsFailure failure.now side.now.request result
         (O.contents out.old) (O.contents out.new) }
 {
     let written = print_text(side_note(name), Status::Success as u8, err);
@@ -210,10 +210,10 @@ pub fn perform_diff<O: Write, E: Write>(
     ensures page { result ≤ 1 → HasResult request.now from.now to.now result
         (O.contents out.old) (O.contents out.new) }
     ensures quiet { (result ≤ 1) ⊎ (result ≡ 6) ⊎ (O.contents out.new ≡ O.contents out.old)
-        ⊎ TellsRefusal request.now from.now to.now result
+        ⊎ ReportsRefusal request.now from.now to.now result
         (O.contents out.old) (O.contents out.new) }
     ensures refusal { AreForJson request.now → (result ≡ 3) ⊎ (result ≡ 4)
-        → TellsRefusal request.now from.now to.now result
+        → ReportsRefusal request.now from.now to.now result
         (O.contents out.old) (O.contents out.new) }
     ensures cause { HasCause request.now from.now to.now result }
 {
