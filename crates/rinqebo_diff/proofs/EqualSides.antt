@@ -161,15 +161,16 @@ nothing_beside R (y ∷ ys) all = absurd all
 none_alone : (tests : List ListTest) (ids : List TestId) → tests ≡ [] → AllZip IsIdOf tests ids → ids ≡ []
 none_alone tests ids none all = nothing_beside IsIdOf ids (subst (λ ts. AllZip IsIdOf ts ids) none all)
 
-no_run : (with_run : Bool) (side : Evaluation) (changes : List RowChange) → GivesOneRun side
+no_run : (with_run : Bool) (side : Evaluation) (changes : List RowChange) → (with_run ≡ true → GivesOneRun side)
     → AreRunChangesIf with_run side side changes → changes ≡ []
 no_run false side changes one none = none
 no_run true side changes one are =
-    alike_none are.before are.after changes (one.alike are.before are.after are.are_before are.are_after) are.are_changes
+    alike_none are.before are.after changes ((one refl).alike are.before are.after are.are_before are.are_after)
+    are.are_changes
 
 -- nothing changes from a side to itself
 pub nothing_changes : (request : DiffRequest) (side : Evaluation) (diff : Diff) → request.with_origins ≡ false
-    → request.from.mode ≡ request.to.mode → NamesOnce (tests_of side) → GivesOneRun side
+    → request.from.mode ≡ request.to.mode → NamesOnce (tests_of side) → (request.with_run ≡ true → GivesOneRun side)
     → IsDiffOf request side side diff → diff_status diff ≡ 0
 nothing_changes request side diff plain modes once one is =
     let asked = request.compared.asked in
