@@ -37,16 +37,16 @@ pub compared_none : {left right : ListTest → TestRows → Type 0} {changes : S
 compared_none changed none = record { results = []; each = tt; kept = none }
 
 -- what changes for a pair, by the rows that each side reports
-pub compared_by : {left right : ListTest → TestRows → Type 0} {changes : SideRow → SideRow → Bool} {E : Type 0}
+pub compared_by : (left right : ListTest → TestRows → Type 0) (changes : SideRow → SideRow → Bool) {E : Type 0}
     (with_runs : Bool) (pair : TestPair) (before after : TestRows) (result : Result (Option TestChanges) E)
     → left pair.from before → right pair.to after
     → IfOk result (λ found. MatchOption found
     (changed_rows changes (rows_in with_runs before) (rows_in with_runs after) ≡ [])
     (IsChangedTest changes with_runs before after))
     → IfOk result (IsComparedBy left right changes with_runs pair)
-compared_by with_runs pair before after (Ok found) l r verdict =
+compared_by left right changes with_runs pair before after (Ok found) l r verdict =
     record { before = before; after = after; left_reports = l; right_reports = r; verdict = verdict }
-compared_by with_runs pair before after (Err e) l r verdict = tt
+compared_by left right changes with_runs pair before after (Err e) l r verdict = tt
 
 -- origins are looked up in the same by another name
 pub moved_bases : {changes : SideRow → SideRow → Bool} {with_runs : Bool} {pair : TestPair}
