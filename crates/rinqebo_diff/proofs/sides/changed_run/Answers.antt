@@ -1,4 +1,4 @@
-use Rattle.std.proofs.Common.{[], subst, sym}
+use Rattle.std.proofs.Common.{subst, sym}
 use Rattle.std.proofs.lemmas.Result.{IfOk-weaker}
 use Rattle.rinqebo_changes.specs.Keyed.{AreKeyedChanges}
 use Rattle.rinqebo_diff.specs.Evaluated.{evaluation_of}
