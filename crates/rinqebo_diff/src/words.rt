@@ -13,7 +13,7 @@ use rinqebo_request::words::{
 };
 use rinqebo_request::{
     ConfigFile, EngineOptions, Environment, FileOptions, ListFile, ParseStop, ProfileSource,
-    Question, Request, RequestedSettings, set,
+    Question, Request, RequestedSettings, ToolFile, set,
 };
 use std::alloc::{AllocError, Global};
 
@@ -113,6 +113,18 @@ fn left_options<'a>(
     })
 }
 
+/// The files of tools of the right side: those of the left side, if none is named anew.
+fn right_tools<'a>(
+    alloc: Global,
+    matches: &ArgMatches<'a>,
+    left: Vec<ToolFile<'a>>,
+) -> Result<Vec<ToolFile<'a>>, ParseStop> {
+    if let Some(values) = matches.get_strs("to-tool-config-file") {
+        return tool_files(alloc, values);
+    }
+    Ok(left)
+}
+
 /// The files of the right side: those of the left side, but for what is named anew.
 fn right_files<'a>(
     alloc: Global,
@@ -129,17 +141,13 @@ fn right_files<'a>(
         Some(path) => ConfigFile::Named(path),
         None => config_file,
     };
-    let tools = match matches.get_strs("to-tool-config-file") {
-        Some(values) => tool_files(alloc, values)?,
-        None => tools,
-    };
     Ok(FileOptions {
         root: matches.get_str("to-root").or(root),
         config_file,
         organisation_config_file: matches
             .get_str("to-organisation-config-file")
             .or(organisation_config_file),
-        tools,
+        tools: right_tools(alloc, matches, tools)?,
     })
 }
 
