@@ -1,0 +1,61 @@
+//! The laws: what commands report of one test agrees.
+ghost use Rattle.std.specs.Prelude.{◌≡◌, Contains, List, Some, slice_get, string_bytes};
+ghost use Rattle.nextest_lists.specs.ListView.{list_view};
+ghost use Rattle.nextest_lists.specs.Lists.{list_tests};
+ghost use Rattle.nextest_settings.specs.declared.setting.Setting.{Setting};
+ghost use Rattle.nextest_tables.specs.Written.{Name};
+ghost use Rattle.rinqebo_files.specs.declared.files.Gathered.{Gathered};
+ghost use Rattle.rinqebo_laws.specs.Reasons.{AgreesWithRules, HaveOneResult};
+ghost use Rattle.rinqebo_laws.specs.Rows.{AgreeOnTest, ListsTest, SaySameOfTest};
+ghost use Rattle.rinqebo_load.specs.FoundTests.{found_view};
+ghost use Rattle.rinqebo_load.specs.SessionOf.{IsSessionOf};
+ghost use Rattle.rinqebo_load.specs.declared.found_test.FoundTest.{FoundTest};
+ghost use Rattle.rinqebo_load.specs.declared.session.Session.{Session};
+ghost use Rattle.rinqebo_report.specs.declared.report.Report.{Report};
+ghost use Rattle.rinqebo_report.specs.declared.report.SettingRow.{SettingRow};
+ghost use Rattle.rinqebo_request.specs.declared.request.Request.{Request};
+ghost use Rattle.rinqebo_request.specs.declared.request.RequestedSettings.{RequestedSettings};
+ghost use Rattle.rinqebo_run.specs.Explained.{Explains, IfExplained};
+ghost use Rattle.rinqebo_run.specs.Listed.{IfListed, ReportsTests};
+ghost use Rattle.rinqebo_run.specs.ReportsReasons.{IfWhy, ReportsReasons};
+
+/// What `explain --why` and `explain` report of a setting of a test agree, in one session, profile
+/// and mode. At most one rule decides. Where one does, the value is what that rule writes, and it
+/// comes from the place of the key in that rule. Where none does, the value is that of the fallback,
+/// and it comes from where the chain of profiles has it.
+pub fn law_why_agrees()
+    ensures one { (session : Session) (profile : Name) (test : FoundTest) (s : Setting)
+        (why : Report) → ReportsReasons session profile test s why
+        → IfWhy why.content (λ named key rules. HaveOneResult rules) }
+    ensures agrees { (request : Request) (gathered : Gathered) (session : Session)
+        (profile : Name) (test : FoundTest) (s : Setting) (asked : RequestedSettings)
+        (why explained : Report) → IsSessionOf request gathered session
+        → ReportsReasons session profile test s why
+        → Explains session profile test asked explained
+        → IfWhy why.content (λ named key rules. IfExplained explained.content
+        (λ told. (row : SettingRow) → Contains told.settings.items row
+        → string_bytes row.key ≡ key
+        → AgreesWithRules session profile s test.mode rules row)) }
+{}
+
+/// What a list and `explain` report of a test of the list agree, in one session, profile and mode:
+/// whether it runs, and the value and the origins of each setting that both report. Where the same
+/// settings are requested, both report the same settings, in the same order.
+pub fn law_list_agrees()
+    ensures agrees { (request : Request) (gathered : Gathered) (session : Session)
+        (profile : Name) (test : FoundTest) (asked others : RequestedSettings)
+        (listed explained : Report) (n : ℕ) → IsSessionOf request gathered session
+        → ReportsTests session profile test.mode asked listed
+        → Explains session profile test others explained
+        → slice_get (list_tests (list_view session.tests)) n ≡ Some (found_view test)
+        → IfListed listed.content (λ tests unused scripts objects.
+        IfExplained explained.content (λ told. ListsTest tests n (AgreeOnTest told))) }
+    ensures same { (request : Request) (gathered : Gathered) (session : Session)
+        (profile : Name) (test : FoundTest) (asked : RequestedSettings)
+        (listed explained : Report) (n : ℕ) → IsSessionOf request gathered session
+        → ReportsTests session profile test.mode asked listed
+        → Explains session profile test asked explained
+        → slice_get (list_tests (list_view session.tests)) n ≡ Some (found_view test)
+        → IfListed listed.content (λ tests unused scripts objects.
+        IfExplained explained.content (λ told. ListsTest tests n (SaySameOfTest told))) }
+{}
