@@ -24,9 +24,11 @@ use Rattle.rinqebo_files.specs.declared.files.Gathered.{Gathered}
 use Rattle.rinqebo_laws.proofs.Files.{one_layer}
 use Rattle.rinqebo_laws.proofs.Lists.{place_of, right_of}
 use Rattle.rinqebo_laws.proofs.Rows.{all_say_same, keyed_say_same, row_of, runs_say_same}
+use Rattle.rinqebo_laws.proofs.Runs.{by_chain, by_filter, chain_origins, no_fallback_there, one_filter}
 use Rattle.rinqebo_laws.proofs.Why.{all_before, before_or_last, by_fallback, by_rule, fallback_origins, never_fallback, one_result}
 use Rattle.rinqebo_laws.specs.Reasons.{AgreesWithRules, AreFallbackOrigins, HaveOneResult, NoneDecides}
 use Rattle.rinqebo_laws.specs.Rows.{AgreeOnTest, ListsTest, SaySame, SaySameOfTest}
+use Rattle.rinqebo_laws.specs.Runs.{AgreesWithFilters, SaysByRule}
 use Rattle.rinqebo_load.specs.FoundTests.{found_view}
 use Rattle.rinqebo_load.specs.Meant.{config_meant}
 use Rattle.rinqebo_load.specs.SessionOf.{IsSessionOf}
@@ -43,7 +45,7 @@ use Rattle.rinqebo_report.specs.declared.report.Rule.{Rule}
 use Rattle.rinqebo_report.specs.declared.report.SettingRow.{SettingRow}
 use Rattle.rinqebo_report.specs.declared.report.TestId.{TestId}
 use Rattle.rinqebo_report.specs.declared.report.TestRows.{TestRows}
-use Rattle.rinqebo_report.specs.declared.report.Verdict.TheVariants as told
+use Rattle.rinqebo_report.specs.declared.report.Verdict.TheVariants as verdicts
 use Rattle.rinqebo_request.specs.Keys.{key_name, key_table, key_text}
 use Rattle.rinqebo_request.specs.declared.request.Request.{Request}
 use Rattle.rinqebo_request.specs.declared.request.RequestedSettings.{RequestedSettings}
@@ -58,6 +60,7 @@ use Rattle.rinqebo_run.specs.Explained.{Explains, IfExplained, IsTestOf}
 use Rattle.rinqebo_run.specs.Listed.{AreTestsOf, IfListed, ReportsTests}
 use Rattle.rinqebo_run.specs.Reasons.{IsRuleAsWritten}
 use Rattle.rinqebo_run.specs.ReportsReasons.{AreReasons, AreReasonsIn, IfWhy, ReportsReasons, configured_by}
+use Rattle.rinqebo_run.specs.RunsReasons.{AreRunsReasons, IfWhyRuns, ReportsRunsReasons, is_selected_on}
 
 -- ---- contents of reports
 
@@ -69,6 +72,16 @@ if_why (contents.Explain asked test) P Q turn is = absurd is
 if_why (contents.List asked tests unused scripts objects) P Q turn is = absurd is
 if_why (contents.ShowConfig asked entries) P Q turn is = absurd is
 if_why contents.Check P Q turn is = absurd is
+
+if_why_runs : (content : Content) (P Q : TestId → List ℕ → List Rule → Bool → Type 0)
+    → ((named : TestId) (key : List ℕ) (rules : List Rule) (ignored : Bool) → P named key rules ignored
+    → Q named key rules ignored) → IfWhyRuns content P → IfWhyRuns content Q
+if_why_runs (contents.Why asked test key rules is_ignored) P Q turn is =
+    turn test (string_bytes key) rules.items is_ignored is
+if_why_runs (contents.Explain asked test) P Q turn is = absurd is
+if_why_runs (contents.List asked tests unused scripts objects) P Q turn is = absurd is
+if_why_runs (contents.ShowConfig asked entries) P Q turn is = absurd is
+if_why_runs contents.Check P Q turn is = absurd is
 
 if_explained : (content : Content) (P Q : TestRows → Type 0) → ((test : TestRows) → P test → Q test)
     → IfExplained content P → IfExplained content Q
@@ -270,9 +283,9 @@ why_once session profile test s why reasons =
     it.fallback_reported rules it.are)) reasons.told
 
 -- the fallback does not decide
-not_both : (fallback rule : Rule) → fallback ≡ rule → fallback.verdict ≡ told.Fallback → rule.verdict ≡ told.Decides → ⊥
+not_both : (fallback rule : Rule) → fallback ≡ rule → fallback.verdict ≡ verdicts.Fallback → rule.verdict ≡ verdicts.Decides → ⊥
 not_both fallback rule same falls decides =
-    let verdict : fallback.verdict ≡ told.Decides = ap (λ (r : Rule). r.verdict) same ∙ decides in
+    let verdict : fallback.verdict ≡ verdicts.Decides = ap (λ (r : Rule). r.verdict) same ∙ decides in
     absurd cc
 
 module _ (session : Session) (profile : Name)
@@ -294,21 +307,21 @@ module _ (session : Session) (profile : Name)
       (reported_settings asked (setting_origin query test.mode q)) told_test.settings.items row
       reported.settings_reported has same keyed in
       let layers = session.layers.items in
-      let on = meets session profile in
+      let meet = meets session profile in
       let build = platforms session profile in
       let mode = test.mode in
       let front = reasons.before in
       let fallback = reasons.fallback in
       let all = reasons.rules_reported in
-      let each : AllByRecursion (λ (rule : Rule). rule.verdict ≡ told.Decides → ⊥) rules → NoneDecides front =
-      λ none. all_before (λ (rule : Rule). rule.verdict ≡ told.Decides → ⊥) front (fallback ∷ [])
-      (subst (AllByRecursion (λ (rule : Rule). rule.verdict ≡ told.Decides → ⊥)) reasons.are none) in
+      let each : AllByRecursion (λ (rule : Rule). rule.verdict ≡ verdicts.Decides → ⊥) rules → NoneDecides front =
+      λ none. all_before (λ (rule : Rule). rule.verdict ≡ verdicts.Decides → ⊥) front (fallback ∷ [])
+      (subst (AllByRecursion (λ (rule : Rule). rule.verdict ≡ verdicts.Decides → ⊥)) reasons.are none) in
       record {
         decided = λ rule in_rules decides.
             (let place = place_of rules rule in_rules in
             elim (before_or_last front fallback rule place.0
             (subst (λ rs. slice_get rs place.0 ≡ Some rule) reasons.are place.1)) [
-                inl there ↦ by_rule layers one names on build query mode p.overrides p.script_rules p.facts.fields s front all
+                inl there ↦ by_rule layers one names meet build query mode p.overrides p.script_rules p.facts.fields s front all
                   row is place.0 rule there decides
                   (All-contains (IsRuleAsWritten layers (key_steps (key_table s mode) (key_name s))) rules rule
                   reasons.as_written in_rules)
@@ -318,16 +331,16 @@ module _ (session : Session) (profile : Name)
             (let place = place_of rules rule in_rules in
             elim (before_or_last front fallback rule place.0
             (subst (λ rs. slice_get rs place.0 ≡ Some rule) reasons.are place.1)) [
-                inl there ↦ absurd (never_fallback layers on build query
+                inl there ↦ absurd (never_fallback layers meet build query
                   (rules_for s mode p.overrides p.script_rules) front all place.0 rule there falls)
               | inr last ↦ subst (λ (r : Rule). option_map value_view r.value ≡ option_map value_view row.value) last
-                  (by_fallback layers one names on build query mode p.overrides p.script_rules p.facts.fields s front all row
+                  (by_fallback layers one names meet build query mode p.overrides p.script_rules p.facts.fields s front all row
                   is fallback reasons.fallback_value (each none))
               ]);
         origins = λ none. record {
           chain = names;
           is_chain = are_names;
-          are = fallback_origins layers one names on build query mode p.overrides p.script_rules p.facts.fields s front all
+          are = fallback_origins layers one names meet build query mode p.overrides p.script_rules p.facts.fields s front all
               row is (each none);
         };
       }
@@ -347,3 +360,81 @@ why_agrees request gathered session profile test s asked why explained is reason
     (platforms session profile) test s p rules) has.2.is_profile.is_profile has.2.reasons)
     (explained_by session profile explains.scripts chain reports.chain test asked told has.2.is_profile.is_chain
     reports.is_chain reports) key has.1 in_rows same)) explains.told) reasons.told
+
+-- ---- whether a test runs
+
+-- the rules of why a test runs have one result
+pub why_runs_once : (session : Session) (profile : Name) (test : FoundTest) (why : Report)
+    → ReportsRunsReasons session profile test why
+    → IfWhyRuns why.content (λ named key rules ignored. HaveOneResult rules)
+why_runs_once session profile test why reasons =
+    if_why_runs why.content _ _ (λ named key rules ignored is.
+    (let it = is.3.reasons in
+    one_filter session.layers.items (meets session profile) (platforms session profile) is.3.profile.overrides
+    (is_selected_on (matches session profile) (profile_on (meets session profile) (platforms session profile) is.3.profile)
+    (found_view test).test) it.before it.rules_reported it.fallback it.fallback_reported rules it.are)) reasons.told
+
+module _ (session : Session) (profile : Name)
+    (one : (file : Source) (n m : ℕ) → IsFileAt session.layers.items file n → IsFileAt session.layers.items file m
+    → n ≡ m) (test : FoundTest) (asked : RequestedSettings) (scripts others : ScriptTables)
+    (chain names : List Name) (rules : List Rule) (told_test : TestRows) where
+  runs_agree : IsChainAndDefault (parents session profile) profile names
+      → AreRunsReasons session.layers.items (meets session profile) (matches session profile)
+      (platforms session profile) test (early session profile scripts chain) rules
+      → Reports session profile others chain names (found_view test) test.mode asked told_test
+      → AgreesWithFilters session profile test.ignored rules told_test.runs
+  runs_agree are_names reasons reported =
+      let layers = session.layers.items in
+      let meet = meets session profile in
+      let build = platforms session profile in
+      let p = early session profile others chain in
+      let selected = is_selected_on (matches session profile) (on session profile others chain) (found_view test).test in
+      let front = reasons.before in
+      let fallback = reasons.fallback in
+      let all = reasons.rules_reported in
+      let is = reported.run_reported in
+      let each : AllByRecursion (λ (rule : Rule). rule.verdict ≡ verdicts.Decides → ⊥) rules → NoneDecides front =
+      λ none. all_before (λ (rule : Rule). rule.verdict ≡ verdicts.Decides → ⊥) front (fallback ∷ [])
+      (subst (AllByRecursion (λ (rule : Rule). rule.verdict ≡ verdicts.Decides → ⊥)) reasons.are none) in
+      record {
+        decided = λ rule in_rules decides.
+            (let place = place_of rules rule in_rules in
+            elim (before_or_last front fallback rule place.0
+            (subst (λ rs. slice_get rs place.0 ≡ Some rule) reasons.are place.1)) [
+                inl there ↦ by_filter layers meet build p.overrides selected front all one names test.ignored told_test.runs is
+                  place.0 rule there decides
+              | inr last ↦ absurd (not_both fallback rule last reasons.fallback_reported decides)
+              ]);
+        undecided = λ none rule in_rules falls.
+            (let place = place_of rules rule in_rules in
+            elim (before_or_last front fallback rule place.0
+            (subst (λ rs. slice_get rs place.0 ≡ Some rule) reasons.are place.1)) [
+                inl there ↦ absurd (no_fallback_there layers meet build p.overrides selected front all place.0 rule there falls)
+              | inr last ↦ subst (λ (r : Rule). SaysByRule test.ignored r told_test.runs) last
+                  (by_chain layers meet build p.overrides selected front all one names test.ignored told_test.runs is fallback
+                  reasons.fallback_value (each none))
+              ]);
+        origins = λ none. record {
+          chain = names;
+          is_chain = are_names;
+          are = chain_origins layers meet build p.overrides selected front all one names test.ignored told_test.runs is
+              (each none);
+        };
+      }
+
+pub why_runs_agrees : (request : Request) (gathered : Gathered) (session : Session) (profile : Name) (test : FoundTest)
+    (asked : RequestedSettings) (why explained : Report) → IsSessionOf request gathered session
+    → ReportsRunsReasons session profile test why → Explains session profile test asked explained
+    → IfWhyRuns why.content (λ named key rules ignored. IfExplained explained.content
+    (λ told. AgreesWithFilters session profile ignored rules told.runs))
+why_runs_agrees request gathered session profile test asked why explained is reasons explains =
+    if_why_runs why.content _ _ (λ named key rules ignored has.
+    if_explained explained.content _ _ (λ told reports.
+    (let chain = has.3.is_profile.chain in
+    subst (λ b. AgreesWithFilters session profile b rules told.runs) (sym has.2)
+    (runs_agree session profile (one_layer request gathered session is explains.acceptance) test asked reasons.scripts
+    explains.scripts chain reports.chain rules told reports.is_chain
+    (subst (λ p. AreRunsReasons session.layers.items (meets session profile) (matches session profile)
+    (platforms session profile) test p rules) has.3.is_profile.is_profile has.3.reasons)
+    (explained_by session profile explains.scripts chain reports.chain test asked told has.3.is_profile.is_chain
+    reports.is_chain reports)))) explains.told) reasons.told

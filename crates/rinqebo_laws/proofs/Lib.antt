@@ -7,4 +7,5 @@ pub mod Keys
 pub mod Deciding
 pub mod Rows
 pub mod Why
+pub mod Runs
 pub mod Agreement

@@ -38,14 +38,14 @@ use Rattle.rinqebo_run.specs.Reasons.{AreRulesReported, IsRuleAsWritten, IsRuleR
 
 -- ---- verdicts as a report shows them
 
-decides_told : (v : RuleVerdict) → page_verdict v ≡ told.Decides → v ≡ Decides
+pub decides_told : (v : RuleVerdict) → page_verdict v ≡ told.Decides → v ≡ Decides
 decides_told PlatformNo is = absurd cc
 decides_told FilterNo is = absurd cc
 decides_told SetsNothing is = absurd cc
 decides_told DecidedBefore is = absurd cc
 decides_told Decides is = refl
 
-not_fallback : (v : RuleVerdict) → page_verdict v ≡ told.Fallback → ⊥
+pub not_fallback : (v : RuleVerdict) → page_verdict v ≡ told.Fallback → ⊥
 not_fallback PlatformNo is = absurd cc
 not_fallback FilterNo is = absurd cc
 not_fallback SetsNothing is = absurd cc
@@ -66,7 +66,7 @@ pub all_before : {X : Type 0} (P : X → Type 0) (xs ys : List X) → AllByRecur
 all_before P [] ys all = tt
 all_before P (x ∷ xs) ys all = (all.0, all_before P xs ys all.1)
 
-alone : {A B : Type 0} (R : A → B → Type 0) (x : A) (ys : List B) → AllZip R (x ∷ []) ys
+pub alone : {A B : Type 0} (R : A → B → Type 0) (x : A) (ys : List B) → AllZip R (x ∷ []) ys
     → (y : B) × (ys ≡ y ∷ []) × R x y
 alone R x [] all = absurd all
 alone R x (y ∷ []) all = (y, refl, all.0)

@@ -6,6 +6,7 @@ ghost use Rattle.nextest_settings.specs.declared.setting.Setting.{Setting};
 ghost use Rattle.nextest_tables.specs.Written.{Name};
 ghost use Rattle.rinqebo_files.specs.declared.files.Gathered.{Gathered};
 ghost use Rattle.rinqebo_laws.specs.Reasons.{AgreesWithRules, HaveOneResult};
+ghost use Rattle.rinqebo_laws.specs.Runs.{AgreesWithFilters};
 ghost use Rattle.rinqebo_laws.specs.Rows.{AgreeOnTest, ListsTest, SaySameOfTest};
 ghost use Rattle.rinqebo_load.specs.FoundTests.{found_view};
 ghost use Rattle.rinqebo_load.specs.SessionOf.{IsSessionOf};
@@ -18,6 +19,7 @@ ghost use Rattle.rinqebo_request.specs.declared.request.RequestedSettings.{Reque
 ghost use Rattle.rinqebo_run.specs.Explained.{Explains, IfExplained};
 ghost use Rattle.rinqebo_run.specs.Listed.{IfListed, ReportsTests};
 ghost use Rattle.rinqebo_run.specs.ReportsReasons.{IfWhy, ReportsReasons};
+ghost use Rattle.rinqebo_run.specs.RunsReasons.{IfWhyRuns, ReportsRunsReasons};
 
 /// What `explain --why` and `explain` report of a setting of a test agree, in one session, profile
 /// and mode. At most one rule decides. Where one does, the value is what that rule writes, and it
@@ -36,6 +38,24 @@ pub fn law_why_agrees()
         (λ told. (row : SettingRow) → Contains told.settings.items row
         → string_bytes row.key ≡ key
         → AgreesWithRules session profile s test.mode rules row)) }
+{}
+
+/// What `explain --why runs` and `explain` report of whether a test runs agree, in one session,
+/// profile and mode. At most one override decides. Where one does, its default filter matches the
+/// test exactly where the test runs or a list says that it is ignored, and whether it runs comes
+/// from the place of that filter. Where none does, the same is so of the filter of the chain of
+/// profiles.
+pub fn law_why_runs_agrees()
+    ensures one { (session : Session) (profile : Name) (test : FoundTest) (why : Report)
+        → ReportsRunsReasons session profile test why
+        → IfWhyRuns why.content (λ named key rules ignored. HaveOneResult rules) }
+    ensures agrees { (request : Request) (gathered : Gathered) (session : Session)
+        (profile : Name) (test : FoundTest) (asked : RequestedSettings)
+        (why explained : Report) → IsSessionOf request gathered session
+        → ReportsRunsReasons session profile test why
+        → Explains session profile test asked explained
+        → IfWhyRuns why.content (λ named key rules ignored. IfExplained explained.content
+        (λ told. AgreesWithFilters session profile ignored rules told.runs)) }
 {}
 
 /// What a list and `explain` report of a test of the list agree, in one session, profile and mode:

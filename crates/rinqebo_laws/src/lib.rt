@@ -3,4 +3,4 @@
 
 mod laws;
 
-pub use laws::{law_list_agrees, law_why_agrees};
+pub use laws::{law_list_agrees, law_why_agrees, law_why_runs_agrees};
