@@ -1,5 +1,5 @@
 -- The rule with the verdict that it decides gives a setting its value and its origins.
-use Rattle.std.proofs.Common.{◌≡◌, ◌≢◌, ◌⊎◌, inl, inr, ◌∙◌, ℕ, zero, suc, ◌<◌, Bool, true, false, ◌&&◌, cond, List, [], ◌∷◌, ◌++◌, Option, None, Some, is_some, IfSome, map, find, option_map, option_and_then, slice_get, refl, sym, ap, subst, arith}
+use Rattle.std.proofs.Common.{◌≡◌, ◌≢◌, inl, inr, ◌∙◌, ℕ, zero, suc, Bool, true, false, ◌&&◌, cond, List, [], ◌∷◌, ◌++◌, Option, None, Some, is_some, map, option_map, option_and_then, slice_get, refl, sym, ap, subst}
 use Rattle.std.proofs.lemmas.Bool.{and_parts, cases_order}
 use Rattle.std.proofs.lemmas.Option.{slice_get-map}
 use Rattle.std.specs.List.{AllZip}
@@ -17,10 +17,11 @@ use Rattle.nextest_tables.specs.Written.{WrittenFields}
 use Rattle.rinqebo_report.specs.declared.origin.Origin.{Origin as Reported}
 use Rattle.rinqebo_rules.proofs.VerdictsOf.{verdicts-none, verdicts-nth, verdicts-winner}
 use Rattle.rinqebo_rules.specs.Origins.{IsOriginOf, key_steps}
-use Rattle.rinqebo_rules.specs.Reported.{ReportedValue, reported_of}
-use Rattle.rinqebo_rules.specs.SettingRules.{RuleFor, RuleValue, for_setting, is_of_scripts, on_setting, override_writes, rules_for, wrapper_written, writes_it}
+use Rattle.rinqebo_rules.specs.Reported.{reported_of}
+use Rattle.rinqebo_rules.specs.SettingRules.{RuleFor, RuleValue, for_setting, on_setting, override_writes, rules_for, wrapper_written, writes_it}
+use Rattle.rinqebo_rules.specs.Settings.{is_by_rule}
 use Rattle.rinqebo_rules.specs.TestOrigins.{AreOriginsBy, Basis}
-use Rattle.rinqebo_rules.specs.Verdicts.{IsDeciding, verdicts_after, verdicts_of}
+use Rattle.rinqebo_rules.specs.Verdicts.{verdicts_after, verdicts_of}
 use Rattle.rinqebo_rules.specs.declared.verdict.RuleVerdict.{RuleVerdict}
 use Rattle.rinqebo_rules.specs.declared.verdict.RuleVerdict.TheVariants.{Decides}
 
@@ -71,10 +72,10 @@ module _ {M W : Type 0} (query : QueryContext M) (wants : W → Bool) where
       let is = first.0 one in
       let has = second.0 other in
       elim (cases_order n m) [
-          inl e ↦ e
+        | inl e ↦ e
         | inr (inl e) ↦ (let no = has.first n left.0 e left.1 in let yes = is.holds in absurd cc)
         | inr (inr e) ↦ (let no = is.first m right.0 e right.1 in let yes = has.holds in absurd cc)
-        ]
+      ]
 
 -- ---- rules for a setting
 
@@ -170,6 +171,7 @@ module _ {M K P : Type 0} (meets : K → P → Option Bool) (platforms : BuildPl
   -- A setting has what a rule writes: its value, and the origins of the setting in that rule.
   pub record HasRule (s : Setting) (writes : RuleValue) : Type 0 where
     pub some : is_some writes.value ≡ true
+    pub ruled : is_by_rule (source s) ≡ true
     pub value : option_map (reported_of s) (given s) ≡ writes.value
     pub origins : (basis : Basis) (table : Option (List ℕ)) (name : List ℕ) (origins : List Reported)
         → AreOriginsBy basis wrapping table name (source s) origins
@@ -208,6 +210,7 @@ module _ {M K P : Type 0} (meets : K → P → Option Bool) (platforms : BuildPl
       let from : source s ≡ Some (Origin.by_override is.rule.writes.id) = sym origin ∙ ap (source_by s) is.first in
       record {
         some = is.some;
+        ruled = ap is_by_rule from;
         value = ap (option_map (reported_of s)) has ∙ written;
         origins = λ basis table name origins are.
             subst (λ place. AllZip (λ p. IsOriginOf basis.layers p (key_steps table name)) (place ∷ []) origins)
@@ -249,6 +252,7 @@ module _ {M K P : Type 0} (meets : K → P → Option Bool) (platforms : BuildPl
       ap (option_map (λ (r : EvaluatedRule M ScriptRuleUse). r.writes.id)) is.first in
       record {
         some = is.some;
+        ruled = ap is_by_rule from;
         value = ap (option_map (reported_of at.RunWrapper)) has ∙ written;
         origins = λ basis table name origins are.
             subst (λ place. AllZip (λ p. IsOriginOf basis.layers p (key_steps table name)) (place ∷ []) origins)
@@ -282,9 +286,15 @@ module _ {M K P : Type 0} (meets : K → P → Option Bool) (platforms : BuildPl
       (none_decided meets platforms query (override_writes s mode) (Wanted s) (override_agrees s) overrides never)
 
 -- no rule decides where nothing decides: whatever wraps the run
-pub any_wrapping : (basis : Basis) (wrapping other : Option RuleId) (table : Option (List ℕ)) (name : List ℕ) (s : Setting)
-    (origins : List Reported) → AreOriginsBy basis wrapping table name (fallback_origin s) origins
+pub any_wrapping : (basis : Basis) (wraps other : Option RuleId) (table : Option (List ℕ)) (name : List ℕ) (s : Setting)
+    (origins : List Reported) → AreOriginsBy basis wraps table name (fallback_origin s) origins
     → AreOriginsBy basis other table name (fallback_origin s) origins
-any_wrapping basis wrapping other table name at.Priority origins are = are
-any_wrapping basis wrapping other table name at.RunWrapper origins are = are
-any_wrapping basis wrapping other table name s origins are = are
+any_wrapping basis wraps other table name at.Priority origins are = are
+any_wrapping basis wraps other table name at.RunWrapper origins are = are
+any_wrapping basis wraps other table name s origins are = are
+
+-- a fallback is by no rule
+pub not_ruled : (s : Setting) → is_by_rule (fallback_origin s) ≡ false
+not_ruled at.Priority = refl
+not_ruled at.RunWrapper = refl
+not_ruled s = refl

@@ -9,7 +9,7 @@ use Rattle.nextest_sources.specs.declared.sources.FileInput.{FileInput}
 use Rattle.nextest_sources.specs.declared.sources.ToolConfigFile.{ToolConfigFile}
 use Rattle.nextest_texts.specs.IdentifierText.{tool_name_text}
 use Rattle.rinqebo_files.specs.Layers.{LayerRead, file_layer, layer_view, layers_read, organisation_layers, repository_layer, tool_layer}
-use Rattle.rinqebo_files.specs.Origins.{IsFileAt, reported_file}
+use Rattle.rinqebo_files.specs.Origins.{IsFileAt}
 use Rattle.rinqebo_files.specs.declared.files.Gathered.{Gathered}
 use Rattle.rinqebo_files.specs.declared.layers.Layer.{Layer}
 use Rattle.rinqebo_load.specs.Accepted.{AreAccepted}
@@ -89,17 +89,19 @@ others_differ : (files : List ToolFile) (t : ToolFile) (between : List ToolFile)
     → HaveOneFileEach files → files ≡ t ∷ (between ++ map tool_file_view rest)
     → AllByRecursion (OtherTool t.tool) rest
 others_differ files t between [] one is = tt
-others_differ files t between (u ∷ rest) one is =
-    ((λ same. one [] between (map tool_file_view rest) t (tool_file_view u) is (sym same)),
-    others_differ files t (between ++ tool_file_view u ∷ []) rest one
-    (is ∙ ap (λ more. t ∷ more) (sym (append_assoc between (tool_file_view u ∷ []) (map tool_file_view rest)))))
+others_differ files t between (u ∷ rest) one is = (
+  (λ same. one [] between (map tool_file_view rest) t (tool_file_view u) is (sym same)),
+  others_differ files t (between ++ tool_file_view u ∷ []) rest one
+      (is ∙ ap (λ more. t ∷ more) (sym (append_assoc between (tool_file_view u ∷ []) (map tool_file_view rest)))),
+)
 
 one_each : (tools : List ToolConfigFile) → HaveOneFileEach (map tool_file_view tools) → HaveOneEach tools
 one_each [] one = tt
-one_each (tool ∷ tools) one =
-    (others_differ (map tool_file_view (tool ∷ tools)) (tool_file_view tool) [] tools one refl,
-    one_each tools (λ before between after t u is.
-        one (tool_file_view tool ∷ before) between after t u (ap (λ more. tool_file_view tool ∷ more) is)))
+one_each (tool ∷ tools) one = (
+  others_differ (map tool_file_view (tool ∷ tools)) (tool_file_view tool) [] tools one refl,
+  one_each tools (λ before between after t u is.
+      one (tool_file_view tool ∷ before) between after t u (ap (λ more. tool_file_view tool ∷ more) is)),
+)
 
 tools_joined : (P : ToolConfigFile → Type 0) (xs ys : List ToolConfigFile) → AllByRecursion P xs → AllByRecursion P ys
     → AllByRecursion P (xs ++ ys)
@@ -115,9 +117,10 @@ tools_reversed P (x ∷ xs) all =
 each_before : (xs : List ToolConfigFile) (y : ToolConfigFile) → HaveOneEach xs
     → AllByRecursion (OtherTool (tool_name_text y.tool)) xs → HaveOneEach (xs ++ y ∷ [])
 each_before [] y one other = (tt, tt)
-each_before (x ∷ xs) y one other =
-    (tools_joined (OtherTool (tool_name_text x.tool)) xs (y ∷ []) one.0 ((λ same. other.0 (sym same)), tt),
-    each_before xs y one.1 other.1)
+each_before (x ∷ xs) y one other = (
+  tools_joined (OtherTool (tool_name_text x.tool)) xs (y ∷ []) one.0 ((λ same. other.0 (sym same)), tt),
+  each_before xs y one.1 other.1,
+)
 
 each_reversed : (tools : List ToolConfigFile) → HaveOneEach tools → HaveOneEach (reverse tools)
 each_reversed [] one = tt
@@ -186,9 +189,14 @@ tools_others (tool ∷ tools) o =
 tools_repository : (tools : List ToolConfigFile) (gathered : Gathered)
     → AreOthers (map tool_layer tools) (repository_layer gathered ∷ [])
 tools_repository [] gathered = tt
-tools_repository (tool ∷ tools) gathered =
-    ((λ kind is. (tool_not_repository kind (tool_name_text tool.tool) (repository_layer gathered) is
-    (repository_kind gathered), tt)), tools_repository tools gathered)
+tools_repository (tool ∷ tools) gathered = (
+  (λ kind is. (
+    tool_not_repository kind (tool_name_text tool.tool) (repository_layer gathered) is
+        (repository_kind gathered),
+    tt,
+  )),
+  tools_repository tools gathered,
+)
 
 organisation_repository : (o : Option FileInput) (gathered : Gathered)
     → AreOthers (organisation_layers o) (repository_layer gathered ∷ [])
@@ -206,9 +214,10 @@ read_apart gathered one =
     let front = apart_joined (map tool_layer tools) organisation (tools_apart tools (each_reversed gathered.tools.items one))
     (organisation_apart gathered.organisation_file) (tools_others tools gathered.organisation_file) in
     let across = all_joined (λ layer. IsApart layer (repository_layer gathered ∷ [])) (map tool_layer tools) organisation
-    (tools_repository tools gathered) (organisation_repository gathered.organisation_file gathered) in
-    ((λ kind is. none_brings kind ((map tool_layer tools ++ organisation) ++ repository_layer gathered ∷ []) is),
-    apart_joined (map tool_layer tools ++ organisation) (repository_layer gathered ∷ []) front ((λ kind is. tt), tt) across)
+    (tools_repository tools gathered) (organisation_repository gathered.organisation_file gathered) in (
+      (λ kind is. none_brings kind ((map tool_layer tools ++ organisation) ++ repository_layer gathered ∷ []) is),
+      apart_joined (map tool_layer tools ++ organisation) (repository_layer gathered ∷ []) front ((λ kind is. tt), tt) across,
+    )
 
 -- a file is one layer of a session
 pub one_layer : (request : Request) (gathered : Gathered) (session : Session) → IsSessionOf request gathered session

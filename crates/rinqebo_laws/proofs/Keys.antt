@@ -14,7 +14,7 @@ setting_at mode key = find (λ s. bytes_eq (key_text s mode) key) settings
 
 -- the setting at the key of a setting
 at_key : (s : Setting) (mode : NextestRunMode) → setting_at mode (key_text s mode) ≡ Some s
-unfolding settings, setting_name
+unfolding settings setting_name
 at_key at.Priority modes.Test = refl
 at_key at.ThreadsRequired modes.Test = refl
 at_key at.RunWrapper modes.Test = refl

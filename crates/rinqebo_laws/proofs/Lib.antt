@@ -8,4 +8,6 @@ pub mod Deciding
 pub mod Rows
 pub mod Why
 pub mod Runs
+pub mod Listed
 pub mod Agreement
+pub mod WhyAgreement

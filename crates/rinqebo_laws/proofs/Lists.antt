@@ -1,9 +1,9 @@
 -- Facts of lists, element by element.
 use Rattle.std.proofs.Common.{◌≡◌, ◌⊎◌, inl, inr, ◌∙◌, ℕ, zero, suc, ◌<◌, Bool, true, false, List, [], ◌∷◌, ◌++◌, map, Contains, slice_get, zip, Some, Less, nat_cmp, refl, sym, ap, subst, arith}
 use Rattle.std.proofs.lemmas.Bool.{cases_order}
+use Rattle.std.proofs.lemmas.Cmp.{ranked}
 use Rattle.std.proofs.lemmas.List.Elements.{All-from_recursion, All-contains, Contains-append_cases, Contains-append_left, Contains-append_right}
 use Rattle.std.proofs.lemmas.Option.{slice_get-get_or}
-use Rattle.std.specs.Cmp.{nat_cmp_is}
 use Rattle.std.specs.List.{AllByRecursion, AllZip}
 use Rattle.std.specs.List.Sorted.{IsStrictlySortedBy}
 use Rattle.std.specs.Ordering.{flip_args}
@@ -44,7 +44,7 @@ abbrev Above : ℕ → ℕ → Type 0
 Above n m = flip_args nat_cmp n m ≡ Less
 
 above_below : (n m : ℕ) → Above n m → m < n
-above_below n m is = omega (arith, nat_cmp_is m n)
+above_below n m is = ranked m n Less (sym is)
 
 -- an element that stands before all of a list is none of them
 not_above : (x : ℕ) (xs : List ℕ) → AllByRecursion (Above x) xs → Contains xs x → ⊥
@@ -63,8 +63,8 @@ other : (x y n : ℕ) (xs ys : List ℕ) → x ≡ y → AllByRecursion (Above x
     → ((m : ℕ) → Contains (x ∷ xs) m → Contains (y ∷ ys) m) → Contains xs n → Contains ys n
 other x y n xs ys same one into has =
     elim (first_or_other y n ys (into n (Contains-append_right (x ∷ []) xs n has))) [
-      inl e ↦ absurd (not_above x xs one (subst (Contains xs) (sym (same ∙ e)) has))
-    | inr h ↦ h
+      | inl e ↦ absurd (not_above x xs one (subst (Contains xs) (sym (same ∙ e)) has))
+      | inr h ↦ h
     ]
 
 -- descending lists with the same elements are the same
@@ -182,16 +182,16 @@ one_first P x y (z ∷ front) back (w ∷ before) after none is never has same =
 pub one_least : (f g : ℕ → Bool) → ((n : ℕ) → f n ≡ g n) → (a b : ℕ) → f a ≡ true
     → ((n : ℕ) → n < a → f n ≡ false) → g b ≡ true → ((n : ℕ) → n < b → g n ≡ false) → a ≡ b
 one_least f g same a b is lower has below = elim (cases_order a b) [
-      inl e ↦ e
-    | inr (inl e) ↦ let no = below a e in let yes = sym (same a) ∙ is in absurd cc
-    | inr (inr e) ↦ let no = lower b e in let yes = same b ∙ has in absurd cc
-    ]
+  | inl e ↦ e
+  | inr (inl e) ↦ let no = below a e in let yes = sym (same a) ∙ is in absurd cc
+  | inr (inr e) ↦ let no = lower b e in let yes = same b ∙ has in absurd cc
+]
 
 -- two numbers below a bound that pass, where none passes from them to the bound, are one
 pub one_greatest : (P : ℕ → Type 0) (bound a b : ℕ) → a < bound → b < bound → P a → P b
     → ((n : ℕ) → a < n → n < bound → P n → ⊥) → ((n : ℕ) → b < n → n < bound → P n → ⊥) → a ≡ b
 one_greatest P bound a b low high is has above over = elim (cases_order a b) [
-      inl e ↦ e
-    | inr (inl e) ↦ absurd (above b e high has)
-    | inr (inr e) ↦ absurd (over a e low is)
-    ]
+  | inl e ↦ e
+  | inr (inl e) ↦ absurd (above b e high has)
+  | inr (inr e) ↦ absurd (over a e low is)
+]

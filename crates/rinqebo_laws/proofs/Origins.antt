@@ -1,5 +1,5 @@
 -- What origins are those of determines what is shown of them.
-use Rattle.std.proofs.Common.{◌≡◌, ◌≢◌, ◌∙◌, ℕ, zero, suc, true, false, List, [], ◌∷◌, ◌++◌, Option, None, Some, map, option_and_then, slice_get, string_bytes, codes, refl, sym, ap, subst}
+use Rattle.std.proofs.Common.{◌≡◌, ◌∙◌, ℕ, zero, suc, false, List, [], ◌∷◌, ◌++◌, Option, None, Some, map, option_and_then, slice_get, string_bytes, codes, refl, sym, ap, subst}
 use Rattle.std.specs.List.{AllByRecursion, AllZip}
 use Rattle.nextest_documents.specs.Shown.{Path}
 use Rattle.nextest_grounds.specs.Grounds.{AreGrounds, ShowsLeafBelow, Writes, profile_path}
@@ -9,11 +9,11 @@ use Rattle.nextest_settings.specs.Queries.{Origin as Decider, unwritten, by_prof
 use Rattle.nextest_sources.specs.Sources.{Source}
 use Rattle.nextest_tables.specs.Written.{Name}
 use Rattle.nextest_tree.specs.Node.{Node}
-use Rattle.rinqebo_files.specs.Origins.{HasNoFile, IsFileAt, reported_file}
+use Rattle.rinqebo_files.specs.Origins.{HasNoFile, IsFileAt}
 use Rattle.rinqebo_files.specs.declared.layers.Layer.{Layer}
 use Rattle.rinqebo_laws.proofs.Lists.{all_contains, among, one_first, same_descending, seen_alike}
 use Rattle.rinqebo_laws.proofs.Places.{one_lines}
-use Rattle.rinqebo_laws.specs.Shown.{ShownOrigin, origin_shown, part_of, under_profile}
+use Rattle.rinqebo_laws.specs.Shown.{origin_shown, part_of, under_profile}
 use Rattle.rinqebo_report.specs.declared.origin.Origin.{Origin}
 use Rattle.rinqebo_report.specs.declared.origin.Origin.TheVariants as kinds
 use Rattle.rinqebo_report.specs.declared.origin.Part.{Part}
@@ -23,7 +23,7 @@ use Rattle.rinqebo_rules.specs.KnownOrigins.{AreOriginsAt}
 use Rattle.rinqebo_rules.specs.Origins.{IsOriginOf, IsWrittenAt, PathStep, key, key_steps, part_steps, profile_steps, step_view}
 use Rattle.rinqebo_rules.specs.ProfileOrigins.{AreProfileOrigins, AreWrittenOrigins, HasNoReport, IsBuiltIn, IsLayerOrigin, built_in, key_path, is_rule_key, no_key, no_leaf, no_profile, no_report, written}
 use Rattle.rinqebo_rules.specs.RulePlaces.{Place, id_place}
-use Rattle.rinqebo_rules.specs.TestOrigins.{AreOriginsBy, Basis, wrapping_places}
+use Rattle.rinqebo_rules.specs.TestOrigins.{AreOriginsBy, wrapping_places}
 use Rattle.rinqebo_rules.specs.Trees.{trees_of}
 
 -- a path in a profile has a step
@@ -103,24 +103,24 @@ module _ (layers : List Layer) where
     not_built_in : (xs : List Origin) → IsBuiltIn layers chain table name → is_rule_key table name ≡ false
         → (HasNoReport (trees_of layers) chain table → ⊥) → AreWrittenOrigins layers chain table name xs
         → (xs ≡ [] → ⊥) → ⊥
-    not_built_in xs (no_key is) key report are some = absurd cc
-    not_built_in xs (no_report is) key report are some = report is
-    not_built_in xs (no_profile none) key report are some =
-        let Unwritten : Name → Type 0 = λ name' . Writes (trees_of layers) (key_path table name) name' → ⊥ in
+    not_built_in xs (no_key is) no_rule report are some = absurd cc
+    not_built_in xs (no_report is) no_rule report are some = report is
+    not_built_in xs (no_profile none) no_rule report are some =
+        let Unwritten : Name → Type 0 = λ name'. Writes (trees_of layers) (key_path table name) name' → ⊥ in
         among (Writes (trees_of layers) (key_path table name)) are.profile are.nearer are.farther
         (subst (AllByRecursion Unwritten) are.splits none) are.writes
-    not_built_in xs (no_leaf empty) key report are some = some (none_shown xs (chain_shown [] xs empty are))
+    not_built_in xs (no_leaf empty) no_rule report are some = some (none_shown xs (chain_shown [] xs empty are))
 
     -- what comes of a chain is shown alike
     pub profile_shown : (xs ys : List Origin) → AreProfileOrigins layers chain table name xs
         → AreProfileOrigins layers chain table name ys → map origin_shown xs ≡ map origin_shown ys
     profile_shown xs ys (built_in none is) (built_in never same) = ap (map origin_shown) (is ∙ sym same)
-    profile_shown xs ys (built_in none is) (written key report are some) =
-        absurd (not_built_in ys none key report are some)
-    profile_shown xs ys (written key report are some) (built_in none is) =
-        absurd (not_built_in xs none key report are some)
-    profile_shown xs ys (written key report are some) (written other reported written some') =
-        chain_shown xs ys are written
+    profile_shown xs ys (built_in none is) (written no_rule report are some) =
+        absurd (not_built_in ys none no_rule report are some)
+    profile_shown xs ys (written no_rule report are some) (built_in none is) =
+        absurd (not_built_in xs none no_rule report are some)
+    profile_shown xs ys (written no_rule report are some) (written other reported are' some') =
+        chain_shown xs ys are are'
 
   -- where a file is one layer
   module _ (one_layer : (file : Source) (n m : ℕ) → IsFileAt layers file n → IsFileAt layers file m → n ≡ m) where

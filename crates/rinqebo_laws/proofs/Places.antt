@@ -1,5 +1,5 @@
 -- A path has one place in a text.
-use Rattle.std.proofs.Common.{◌≡◌, ◌⊎◌, inl, inr, ◌∙◌, ℕ, suc, ◌<◌, Bool, true, false, List, [], ◌∷◌, Option, None, Some, is_some, map, option_and_then, refl, sym, ap, subst}
+use Rattle.std.proofs.Common.{◌≡◌, inl, inr, ◌∙◌, ℕ, suc, ◌<◌, false, List, [], ◌∷◌, Option, None, Some, is_some, map, option_and_then, refl, sym, ap, subst}
 use Rattle.std.specs.Option.{option_map_or}
 use Rattle.nextest_documents.specs.Text.{tree_of}
 use Rattle.nextest_places.specs.Lines.{first_lines}

@@ -1,5 +1,5 @@
 -- Rows of one setting say the same.
-use Rattle.std.proofs.Common.{◌≡◌, ◌∙◌, ℕ, Bool, List, Option, None, Some, Contains, IfSome, codes, map, option_map, slice_get, string_bytes, refl, sym, ap, subst}
+use Rattle.std.proofs.Common.{◌≡◌, ◌∙◌, ℕ, Bool, List, Option, None, Contains, IfSome, codes, map, option_map, string_bytes, refl, sym, subst}
 use Rattle.std.specs.List.{AllZip}
 use Rattle.nextest_elements.specs.declared.run_mode.NextestRunMode.{NextestRunMode}
 use Rattle.nextest_rules.specs.Rules.{RuleId}
@@ -20,7 +20,7 @@ use Rattle.rinqebo_report.specs.declared.report.SettingRow.{SettingRow}
 use Rattle.rinqebo_request.specs.Keys.{key_name, key_table, key_text}
 use Rattle.rinqebo_rules.specs.AsWritten.{IsValueAsWritten, node_alone}
 use Rattle.rinqebo_rules.specs.Origins.{key_steps}
-use Rattle.rinqebo_rules.specs.Reported.{boolean, scalar, value_view}
+use Rattle.rinqebo_rules.specs.Reported.{value_view}
 use Rattle.rinqebo_rules.specs.RulePlaces.{Place}
 use Rattle.rinqebo_rules.specs.Runs.{IsRunsRow}
 use Rattle.rinqebo_rules.specs.Settings.{IsSettingReported}

@@ -1,5 +1,5 @@
 -- The rules of why a test runs agree with the row of whether it does.
-use Rattle.std.proofs.Common.{◌≡◌, ◌≢◌, ◌⊎◌, inl, inr, ◌∙◌, ◌&&◌, ◌||◌, not, ℕ, zero, suc, Bool, true, false, cond, List, [], ◌∷◌, ◌++◌, Option, None, Some, codes, filter, find, map, option_map, slice_get, zip, refl, sym, ap, subst}
+use Rattle.std.proofs.Common.{◌≡◌, ◌≢◌, inl, inr, ◌∙◌, ◌&&◌, ◌||◌, not, ℕ, zero, suc, Bool, true, false, cond, List, [], ◌∷◌, ◌++◌, Option, None, Some, codes, filter, find, map, option_map, slice_get, zip, refl, sym, ap, subst}
 use Rattle.std.specs.List.{AllByRecursion, AllZip, list_any}
 use Rattle.nextest_engines.specs.declared.queries.BuildPlatform.TheVariants.{Target}
 use Rattle.nextest_engines.specs.declared.queries.BuildPlatforms.{BuildPlatforms}
@@ -12,7 +12,7 @@ use Rattle.rinqebo_files.specs.Origins.{IsFileAt}
 use Rattle.rinqebo_files.specs.declared.layers.Layer.{Layer}
 use Rattle.rinqebo_laws.proofs.Lists.{left_of, pair_at}
 use Rattle.rinqebo_laws.proofs.Origins.{rule_part}
-use Rattle.rinqebo_laws.proofs.Why.{alone, all_before, before_or_last, decides_told, not_fallback}
+use Rattle.rinqebo_laws.proofs.Why.{alone, before_or_last, decides_told, not_fallback}
 use Rattle.rinqebo_laws.specs.Reasons.{DecidesAt, HaveOneResult, NoneDecides}
 use Rattle.rinqebo_laws.specs.Runs.{IsByFilter, SaysByRule}
 use Rattle.rinqebo_report.specs.declared.report.Rule.{Rule}
@@ -23,10 +23,9 @@ use Rattle.rinqebo_rules.specs.FilterRules.{FilterRule, filter_facts, filter_rul
 use Rattle.rinqebo_rules.specs.KnownOrigins.{AreOriginsAt}
 use Rattle.rinqebo_rules.specs.Origins.{IsOriginOf, key_steps}
 use Rattle.rinqebo_rules.specs.ProfileOrigins.{AreProfileOrigins}
-use Rattle.rinqebo_rules.specs.Reported.{boolean, scalar, value_view}
+use Rattle.rinqebo_rules.specs.Reported.{value_view}
 use Rattle.rinqebo_rules.specs.RulePlaces.{Place, id_place}
 use Rattle.rinqebo_rules.specs.Runs.{IsRunsRow, filtering_id, runs_if}
-use Rattle.rinqebo_rules.specs.TestOrigins.{Basis}
 use Rattle.rinqebo_rules.specs.VerdictsBy.{decides_by, verdict_by, verdicts_by}
 use Rattle.rinqebo_rules.specs.declared.verdict.RuleFacts.{RuleFacts}
 use Rattle.rinqebo_rules.specs.declared.verdict.RuleVerdict.{RuleVerdict}
@@ -41,11 +40,11 @@ never_after [] n is = absurd cc
 never_after (f ∷ facts) zero is =
     let verdict : verdict_by f.is_on f.holds f.writes true ≡ Decides = cc in
     by_parts f.is_on f.holds f.writes verdict where
-  by_parts : (a b c : Bool) → verdict_by a b c true ≡ Decides → ⊥
-  by_parts false b c e = absurd cc
-  by_parts true false c e = absurd cc
-  by_parts true true false e = absurd cc
-  by_parts true true true e = absurd cc
+      by_parts : (a b c : Bool) → verdict_by a b c true ≡ Decides → ⊥
+      by_parts false b c e = absurd cc
+      by_parts true false c e = absurd cc
+      by_parts true true false e = absurd cc
+      by_parts true true true e = absurd cc
 never_after (f ∷ facts) (suc n) is = never_after facts n is
 
 then_decided : (a b c d : Bool) → verdict_by a b c d ≡ Decides → (d || (b && c)) ≡ true
@@ -75,15 +74,31 @@ one_by_facts (f ∷ facts) d (suc n) (suc m) one other = ap suc (one_by_facts fa
 -- ---- none decides
 
 undecided : (v : RuleVerdict) → (page_verdict v ≡ told.Decides → ⊥) → is_decision v ≡ false
-undecided PlatformNo no = refl
-undecided FilterNo no = refl
-undecided SetsNothing no = refl
-undecided DecidedBefore no = refl
-undecided Decides no = absurd (no refl)
+undecided PlatformNo never = refl
+undecided FilterNo never = refl
+undecided SetsNothing never = refl
+undecided DecidedBefore never = refl
+undecided Decides never = absurd (never refl)
 
 neither : (a b : Bool) → a ≡ false → b ≡ false → (a || b) ≡ false
 neither true b one other = absurd cc
 neither false b one other = other
+
+by_holds : (holds : Bool) (rule : FilterRule) (rules : List FilterRule) → rule.facts ≡ filter_facts holds
+    → list_any is_decision (verdicts_by false (map (λ rule. rule.facts) (rule ∷ rules))) ≡ false
+    → (list_any is_decision (verdicts_by false (map (λ rule. rule.facts) rules)) ≡ false → find (λ rule. decides_by rule.facts) rules ≡ None)
+    → find (λ rule. decides_by rule.facts) (rule ∷ rules) ≡ None
+by_holds true rule rules is none rest =
+    let all : (is_decision (verdict_by true true true false)
+    || list_any is_decision (verdicts_by true (map (λ rule. rule.facts) rules))) ≡ false =
+    subst (λ (f : RuleFacts). (is_decision (verdict_by f.is_on f.holds f.writes false)
+    || list_any is_decision (verdicts_by (false || decides_by f) (map (λ rule. rule.facts) rules))) ≡ false) is none in
+    absurd cc
+by_holds false rule rules is none rest =
+    let all : list_any is_decision (verdicts_by false (map (λ rule. rule.facts) rules)) ≡ false =
+    subst (λ (f : RuleFacts). (is_decision (verdict_by f.is_on f.holds f.writes false)
+    || list_any is_decision (verdicts_by (false || decides_by f) (map (λ rule. rule.facts) rules))) ≡ false) is none in
+    ap (λ (f : RuleFacts). cond (decides_by f) (Some rule) (find (λ rule. decides_by rule.facts) rules)) is ∙ rest all
 
 module _ {M K P : Type 0} (meets : K → P → Option Bool) (platforms : BuildPlatforms P) where
   abbrev found : List (Compiled M K (OverrideUse M)) → List FilterRule
@@ -91,22 +106,6 @@ module _ {M K P : Type 0} (meets : K → P → Option Bool) (platforms : BuildPl
 
   abbrev said : List (Compiled M K (OverrideUse M)) → List RuleVerdict
   said rules = verdicts_by false (map (λ rule. rule.facts) (found rules))
-
-  by_holds : (holds : Bool) (rule : FilterRule) (rules : List FilterRule) → rule.facts ≡ filter_facts holds
-      → list_any is_decision (verdicts_by false (map (λ rule. rule.facts) (rule ∷ rules))) ≡ false
-      → (list_any is_decision (verdicts_by false (map (λ rule. rule.facts) rules)) ≡ false → find (λ rule. decides_by rule.facts) rules ≡ None)
-      → find (λ rule. decides_by rule.facts) (rule ∷ rules) ≡ None
-  by_holds true rule rules is none rest =
-      let all : (is_decision (verdict_by true true true false)
-      || list_any is_decision (verdicts_by true (map (λ rule. rule.facts) rules))) ≡ false =
-      subst (λ (f : RuleFacts). (is_decision (verdict_by f.is_on f.holds f.writes false)
-      || list_any is_decision (verdicts_by (false || decides_by f) (map (λ rule. rule.facts) rules))) ≡ false) is none in
-      absurd cc
-  by_holds false rule rules is none rest =
-      let all : list_any is_decision (verdicts_by false (map (λ rule. rule.facts) rules)) ≡ false =
-      subst (λ (f : RuleFacts). (is_decision (verdict_by f.is_on f.holds f.writes false)
-      || list_any is_decision (verdicts_by (false || decides_by f) (map (λ rule. rule.facts) rules))) ≡ false) is none in
-      ap (λ (f : RuleFacts). cond (decides_by f) (Some rule) (find (λ rule. decides_by rule.facts) rules)) is ∙ rest all
 
   none_found : (rules : List (Compiled M K (OverrideUse M))) → list_any is_decision (said rules) ≡ false
       → find (λ rule. decides_by rule.facts) (found rules) ≡ None
@@ -202,7 +201,7 @@ module _ {M K P : Type 0} (layers : List Layer) (meets : K → P → Option Bool
         (codes "default-filter") row.origins.items =
         subst (λ place. AreOriginsAt (record { layers = layers; chain = chain }) place None (codes "default-filter")
         row.origins.items) counts is.origins_reported in
-        let single = alone _ it.written.place row.origins.items here in
+        let single = alone (λ place. IsOriginOf layers place steps) it.written.place row.origins.items here in
         let verdict : it.verdict ≡ Decides = decides_told it.verdict (sym it.is.verdict_reported ∙ decides) in
         record {
           says = record {
@@ -244,9 +243,9 @@ module _ {M K P : Type 0} (layers : List Layer) (meets : K → P → Option Bool
     decides_before : (n : ℕ) → DecidesAt (front ++ fallback ∷ []) n
         → slice_get (filter_verdicts filters) n ≡ Some Decides
     decides_before n it = elim (before_or_last front fallback it.0 n it.1) [
-          inl there ↦ decides_there n it.0 there it.2
-        | inr same ↦ absurd (last_decides it.0 same it.2)
-        ]
+      | inl there ↦ decides_there n it.0 there it.2
+      | inr same ↦ absurd (last_decides it.0 same it.2)
+    ]
 
     pub one_filter : (rules : List Rule) → rules ≡ front ++ fallback ∷ [] → HaveOneResult rules
     one_filter rules are = record {

@@ -1,5 +1,5 @@
 -- The rules of a setting agree with the row that is reported of it.
-use Rattle.std.proofs.Common.{◌≡◌, ◌≢◌, ◌⊎◌, inl, inr, ◌∙◌, ℕ, zero, suc, Bool, true, List, [], ◌∷◌, ◌++◌, Contains, Option, None, Some, IfSome, is_some, map, option_map, slice_get, zip, refl, sym, ap, subst}
+use Rattle.std.proofs.Common.{◌≡◌, ◌≢◌, ◌⊎◌, inl, inr, ◌∙◌, ℕ, zero, suc, Bool, true, List, [], ◌∷◌, ◌++◌, Option, None, Some, IfSome, is_some, map, option_map, slice_get, zip, refl, sym, ap, subst}
 use Rattle.std.proofs.lemmas.Option.{slice_get-map}
 use Rattle.std.specs.List.{AllByRecursion, AllZip}
 use Rattle.nextest_elements.specs.declared.run_mode.NextestRunMode.{NextestRunMode}
@@ -14,23 +14,22 @@ use Rattle.nextest_sources.specs.Sources.{Source}
 use Rattle.nextest_tables.specs.Written.{Name, WrittenFields}
 use Rattle.rinqebo_files.specs.Origins.{IsFileAt}
 use Rattle.rinqebo_files.specs.declared.layers.Layer.{Layer}
-use Rattle.rinqebo_laws.proofs.Deciding.{about, any_wrapping, given, has_fallback, has_rule, mapped_back, one_decides, rule_with, some_mapped, source, verdicts, wrapping}
+use Rattle.rinqebo_laws.proofs.Deciding.{about, any_wrapping, given, has_fallback, has_rule, mapped_back, not_ruled, one_decides, rule_with, some_mapped, source, verdicts, wrapping}
 use Rattle.rinqebo_laws.proofs.Lists.{all_contains, contains_at, left_of, pair_at, pair_from, right_of}
 use Rattle.rinqebo_laws.proofs.Origins.{rule_part}
 use Rattle.rinqebo_laws.proofs.Texts.{same_node, texts_alike}
 use Rattle.rinqebo_laws.specs.Reasons.{DecidesAt, HaveOneResult, IsByRule, NoneDecides}
-use Rattle.rinqebo_report.specs.declared.origin.Origin.{Origin}
 use Rattle.rinqebo_report.specs.declared.report.Rule.{Rule}
 use Rattle.rinqebo_report.specs.declared.report.SettingRow.{SettingRow}
 use Rattle.rinqebo_report.specs.declared.report.Verdict.TheVariants as told
 use Rattle.rinqebo_request.specs.Keys.{key_name, key_table}
 use Rattle.rinqebo_rules.specs.AsWritten.{IsValueAsWritten, node_alone, origin_node}
-use Rattle.rinqebo_rules.specs.Origins.{key_steps}
+use Rattle.rinqebo_rules.specs.Origins.{IsOriginOf, key_steps}
 use Rattle.rinqebo_rules.specs.Reported.{reported_of, value_view}
 use Rattle.rinqebo_rules.specs.RuleAnswers.{answers_by}
 use Rattle.rinqebo_rules.specs.SettingRules.{RuleFor, writes_it}
-use Rattle.rinqebo_rules.specs.Settings.{IsSettingReported}
-use Rattle.rinqebo_rules.specs.TestOrigins.{AreOriginsBy, Basis}
+use Rattle.rinqebo_rules.specs.Settings.{IsSettingReported, is_by_rule}
+use Rattle.rinqebo_rules.specs.TestOrigins.{AreOriginsBy}
 use Rattle.rinqebo_rules.specs.Verdicts.{verdicts_of}
 use Rattle.rinqebo_rules.specs.declared.verdict.RuleVerdict.{RuleVerdict}
 use Rattle.rinqebo_rules.specs.declared.verdict.RuleVerdict.TheVariants.{PlatformNo, FilterNo, SetsNothing, DecidedBefore, Decides}
@@ -139,9 +138,9 @@ module _ {M K P : Type 0} (layers : List Layer) (meets : K → P → Option Bool
 
     decides_before : (n : ℕ) → DecidesAt (front ++ fallback ∷ []) n → slice_get given_verdicts n ≡ Some Decides
     decides_before n it = elim (before_or_last front fallback it.0 n it.1) [
-          inl there ↦ decides_at n it.0 there it.2
-        | inr same ↦ absurd (not_last it.0 same it.2)
-        ]
+      | inl there ↦ decides_at n it.0 there it.2
+      | inr same ↦ absurd (not_last it.0 same it.2)
+    ]
 
     pub one_result : (all_rules : List Rule) → all_rules ≡ front ++ fallback ∷ [] → HaveOneResult all_rules
     one_result all_rules are = record {
@@ -154,6 +153,32 @@ module _ {M K P : Type 0} (layers : List Layer) (meets : K → P → Option Bool
       is_fallback = is_fallback;
       no_other = no_fallbacks (zip rules given_verdicts) front all;
     }
+
+-- ---- what decides a setting
+
+module _ {M K P : Type 0} (layers : List Layer) (meets : K → P → Option Bool) (platforms : BuildPlatforms P)
+    (query : QueryContext M) (mode : NextestRunMode) (overrides : List (Compiled M K (OverrideUse M)))
+    (scripts : List (Compiled M K ScriptRuleUse)) (fields : List WrittenFields) (s : Setting) (front : List Rule)
+    (all : AreRulesReported layers meets platforms query (about meets platforms query mode overrides scripts fields s)
+    front) where
+  -- a rule decides it
+  pub rule_of : (n : ℕ) (rule : Rule) → slice_get front n ≡ Some rule → rule.verdict ≡ told.Decides
+      → is_by_rule (source meets platforms query mode overrides scripts fields s) ≡ true
+  rule_of n rule there decides =
+      let about_it = about meets platforms query mode overrides scripts fields s in
+      let it = rule_at layers meets platforms query about_it front all n rule there in
+      (has_rule meets platforms query mode overrides scripts fields s n it.written it.there
+      (decides_at layers meets platforms query about_it front all n rule there decides)).ruled
+
+  -- no rule does
+  pub no_rule_of : NoneDecides front
+      → is_by_rule (source meets platforms query mode overrides scripts fields s) ≡ true → ⊥
+  no_rule_of none ruled =
+      let never = none_given layers meets platforms query (about meets platforms query mode overrides scripts fields s)
+      front all none in
+      let both = has_fallback meets platforms query mode overrides scripts fields s never in
+      let no = ap is_by_rule both.1 ∙ not_ruled s in
+      absurd cc
 
 -- ---- the row of a setting
 
@@ -179,7 +204,7 @@ module _ {M K P : Type 0} (layers : List Layer)
       let has = has_rule meets platforms query mode overrides scripts fields s n it.written it.there
       (decides_at layers meets platforms query (about meets platforms query mode overrides scripts fields s) front all n
       rule there decides) in
-      let found = alone _ it.written.writes.place row.origins.items
+      let found = alone (λ place. IsOriginOf layers place steps) it.written.writes.place row.origins.items
       (has.origins (record { layers = layers; chain = chain }) (key_table s mode) (key_name s) row.origins.items
       is.origins_reported) in
       let part = rule_part layers one_layer it.written.writes.place steps [] found.0 rule.origin found.2 it.is.origin in

@@ -1,5 +1,5 @@
 -- Rules of a setting that agree with the value that is reported of it.
-use Rattle.std.specs.Prelude.{◌≡◌, ◌≢◌, ℕ, List, [], ◌∷◌, ◌++◌, Contains, IsSome, None, Some, option_map, slice_get}
+use Rattle.std.specs.Prelude.{◌≡◌, ◌≢◌, ◌↔◌, ℕ, List, [], ◌∷◌, ◌++◌, Contains, IsSome, None, Some, option_map, slice_get, string_bytes}
 use Rattle.std.specs.List.{AllByRecursion}
 use Rattle.nextest_elements.specs.declared.run_mode.NextestRunMode.{NextestRunMode}
 use Rattle.nextest_inheritance.specs.Parents.{parents_in}
@@ -39,6 +39,16 @@ pub record HaveOneResult (rules : List Rule) : Type 0 where
   pub are : rules ≡ front ++ fallback ∷ []
   pub is_fallback : fallback.verdict ≡ verdicts.Fallback
   pub no_other : AllByRecursion (λ rule. rule.verdict ≢ verdicts.Fallback) front
+
+-- Rows have one with a key.
+pub record HaveKey (rows : List SettingRow) (key : List ℕ) : Type 0 where
+  pub row : SettingRow
+  pub is_row : Contains rows row
+  pub has_key : string_bytes row.key ≡ key
+
+-- Rows have one with a key exactly where some rule decides.
+abbrev pub HaveKeyIfDecided : List Rule → List SettingRow → List ℕ → Type 0
+HaveKeyIfDecided rules rows key = HaveKey rows key ↔ ((n : ℕ) × DecidesAt rules n)
 
 -- An origin is that of what is at some steps from a rule, which has an origin itself: both are in
 -- the same part of a profile, in the same source.

@@ -5,7 +5,7 @@ ghost use Rattle.nextest_lists.specs.Lists.{list_tests};
 ghost use Rattle.nextest_settings.specs.declared.setting.Setting.{Setting};
 ghost use Rattle.nextest_tables.specs.Written.{Name};
 ghost use Rattle.rinqebo_files.specs.declared.files.Gathered.{Gathered};
-ghost use Rattle.rinqebo_laws.specs.Reasons.{AgreesWithRules, HaveOneResult};
+ghost use Rattle.rinqebo_laws.specs.Reasons.{AgreesWithRules, HaveKeyIfDecided, HaveOneResult};
 ghost use Rattle.rinqebo_laws.specs.Runs.{AgreesWithFilters};
 ghost use Rattle.rinqebo_laws.specs.Rows.{AgreeOnTest, ListsTest, SaySameOfTest};
 ghost use Rattle.rinqebo_load.specs.FoundTests.{found_view};
@@ -24,7 +24,8 @@ ghost use Rattle.rinqebo_run.specs.RunsReasons.{IfWhyRuns, ReportsRunsReasons};
 /// What `explain --why` and `explain` report of a setting of a test agree, in one session, profile
 /// and mode. At most one rule decides. Where one does, the value is what that rule writes, and it
 /// comes from the place of the key in that rule. Where none does, the value is that of the fallback,
-/// and it comes from where the chain of profiles has it.
+/// and it comes from where the chain of profiles has it. Where no keys are requested, `explain`
+/// reports the setting exactly where some rule decides.
 pub fn law_why_agrees()
     ensures one { (session : Session) (profile : Name) (test : FoundTest) (s : Setting)
         (why : Report) → ReportsReasons session profile test s why
@@ -38,13 +39,18 @@ pub fn law_why_agrees()
         (λ told. (row : SettingRow) → Contains told.settings.items row
         → string_bytes row.key ≡ key
         → AgreesWithRules session profile s test.mode rules row)) }
+    ensures listed { (session : Session) (profile : Name) (test : FoundTest) (s : Setting)
+        (why explained : Report) → ReportsReasons session profile test s why
+        → Explains session profile test RequestedSettings.Decided explained
+        → IfWhy why.content (λ named key rules. IfExplained explained.content
+        (λ told. HaveKeyIfDecided rules told.settings.items key)) }
 {}
 
 /// What `explain --why runs` and `explain` report of whether a test runs agree, in one session,
-/// profile and mode. At most one override decides. Where one does, its default filter matches the
-/// test exactly where the test runs or a list says that it is ignored, and whether it runs comes
-/// from the place of that filter. Where none does, the same is so of the filter of the chain of
-/// profiles.
+/// profile and mode. At most one override decides. Where one does, the test runs exactly where the
+/// default filter of this override matches it and no list says that it is ignored, and that comes
+/// from the place of the filter. Where none does, the same is so of the default filter of the chain
+/// of profiles.
 pub fn law_why_runs_agrees()
     ensures one { (session : Session) (profile : Name) (test : FoundTest) (why : Report)
         → ReportsRunsReasons session profile test why

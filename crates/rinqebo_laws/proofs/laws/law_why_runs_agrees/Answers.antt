@@ -1,4 +1,4 @@
-use Rattle.rinqebo_laws.proofs.Agreement.{why_runs_agrees, why_runs_once}
+use Rattle.rinqebo_laws.proofs.WhyAgreement.{why_runs_agrees, why_runs_once}
 use Rattle.rinqebo_laws.proofs.laws.law_why_runs_agrees.Goals as goal
 
 pub returns : goal.returns
