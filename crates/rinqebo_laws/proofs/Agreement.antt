@@ -1,5 +1,5 @@
 -- What commands report of a test of one session agrees.
-use Rattle.std.proofs.Common.{◌≡◌, ◌∙◌, ℕ, Bool, List, Option, Some, slice_get, sym, ap, subst}
+use Rattle.std.proofs.Common.{◌≡◌, zero, ◌∷◌, [], ◌∙◌, ℕ, Bool, List, Option, Some, slice_get, sym, ap, subst}
 use Rattle.nextest_elements.specs.declared.run_mode.NextestRunMode.{NextestRunMode}
 use Rattle.nextest_engines.specs.Engines.{Test}
 use Rattle.nextest_engines.specs.declared.queries.BuildPlatforms.{BuildPlatforms}
@@ -19,14 +19,17 @@ use Rattle.platform_table.specs.declared.Platform.{Platform}
 use Rattle.rinqebo_files.specs.Origins.{IsFileAt}
 use Rattle.rinqebo_files.specs.declared.files.Gathered.{Gathered}
 use Rattle.rinqebo_laws.proofs.Files.{one_layer}
+use Rattle.rinqebo_laws.proofs.Listed.{from_kept}
 use Rattle.rinqebo_laws.proofs.Lists.{right_of}
 use Rattle.rinqebo_laws.proofs.Rows.{all_say_same, keyed_say_same, runs_say_same}
-use Rattle.rinqebo_laws.specs.Rows.{AgreeOnTest, ListsTest, SaySameOfTest}
-use Rattle.rinqebo_load.specs.FoundTests.{found_view}
+use Rattle.rinqebo_laws.specs.Rows.{AgreeOnTest, AreOneTest, ListsTest, SaySameOfTest}
+use Rattle.rinqebo_load.specs.FindTests.{IsFoundFor, IsTestBy, named_in, source_of}
+use Rattle.rinqebo_load.specs.FoundTests.{found_view, is_named}
 use Rattle.rinqebo_load.specs.Meant.{config_meant}
 use Rattle.rinqebo_load.specs.SessionOf.{IsSessionOf}
 use Rattle.rinqebo_load.specs.Sessions.{readings}
 use Rattle.rinqebo_load.specs.declared.found_test.FoundTest.{FoundTest}
+use Rattle.rinqebo_load.specs.declared.found_test.TestSource.TheVariants as sources
 use Rattle.rinqebo_load.specs.declared.session.Session.{Session}
 use Rattle.rinqebo_report.specs.declared.exact_value.ExactValue.{ExactValue}
 use Rattle.rinqebo_report.specs.declared.origin.Origin.{Origin}
@@ -37,6 +40,7 @@ use Rattle.rinqebo_report.specs.declared.report.Report.{Report}
 use Rattle.rinqebo_report.specs.declared.report.TestRows.{TestRows}
 use Rattle.rinqebo_request.specs.declared.request.Request.{Request}
 use Rattle.rinqebo_request.specs.declared.request.RequestedSettings.{RequestedSettings}
+use Rattle.rinqebo_request.specs.declared.request.RequestedTest.{RequestedTest}
 use Rattle.rinqebo_rules.specs.Rows.{IsTestReported}
 use Rattle.rinqebo_rules.specs.Runs.{filtering_place, is_selected, runs_if}
 use Rattle.rinqebo_rules.specs.Settings.{reported_settings}
@@ -231,3 +235,28 @@ list_same request gathered session profile test asked listed explained n is list
       holds = reports_same session profile (one_layer request gathered session is explains.acceptance) both.scripts
           both.others both.chain both.names (found_view test) test.mode asked rows both.listed both.is both.are;
     })
+
+-- a test that is found in a list is one of it
+pub found_in_list : (session : Session) (requested : RequestedTest) (found : FoundTest)
+    → IsFoundFor session requested found → found.source ≡ sources.List
+    → (n : ℕ) × (slice_get (list_tests (list_view session.tests)) n ≡ Some (found_view found))
+found_in_list session requested found is in_list =
+    let source : source_of session requested ≡ sources.List = sym is.source ∙ in_list in
+    let one : named_in session requested ≡ found_view found ∷ [] =
+    subst (λ source. IsTestBy source session requested (found_view found)) source is.test in
+    from_kept (is_named requested.binary requested.name.now) (list_tests (list_view session.tests)) zero (found_view found)
+    (ap (λ ts. slice_get ts zero) one)
+
+-- and each time the same one
+pub found_twice : (session : Session) (requested : RequestedTest) (found other : FoundTest)
+    → IsFoundFor session requested found → IsFoundFor session requested other → found.source ≡ sources.List
+    → AreOneTest found other
+found_twice session requested found other is are in_list =
+    let source : source_of session requested ≡ sources.List = sym is.source ∙ in_list in
+    let one : named_in session requested ≡ found_view found ∷ [] =
+    subst (λ source. IsTestBy source session requested (found_view found)) source is.test in
+    let two : named_in session requested ≡ found_view other ∷ [] =
+    subst (λ source. IsTestBy source session requested (found_view other)) source are.test in
+    let both : found_view found ∷ [] ≡ found_view other ∷ [] = sym one ∙ two in
+    let view : found_view found ≡ found_view other = cc in
+    record { test = view; mode = is.mode ∙ sym are.mode }

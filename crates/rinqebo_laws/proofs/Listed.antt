@@ -66,6 +66,20 @@ kept_passes p [] n x is = absurd cc
 kept_passes p (y ∷ xs) n x is =
     passes_first p y x (filter p xs) (p y) n refl is (λ m there. kept_passes p xs m x there)
 
+from_head : {X : Type 0} (y x : X) (xs others : List X) (b : Bool) (m : ℕ)
+    → slice_get (cond b (y ∷ others) others) m ≡ Some x
+    → ((k : ℕ) → slice_get others k ≡ Some x → (n : ℕ) × (slice_get xs n ≡ Some x))
+    → (n : ℕ) × (slice_get (y ∷ xs) n ≡ Some x)
+from_head y x xs others true zero is rest = (zero, is)
+from_head y x xs others true (suc m) is rest = let later = rest m is in (suc later.0, later.1)
+from_head y x xs others false m is rest = let later = rest m is in (suc later.0, later.1)
+
+-- what is kept of a list is in it
+pub from_kept : {X : Type 0} (p : X → Bool) (xs : List X) (m : ℕ) (x : X) → slice_get (filter p xs) m ≡ Some x
+    → (n : ℕ) × (slice_get xs n ≡ Some x)
+from_kept p [] m x is = absurd cc
+from_kept p (y ∷ xs) m x is = from_head y x xs (filter p xs) (p y) m is (λ k there. from_kept p xs k x there)
+
 -- each setting is one of all
 setting_there : (s : Setting) → slice_get settings (index_of s) ≡ Some s
 unfolding settings

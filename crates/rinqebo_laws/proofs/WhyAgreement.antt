@@ -19,6 +19,7 @@ use Rattle.rinqebo_laws.proofs.Rows.{row_of}
 use Rattle.rinqebo_laws.proofs.Runs.{by_chain, by_filter, chain_origins, no_fallback_there, one_filter}
 use Rattle.rinqebo_laws.proofs.Why.{all_before, before_or_last, by_fallback, by_rule, fallback_origins, never_fallback, no_rule_of, one_result, rule_of}
 use Rattle.rinqebo_laws.specs.Reasons.{AgreesWithRules, HaveKeyIfDecided, HaveOneResult, NoneDecides}
+use Rattle.rinqebo_laws.specs.Rows.{AreOneTest}
 use Rattle.rinqebo_laws.specs.Runs.{AgreesWithFilters, SaysByRule}
 use Rattle.rinqebo_load.specs.FoundTests.{found_view}
 use Rattle.rinqebo_load.specs.SessionOf.{IsSessionOf}
@@ -67,6 +68,17 @@ if_why_runs (contents.Explain asked test) P Q turn is = absurd is
 if_why_runs (contents.List asked tests unused scripts objects) P Q turn is = absurd is
 if_why_runs (contents.ShowConfig asked entries) P Q turn is = absurd is
 if_why_runs contents.Check P Q turn is = absurd is
+
+-- ---- one test that is found twice
+
+-- a report of a test that is found is one of the same test
+reported_of_one : (session : Session) (profile : Name) (scripts : ScriptTables) (chain names : List Name)
+    (test other : FoundTest) (asked : RequestedSettings) (rows : TestRows) → AreOneTest test other
+    → Reports session profile scripts chain names (found_view other) other.mode asked rows
+    → Reports session profile scripts chain names (found_view test) test.mode asked rows
+reported_of_one session profile scripts chain names test other asked rows same reports =
+    subst (λ mode. Reports session profile scripts chain names (found_view test) mode asked rows) (sym same.mode)
+    (subst (λ t. Reports session profile scripts chain names t other.mode asked rows) (sym same.test) reports)
 
 -- ---- rules
 
@@ -145,12 +157,12 @@ module _ (session : Session) (profile : Name)
         };
       }
 
-pub why_agrees : (request : Request) (gathered : Gathered) (session : Session) (profile : Name) (test : FoundTest)
+pub why_agrees : (request : Request) (gathered : Gathered) (session : Session) (profile : Name) (test other : FoundTest)
     (s : Setting) (asked : RequestedSettings) (why explained : Report) → IsSessionOf request gathered session
-    → ReportsReasons session profile test s why → Explains session profile test asked explained
+    → AreOneTest test other → ReportsReasons session profile test s why → Explains session profile other asked explained
     → IfWhy why.content (λ named key rules. IfExplained explained.content (λ told. (row : SettingRow)
     → Contains told.settings.items row → string_bytes row.key ≡ key → AgreesWithRules session profile s test.mode rules row))
-why_agrees request gathered session profile test s asked why explained is reasons explains =
+why_agrees request gathered session profile test other s asked why explained is one_test reasons explains =
     if_why why.content _ _ (λ named key rules has.
     if_explained explained.content _ _ (λ told reports row in_rows same.
     (let chain = has.2.is_profile.chain in
@@ -158,8 +170,9 @@ why_agrees request gathered session profile test s asked why explained is reason
     explains.scripts chain reports.chain rules told row reports.is_chain
     (subst (λ p. AreReasons session.layers.items (meets session profile) (matches session profile)
     (platforms session profile) test s p rules) has.2.is_profile.is_profile has.2.reasons)
-    (explained_by session profile explains.scripts chain reports.chain test asked told has.2.is_profile.is_chain
-    reports.is_chain reports) key has.1 in_rows same)) explains.told) reasons.told
+    (reported_of_one session profile explains.scripts chain reports.chain test other asked told one_test
+    (explained_by session profile explains.scripts chain reports.chain other asked told has.2.is_profile.is_chain
+    reports.is_chain reports)) key has.1 in_rows same)) explains.told) reasons.told
 
 -- ---- settings that are listed
 
@@ -204,19 +217,21 @@ module _ (session : Session) (profile : Name) (test : FoundTest) (s : Setting) (
             ])),
       )
 
-pub why_listed : (session : Session) (profile : Name) (test : FoundTest) (s : Setting) (why explained : Report)
-    → ReportsReasons session profile test s why → Explains session profile test requests.Decided explained
+pub why_listed : (session : Session) (profile : Name) (test other : FoundTest) (s : Setting) (why explained : Report)
+    → AreOneTest test other → ReportsReasons session profile test s why
+    → Explains session profile other requests.Decided explained
     → IfWhy why.content (λ named key rules. IfExplained explained.content
     (λ told. HaveKeyIfDecided rules told.settings.items key))
-why_listed session profile test s why explained reasons explains =
+why_listed session profile test other s why explained one_test reasons explains =
     if_why why.content _ _ (λ named key rules has.
     if_explained explained.content _ _ (λ told reports.
     (let chain = has.2.is_profile.chain in
     listed_if_decided session profile test s reasons.scripts explains.scripts chain reports.chain rules told
     (subst (λ p. AreReasons session.layers.items (meets session profile) (matches session profile)
     (platforms session profile) test s p rules) has.2.is_profile.is_profile has.2.reasons)
-    (explained_by session profile explains.scripts chain reports.chain test requests.Decided told
-    has.2.is_profile.is_chain reports.is_chain reports) key has.1)) explains.told) reasons.told
+    (reported_of_one session profile explains.scripts chain reports.chain test other requests.Decided told one_test
+    (explained_by session profile explains.scripts chain reports.chain other requests.Decided told
+    has.2.is_profile.is_chain reports.is_chain reports)) key has.1)) explains.told) reasons.told
 
 -- ---- whether a test runs
 
@@ -279,12 +294,13 @@ module _ (session : Session) (profile : Name)
         };
       }
 
-pub why_runs_agrees : (request : Request) (gathered : Gathered) (session : Session) (profile : Name) (test : FoundTest)
-    (asked : RequestedSettings) (why explained : Report) → IsSessionOf request gathered session
-    → ReportsRunsReasons session profile test why → Explains session profile test asked explained
+pub why_runs_agrees : (request : Request) (gathered : Gathered) (session : Session) (profile : Name)
+    (test other : FoundTest) (asked : RequestedSettings) (why explained : Report) → IsSessionOf request gathered session
+    → AreOneTest test other → ReportsRunsReasons session profile test why
+    → Explains session profile other asked explained
     → IfWhyRuns why.content (λ named key rules ignored. IfExplained explained.content
     (λ told. AgreesWithFilters session profile ignored rules told.runs))
-why_runs_agrees request gathered session profile test asked why explained is reasons explains =
+why_runs_agrees request gathered session profile test other asked why explained is one_test reasons explains =
     if_why_runs why.content _ _ (λ named key rules ignored has.
     if_explained explained.content _ _ (λ told reports.
     (let chain = has.3.is_profile.chain in
@@ -293,5 +309,6 @@ why_runs_agrees request gathered session profile test asked why explained is rea
     explains.scripts chain reports.chain rules told reports.is_chain
     (subst (λ p. AreRunsReasons session.layers.items (meets session profile) (matches session profile)
     (platforms session profile) test p rules) has.3.is_profile.is_profile has.3.reasons)
-    (explained_by session profile explains.scripts chain reports.chain test asked told has.3.is_profile.is_chain
-    reports.is_chain reports)))) explains.told) reasons.told
+    (reported_of_one session profile explains.scripts chain reports.chain test other asked told one_test
+    (explained_by session profile explains.scripts chain reports.chain other asked told has.3.is_profile.is_chain
+    reports.is_chain reports))))) explains.told) reasons.told

@@ -24,7 +24,8 @@ use Rattle.rinqebo_rules.specs.TestOrigins.{AreOriginsBy}
 
 -- the rule at a place decides
 abbrev pub DecidesAt : List Rule → ℕ → Type 0
-DecidesAt rules n = (rule : Rule) × (slice_get rules n ≡ Some rule) × (rule.verdict ≡ verdicts.Decides)
+DecidesAt rules n =
+    (rule : Rule) × (slice_get rules n ≡ Some rule) × (rule.verdict ≡ verdicts.Decides)
 
 -- no rule decides
 abbrev pub NoneDecides : List Rule → Type 0
@@ -79,8 +80,8 @@ pub record AreFallbackOrigins (session : Session) (profile : Name) (s : Setting)
   pub are : AreOriginsBy (record { layers = session.layers.items; chain = chain }) None
       (key_table s mode) (key_name s) (fallback_origin s) origins
 
--- A row of a setting agrees with its rules: it has what the rule writes that decides, or, where none
--- decides, the value of the fallback, with the origins of a setting that no rule writes.
+-- A row of a setting agrees with its rules: it has what the rule writes that decides, or, where
+-- none decides, the value of the fallback, with the origins of a setting that no rule writes.
 pub record AgreesWithRules (session : Session) (profile : Name) (s : Setting)
     (mode : NextestRunMode) (rules : List Rule) (row : SettingRow) : Type 0 where
   pub decided : (rule : Rule) → Contains rules rule → rule.verdict ≡ verdicts.Decides

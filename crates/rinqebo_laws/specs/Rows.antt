@@ -2,6 +2,8 @@
 use Rattle.std.specs.Prelude.{◌≡◌, ℕ, List, Contains, Some, map, slice_get, string_bytes}
 use Rattle.std.specs.List.{AllZip}
 use Rattle.rinqebo_laws.specs.Shown.{AreAlike, origin_shown}
+use Rattle.rinqebo_load.specs.FoundTests.{found_view}
+use Rattle.rinqebo_load.specs.declared.found_test.FoundTest.{FoundTest}
 use Rattle.rinqebo_report.specs.declared.report.SettingRow.{SettingRow}
 use Rattle.rinqebo_report.specs.declared.report.TestRows.{TestRows}
 
@@ -28,6 +30,11 @@ pub record SaySameOfTest (one other : TestRows) : Type 0 where
   pub agree : AgreeOnTest one other
   pub runs_shown : one.shows_runs ≡ other.shows_runs
   pub settings : AllZip SaySame one.settings.items other.settings.items
+
+-- Two found tests are one: nothing that is known of them differs, and they are run for the same.
+pub record AreOneTest (one other : FoundTest) : Type 0 where
+  pub test : found_view one ≡ found_view other
+  pub mode : one.mode ≡ other.mode
 
 -- A list has a test at a place, and something holds of it.
 pub record ListsTest (tests : List TestRows) (n : ℕ) (Holds : TestRows → Type 0) : Type 0 where

@@ -17,12 +17,13 @@ use Rattle.rinqebo_rules.specs.ProfileOrigins.{AreProfileOrigins}
 use Rattle.rinqebo_rules.specs.Reported.{boolean, scalar, value_view}
 use Rattle.rinqebo_rules.specs.Runs.{runs_if}
 
--- A row says that a test runs exactly where a rule says that its default filter matches the test, and
--- a list does not say that the test is ignored.
+-- A row says that a test runs exactly where a rule says that its default filter matches the test,
+-- and a list does not say that the test is ignored.
 pub record SaysByRule (is_ignored : Bool) (rule : Rule) (row : SettingRow) : Type 0 where
   pub matches : Bool
   pub rule_says : option_map value_view rule.value ≡ Some (scalar (boolean matches))
-  pub row_says : option_map value_view row.value ≡ Some (scalar (boolean (runs_if matches is_ignored)))
+  pub row_says : option_map value_view row.value
+      ≡ Some (scalar (boolean (runs_if matches is_ignored)))
 
 -- A row comes from the default filter of the override that decides: it says what that filter does,
 -- with one origin, the place of the filter in that override.
@@ -41,8 +42,9 @@ pub record AreFilterOrigins (session : Session) (profile : Name) (origins : List
         chain
     pub are : AreProfileOrigins session.layers.items chain None (codes "default-filter") origins
 
--- A row of whether a test runs agrees with the rules of why it does: it comes from the default filter
--- of the override that decides, or, where none decides, from that of the chain of the profile.
+-- A row of whether a test runs agrees with the rules of why it does: it comes from the default
+-- filter of the override that decides, or, where none decides, from that of the chain of the
+-- profile.
 pub record AgreesWithFilters (session : Session) (profile : Name) (is_ignored : Bool)
     (rules : List Rule) (row : SettingRow) : Type 0 where
   pub decided : (rule : Rule) → Contains rules rule → rule.verdict ≡ verdicts.Decides
