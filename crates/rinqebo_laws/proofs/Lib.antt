@@ -9,5 +9,7 @@ pub mod Rows
 pub mod Why
 pub mod Runs
 pub mod Listed
+pub mod Profiles
+pub mod ProfileRules
 pub mod Agreement
 pub mod WhyAgreement
