@@ -2,8 +2,9 @@
 use crate::case::Setup;
 use nextest_config::ReadOutcome;
 use nextest_files::FileReader;
+use rinqebo_diff::{AnyCommand, DiffRequest, gather_sides, parse_all, perform_diff};
 use rinqebo_files::gather;
-use rinqebo_request::{Command, parse};
+use rinqebo_request::Command;
 use rinqebo_run::{perform, print_code, print_codes, print_schema, refuse_gathering, refuse_words};
 use std::alloc::{AllocError, Global};
 use std::io::{self, ErrorKind, Write};
@@ -31,6 +32,31 @@ impl Write for Output {
     }
 }
 
+/// The result of reading standard input, if a request reads it.
+fn input_of(alloc: Global, case: &Case<'_>, reads_input: bool) -> Result<ReadOutcome, AllocError> {
+    if reads_input {
+        case.files.read(alloc, "-")
+    } else {
+        Ok(ReadOutcome::NotFound)
+    }
+}
+
+/// Compares two sides over the files of a case, and returns the status.
+fn run_diff(
+    alloc: Global,
+    case: &Case<'_>,
+    setup: &Setup<'_>,
+    request: &DiffRequest<'_>,
+    out: &mut Output,
+    err: &mut Vec<u8>,
+) -> Result<u8, AllocError> {
+    let input = input_of(alloc, case, request.reads_input())?;
+    match gather_sides(alloc, request, &setup.environment, input, &case.files) {
+        Ok(sides) => Ok(perform_diff(alloc, request, &sides.from, &sides.to, out, err)),
+        Err(fault) => Ok(refuse_gathering(alloc, &fault, err)),
+    }
+}
+
 /// Runs over the files of a case, and returns the status.
 fn run(
     alloc: Global,
@@ -40,18 +66,17 @@ fn run(
     out: &mut Output,
     err: &mut Vec<u8>,
 ) -> Result<u8, AllocError> {
-    let request = match parse(alloc, words, &setup.environment) {
-        Ok(Command::Answer(request)) => request,
-        Ok(Command::Schema) => return Ok(print_schema(alloc, out, err)),
-        Ok(Command::Codes) => return Ok(print_codes(alloc, out, err)),
-        Ok(Command::CodePage(code)) => return Ok(print_code(alloc, code, out, err)),
+    let request = match parse_all(alloc, words, &setup.environment) {
+        Ok(AnyCommand::Other(Command::Answer(request))) => request,
+        Ok(AnyCommand::Diff(request)) => return run_diff(alloc, case, setup, &request, out, err),
+        Ok(AnyCommand::Other(Command::Schema)) => return Ok(print_schema(alloc, out, err)),
+        Ok(AnyCommand::Other(Command::Codes)) => return Ok(print_codes(alloc, out, err)),
+        Ok(AnyCommand::Other(Command::CodePage(code))) => {
+            return Ok(print_code(alloc, code, out, err));
+        }
         Err(stop) => return Ok(refuse_words(&stop, out, err)),
     };
-    let input = if request.reads_input() {
-        case.files.read(alloc, "-")?
-    } else {
-        ReadOutcome::NotFound
-    };
+    let input = input_of(alloc, case, request.reads_input())?;
     match gather(alloc, &request, &setup.environment, input, &case.files) {
         Ok(gathered) => Ok(perform(alloc, &request, &gathered, out, err)),
         Err(fault) => Ok(refuse_gathering(alloc, &fault, err)),

@@ -1,0 +1,14 @@
+mod TextParts
+mod ArrowLines
+mod Deciding
+pub mod SameValues
+mod SameOrigins
+mod ClassLists
+mod Reflexive
+mod Exactly
+pub mod Fair
+mod KeyedOrders
+mod KeyedRows
+pub mod EqualRows
+mod WholeGroups
+mod WholeDiffs

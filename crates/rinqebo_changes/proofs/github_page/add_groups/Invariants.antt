@@ -1,0 +1,8 @@
+use Rattle.std.proofs.Common.{◌≡◌, ◌++◌, flat_map, take, string_bytes}
+use Rattle.rinqebo_changes.specs.GithubPage.{group_notice}
+use Rattle.rinqebo_changes.proofs.github_page.add_groups.Given as goal
+
+abbrev pub invariant-loop-group : goal.invariant-loop-group
+invariant-loop-group l =
+    string_bytes l.out
+    ≡ string_bytes l.initial.out ++ flat_map (group_notice l.workspace l.diff) (take l.group-index l.groups)

@@ -1,0 +1,17 @@
+pub mod Same
+pub mod ValueViews
+pub mod SameOrigin
+pub mod OriginViews
+pub mod Changes
+pub mod Diffs
+pub mod Classes
+pub mod Groups
+pub mod Arrows
+pub mod Heads
+pub mod Pages
+pub mod Documents
+pub mod GithubPage
+pub mod MarkdownPage
+pub mod Keyed
+pub mod Laws
+pub mod WholeGroups

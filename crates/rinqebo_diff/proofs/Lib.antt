@@ -1,0 +1,5 @@
+pub mod Comparing
+pub mod Evaluating
+pub mod Failing
+pub mod EqualSides
+pub mod SwappedSides

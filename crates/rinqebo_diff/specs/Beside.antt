@@ -1,0 +1,15 @@
+-- What a diff has beside its changes.
+use Rattle.std.specs.Prelude.{List, map}
+use Rattle.std.specs.List.{AllZip}
+use Rattle.nextest_lists.specs.Lists.{Listed}
+use Rattle.nextest_lists.specs.ListView.{list_test_view}
+use Rattle.rinqebo_diff.specs.Differences.{IsCountOf, IsIdOf}
+use Rattle.rinqebo_diff.specs.declared.sides.Beside.{Beside}
+use Rattle.rinqebo_sides.specs.declared.matched.Matched.{Matched}
+
+-- The binaries of a list, and how many tests each has, and the names of matched tests that one list
+-- has alone.
+pub record IsBeside (matched : Matched) (listed : List Listed) (beside : Beside) : Type 0 where
+  pub binaries : AllZip IsCountOf listed beside.binaries.items
+  pub removed : AllZip IsIdOf (map list_test_view matched.removed.items) beside.removed.items
+  pub added : AllZip IsIdOf (map list_test_view matched.added.items) beside.added.items

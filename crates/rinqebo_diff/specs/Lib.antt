@@ -1,0 +1,13 @@
+pub mod Asked
+pub mod Compared
+pub mod Loaded
+pub mod Sides
+pub mod RunChanges
+pub mod Failing
+pub mod Statuses
+pub mod Written
+pub mod Differences
+pub mod Evaluated
+pub mod Beside
+pub mod EqualSides
+pub mod SwappedSides

@@ -1,0 +1,42 @@
+//! The files of both sides.
+use crate::request::DiffRequest;
+use nextest_config::ReadOutcome;
+use nextest_files::FileReader;
+use rinqebo_files::{GatherFault, Gathered, gather};
+use rinqebo_request::Environment;
+use std::alloc::{AllocError, Global};
+
+/// The files of the two sides, as they were read.
+#[derive(Drop)]
+pub struct GatheredSides {
+    /// Those of the left side.
+    pub from: Gathered,
+    /// Those of the right side.
+    pub to: Gathered,
+}
+
+/// A copy of the outcome of a read.
+fn copy_of(outcome: &ReadOutcome) -> Result<ReadOutcome, AllocError> {
+    Ok(match outcome {
+        ReadOutcome::Text(text) => ReadOutcome::Text(text.clone()?),
+        ReadOutcome::NotFound => ReadOutcome::NotFound,
+        ReadOutcome::NotADirectory => ReadOutcome::NotADirectory,
+        ReadOutcome::Failed(message) => ReadOutcome::Failed(message.clone()?),
+    })
+}
+
+/// Reads the files that the two sides of a request name, with the outcome of reading standard
+/// input.
+pub fn gather_sides<R: FileReader>(
+    alloc: Global,
+    request: &DiffRequest<'_>,
+    environment: &Environment,
+    input: ReadOutcome,
+    files: &R,
+) -> Result<GatheredSides, GatherFault> {
+    let copy = copy_of(&input)?;
+    Ok(GatheredSides {
+        from: gather(alloc, &request.from.request, environment, copy, files)?,
+        to: gather(alloc, &request.to.request, environment, input, files)?,
+    })
+}

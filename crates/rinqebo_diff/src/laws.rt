@@ -1,0 +1,44 @@
+//! Laws of what changes between two sides, as contracts.
+ghost use Rattle.std.specs.Prelude.{◌≡◌, Bool, false, true, List};
+ghost use Rattle.nextest_elements.specs.declared.run_mode.NextestRunMode.{NextestRunMode as Mode};
+ghost use Rattle.rinqebo_changes.specs.Changes.{is_change};
+ghost use Rattle.rinqebo_changes.specs.declared.change.TestChanges.{TestChanges as Changed};
+ghost use Rattle.rinqebo_changes.specs.declared.diff.Diff.{Diff as Comparison};
+ghost use Rattle.rinqebo_report.specs.declared.origin.Source.{Source as File};
+ghost use Rattle.rinqebo_request.specs.declared.request.RequestedSettings.{RequestedSettings as Asked};
+ghost use Rattle.rinqebo_sides.specs.Matched.{ArePairs, TestPair};
+ghost use Rattle.rinqebo_sides.specs.Own.{NamesOnce};
+ghost use Rattle.rinqebo_diff.specs.Asked.{compares_runs};
+ghost use Rattle.rinqebo_diff.specs.Compared.{AreCompared};
+ghost use Rattle.rinqebo_diff.specs.Differences.{SideReports, tests_of, diff_status, IsDiffOf};
+ghost use Rattle.rinqebo_diff.specs.EqualSides.{GivesOneRun, NoTestChanges};
+ghost use Rattle.rinqebo_diff.specs.Sides.{Evaluation};
+ghost use Rattle.rinqebo_diff.specs.SwappedSides.{HaveSwapped};
+ghost use Rattle.rinqebo_diff.specs.declared.request.DiffRequest.{DiffRequest as Requested};
+
+/// No test changes between a side and itself, and none is on one side alone: by the same session,
+/// profile and mode each test has the same values. Where the whole run is not compared, or the side
+/// gives it the same each time, nothing changes at all, and the exit status is 0.
+pub fn law_equal_sides()
+    ensures tests { (side : Evaluation) (mode : Mode) (asked : Asked) (files others : List File)
+        (pairs : List TestPair) (changed : List Changed) → NamesOnce (tests_of side)
+        → ArePairs (tests_of side) (tests_of side) pairs
+        → AreCompared (SideReports side mode asked) (SideReports side mode asked)
+        (is_change files others false) (compares_runs asked) pairs changed
+        → NoTestChanges (tests_of side) changed }
+    ensures whole { (request : Requested) (side : Evaluation) (diff : Comparison)
+        → request.with_origins ≡ false → request.from.mode ≡ request.to.mode
+        → NamesOnce (tests_of side) → (request.with_run ≡ true → GivesOneRun side)
+        → IsDiffOf request side side diff → diff_status diff ≡ 0 }
+{}
+
+/// Between swapped sides the same settings of the same tests change, each with its two sides
+/// swapped.
+pub fn law_swapped_sides()
+    ensures { (left right : Evaluation) (one two : Mode) (asked : Asked) (files others : List File)
+        (with_origins : Bool) (pairs : List TestPair) (changed : List Changed)
+        → AreCompared (SideReports left one asked) (SideReports right two asked)
+        (is_change files others with_origins) (compares_runs asked) pairs changed
+        → HaveSwapped (SideReports left one asked) (SideReports right two asked)
+        (is_change others files with_origins) (compares_runs asked) pairs changed }
+{}

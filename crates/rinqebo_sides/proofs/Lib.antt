@@ -1,0 +1,4 @@
+pub mod Zips
+pub mod Matching
+pub mod Own
+pub mod RunRows

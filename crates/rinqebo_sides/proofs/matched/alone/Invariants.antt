@@ -1,0 +1,10 @@
+use Rattle.std.proofs.Common.{◌≡◌, filter, map, not, take}
+use Rattle.nextest_lists.specs.ListView.{list_test_view}
+use Rattle.rinqebo_sides.specs.Matched.{is_in}
+use Rattle.rinqebo_sides.proofs.matched.alone.Given as goal
+
+-- the tests so far that the others do not have
+abbrev pub invariant-loop-test : goal.invariant-loop-test
+invariant-loop-test l =
+    map list_test_view l.found.items
+    ≡ filter (λ t. not (is_in (map list_test_view l.others) t)) (map list_test_view (take l.test-index l.tests))

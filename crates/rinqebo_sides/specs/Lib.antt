@@ -1,0 +1,3 @@
+pub mod Matched
+pub mod Own
+pub mod RunRows

@@ -1,0 +1,11 @@
+//! What two sides of a comparison have: the tests of their lists that both have, and what each
+//! gives to the whole run.
+#![tactic(auto)]
+
+mod laws;
+mod matched;
+mod rows;
+
+pub use laws::law_own_tests;
+pub use matched::{Matched, Pair, match_tests};
+pub use rows::run_rows;
