@@ -1,0 +1,10 @@
+use Rattle.std.proofs.Common.{◌∙◌, ap, sym}
+use Rattle.std.proofs.lemmas.Slice.Eq.{bytes_eq-Decides}
+use Rattle.nextest_spans.specs.Paths.{path_step}
+use Rattle.nextest_spans.specs.Paths as paths
+use Rattle.rinqebo_findings.proofs.value_faults.is_named.Goals as goal
+
+pub returns-in-Key : goal.returns-in-Key
+returns-in-Key c =
+    λ same. ap path_step c.in-Key.is
+    ∙ ap paths.key ((bytes_eq-Decides c.in-Key.name.now c.args.key.now).0 (sym c.eq.ensures ∙ c.if-eq.true))
