@@ -11,7 +11,7 @@ ghost use Rattle.rinqebo_resolve.specs.Endings.{IsAnswerTo, IsResolved, IsSilent
 ghost use Rattle.rinqebo_resolve.specs.Pieces.{IsPieceOf};
 ghost use Rattle.rinqebo_resolve.specs.contracts.run.Run.{the_row as run_row};
 ghost use Rattle.rinqebo_resolve.specs.declared.run.Run.{Run};
-ghost use Rattle.rinqebo_session.specs.Answering.{Answers};
+ghost use Rattle.rinqebo_session.specs.Answering.{ReturnsNumbers};
 ghost use Rattle.rinqebo_session.specs.Arguments.{IsArgumentCopied};
 ghost use Rattle.rinqebo_session.specs.Copies.{IsCopiedOut};
 ghost use Rattle.rinqebo_session.specs.Sessions.{session_status};
@@ -237,7 +237,7 @@ pub unsafe extern "C" fn rinqebo_profile_ask(
     requires* loan { sem 𝓛 (lent_profile g.0 g.1 g.2 g.3 profile g.4) }
     requires within { g.0 ⊑ g.1 }
     ensures* { sem 𝓛 (lent_profile g.0 g.1 g.2 g.3 profile g.4)
-        ∗ ⌜ Answers g.4 test.now settings.old settings.new result ⌝ }
+        ∗ ⌜ ReturnsNumbers g.4 test.now settings.old settings.new result ⌝ }
 {
     Profile::ask(&*(profile as *const Profile<'_>), test, settings)
 }

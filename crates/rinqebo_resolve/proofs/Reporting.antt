@@ -18,7 +18,7 @@ use Rattle.rinqebo_run.proofs.Refused.{failure_reported}
 use Rattle.rinqebo_forms.specs.Runs.{RunText}
 use Rattle.rinqebo_resolve.specs.Asking.{RequestedText, AreFilesOf, AsksForAll, IsRequestFor, requested_of}
 use Rattle.rinqebo_session.specs.declared.status.TheConstants.{DONE}
-use Rattle.rinqebo_resolve.specs.Endings.{IsAnswerTo, IsAnswerOf, IsEndingFor, IsEndingIn, IsEndingOf, IsResolved, IsSilent, TellsFailure, TellsOutcome, ending_status, ending_text}
+use Rattle.rinqebo_resolve.specs.Endings.{IsAnswerTo, IsAnswerOf, IsEndingFor, IsEndingIn, IsEndingOf, IsResolved, IsSilent, ReportsFailure, ReportsOutcome, ending_status, ending_text}
 use Rattle.rinqebo_resolve.specs.declared.ending.Ending.{Ending}
 use Rattle.rinqebo_resolve.specs.declared.ending.Ending.TheVariants as ends
 
@@ -66,7 +66,7 @@ profile_lacks asked request gathered is_request (inr test) =
 
 -- the ending for which the program answers nothing
 unanswered : (asked : RequestedText) (request : Request) (gathered : Gathered) (failure : Failure) (ending : Ending)
-    → IsRequestFor asked request → Fails request gathered failure → TellsFailure failure ending
+    → IsRequestFor asked request → Fails request gathered failure → ReportsFailure failure ending
     → IsEndingIn asked gathered ending
 unanswered asked request gathered (failures.Engines fault) (ends.NoEngines reason) is_request fails tells = tt
 unanswered asked request gathered (failures.Refused report) (ends.Refused text) is_request fails tells = record {
@@ -92,7 +92,7 @@ unanswered asked request gathered failure ending is_request fails tells = absurd
 ends_so : (asked : RequestedText) (request : Request) (gathered : Gathered) (outcome : Result Answer Failure)
     (ending : Ending) → IsRequestFor asked request
     → IfOk outcome (λ answer. IsAnswer request gathered answer.report answer.status)
-    → IfErr outcome (Fails request gathered) → TellsOutcome outcome ending → IsEndingIn asked gathered ending
+    → IfErr outcome (Fails request gathered) → ReportsOutcome outcome ending → IsEndingIn asked gathered ending
 ends_so asked request gathered (Ok answer) (ends.Answered text) is_request is_answer fails tells =
     answered asked request gathered answer.report answer.status (string_bytes text) is_request is_answer tells
 ends_so asked request gathered (Ok answer) ending is_request is_answer fails tells = absurd tells
@@ -103,7 +103,7 @@ ends_so asked request gathered (Err failure) ending is_request is_answer fails t
 pub ended : {E : Type 0} (asked : RequestedText) (request : Request) (gathered : Gathered)
     (outcome : Result Answer Failure) (told : Result Ending E) → IsRequestFor asked request
     → IfOk outcome (λ answer. IsAnswer request gathered answer.report answer.status)
-    → IfErr outcome (Fails request gathered) → IfOk told (TellsOutcome outcome) → IfOk told (IsEndingIn asked gathered)
+    → IfErr outcome (Fails request gathered) → IfOk told (ReportsOutcome outcome) → IfOk told (IsEndingIn asked gathered)
 ended asked request gathered outcome (Ok ending) is_request is_answer fails tells =
     ends_so asked request gathered outcome ending is_request is_answer fails tells
 ended asked request gathered outcome (Err want) is_request is_answer fails tells = tt

@@ -18,7 +18,7 @@ use Rattle.rinqebo_resolve.specs.declared.ending.Ending.TheVariants as ends
 
 -- A text is the document of a report, in JSON, of which something holds for what a run requests of
 -- files.
-pub record TellsOf (asked : RequestedText) (gathered : Gathered)
+pub record ReportsOf (asked : RequestedText) (gathered : Gathered)
     (Holds : Request → Gathered → Report → Type 0) (text : List ℕ) : Type 0 where
   pub request : Request
   pub is_request : IsRequestFor asked request
@@ -29,24 +29,24 @@ pub record TellsOf (asked : RequestedText) (gathered : Gathered)
 -- a text is the document of the result
 abbrev pub IsAnswerOf : RequestedText → Gathered → List ℕ → Type 0
 IsAnswerOf asked gathered =
-    TellsOf asked gathered (λ request files report. IsAnswer request files report 0)
+    ReportsOf asked gathered (λ request files report. IsAnswer request files report 0)
 
 -- a text is a document beside files that are refused: some written rule does not hold of them
 abbrev pub IsRefusalOf : RequestedText → Gathered → List ℕ → Type 0
 IsRefusalOf asked gathered =
-    TellsOf asked gathered (λ request files report. AreRefusedFor request files)
+    ReportsOf asked gathered (λ request files report. AreRefusedFor request files)
 
 -- a text is a document beside files that are accepted and lack the profile
-abbrev pub TellsNoProfileOf : RequestedText → Gathered → List ℕ → Type 0
-TellsNoProfileOf asked gathered =
-    TellsOf asked gathered (λ request files report. LackProfileFor request files)
+abbrev pub ReportsNoProfileOf : RequestedText → Gathered → List ℕ → Type 0
+ReportsNoProfileOf asked gathered =
+    ReportsOf asked gathered (λ request files report. LackProfileFor request files)
 
 -- how what a run requests of files ends, want of memory aside
 abbrev pub IsEndingIn : RequestedText → Gathered → Ending → Type 0
 IsEndingIn asked gathered (ends.Answered text) = IsAnswerOf asked gathered (string_bytes text)
 IsEndingIn asked gathered (ends.Refused text) = IsRefusalOf asked gathered (string_bytes text)
 IsEndingIn asked gathered (ends.NoProfile text) =
-    TellsNoProfileOf asked gathered (string_bytes text)
+    ReportsNoProfileOf asked gathered (string_bytes text)
 IsEndingIn asked gathered (ends.NoEngines reason) = Unit {0}
 IsEndingIn asked gathered (ends.NotUnderstood reason) = ⊥
 IsEndingIn asked gathered ends.NotText = ⊥
@@ -60,22 +60,22 @@ pub record IsEndingOf (run : RunText) (ending : Ending) : Type 0 where
 
 -- an ending says why the program has no result: the report of the refusal, or of the profile that
 -- is missing, in JSON; a run of a list names no test that may be missing
-abbrev pub TellsFailure : Failure → Ending → Type 0
-TellsFailure (failures.Engines fault) (ends.NoEngines reason) = Unit {0}
-TellsFailure (failures.Refused report) (ends.Refused text) =
+abbrev pub ReportsFailure : Failure → Ending → Type 0
+ReportsFailure (failures.Engines fault) (ends.NoEngines reason) = Unit {0}
+ReportsFailure (failures.Refused report) (ends.Refused text) =
     string_bytes text ≡ json_text report
-TellsFailure (failures.NoProfile report) (ends.NoProfile text) =
+ReportsFailure (failures.NoProfile report) (ends.NoProfile text) =
     string_bytes text ≡ json_text report
-TellsFailure (failures.NoTest report) (ends.NoEngines reason) = Unit {0}
-TellsFailure (failures.SeveralTests report) (ends.NoEngines reason) = Unit {0}
-TellsFailure failure ending = ⊥
+ReportsFailure (failures.NoTest report) (ends.NoEngines reason) = Unit {0}
+ReportsFailure (failures.SeveralTests report) (ends.NoEngines reason) = Unit {0}
+ReportsFailure failure ending = ⊥
 
 -- an ending has what the program returns: its report in JSON, or why there is none
-abbrev pub TellsOutcome : Result Answer Failure → Ending → Type 0
-TellsOutcome (Ok answer) (ends.Answered text) =
+abbrev pub ReportsOutcome : Result Answer Failure → Ending → Type 0
+ReportsOutcome (Ok answer) (ends.Answered text) =
     string_bytes text ≡ json_text answer.report
-TellsOutcome (Ok answer) ending = ⊥
-TellsOutcome (Err failure) ending = TellsFailure failure ending
+ReportsOutcome (Ok answer) ending = ⊥
+ReportsOutcome (Err failure) ending = ReportsFailure failure ending
 
 -- the bytes of a request are understood, and their run ends so
 abbrev pub EndsUnderstood : List ℕ → Ending → Type 0

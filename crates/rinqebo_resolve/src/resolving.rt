@@ -4,7 +4,7 @@ ghost use Rattle.rinqebo_forms.specs.Runs.{run_view};
 ghost use Rattle.rinqebo_report.specs.Rendered.{json_text};
 ghost use Rattle.rinqebo_session.specs.declared.status.TheConstants.{DONE};
 ghost use Rattle.rinqebo_resolve.specs.Asking.{requested_view};
-ghost use Rattle.rinqebo_resolve.specs.Endings.{IsAnswerTo, IsSilent, IsEndingFor, IsEndingIn, IsEndingOf, IsResolved, TellsFailure, TellsOutcome};
+ghost use Rattle.rinqebo_resolve.specs.Endings.{IsAnswerTo, IsSilent, IsEndingFor, IsEndingIn, IsEndingOf, IsResolved, ReportsFailure, ReportsOutcome};
 
 use crate::asking::{Asked, LIST, parted};
 use crate::ending::Ending;
@@ -45,7 +45,7 @@ fn reason_of(alloc: Global, fault: &InputFault) -> Result<String, AllocError> {
 
 /// The ending of a run that has no result.
 fn failed(alloc: Global, failure: &Failure) -> Result<Ending, AllocError>
-    ensures { IfOk result (TellsFailure failure.now) }
+    ensures { IfOk result (ReportsFailure failure.now) }
 {
     match failure {
         Failure::Engines(fault) => Ok(Ending::NoEngines(reason_of(alloc, fault)?)),
@@ -60,7 +60,7 @@ fn failed(alloc: Global, failure: &Failure) -> Result<Ending, AllocError>
 
 /// The ending of a run with what the program returns.
 fn ended(alloc: Global, outcome: &Result<Answer, Failure>) -> Result<Ending, AllocError>
-    ensures { IfOk result (TellsOutcome outcome.now) }
+    ensures { IfOk result (ReportsOutcome outcome.now) }
 {
     match outcome {
         Ok(answer) => Ok(Ending::Answered(document_of(alloc, &answer.report)?)),

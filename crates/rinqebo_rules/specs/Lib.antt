@@ -9,7 +9,7 @@ pub mod Trees
 pub mod ProfileOrigins
 pub mod VerdictsBy
 pub mod Verdicts
-pub mod Told
+pub mod Reported
 pub mod SettingValues
 pub mod AsWritten
 pub mod LeafValue

@@ -8,7 +8,7 @@ use Rattle.nextest_settings.specs.Profile.{EvaluatableModel}
 use Rattle.rinqebo_rules.specs.KnownOrigins.{AreOriginsAt}
 use Rattle.rinqebo_rules.specs.RulePlaces.{Place, id_place}
 use Rattle.rinqebo_rules.specs.TestOrigins.{Basis}
-use Rattle.rinqebo_rules.specs.Told.{ReportedScalar, ReportedValue, value_view}
+use Rattle.rinqebo_rules.specs.Reported.{ReportedScalar, ReportedValue, value_view}
 use Rattle.rinqebo_request.specs.declared.request.RequestedSettings.{RequestedSettings}
 use Rattle.rinqebo_request.specs.declared.request.RequestedSettings.TheVariants as asks
 use Rattle.rinqebo_report.specs.declared.report.SettingRow.{SettingRow}

@@ -12,7 +12,7 @@ use Rattle.rinqebo_report.specs.declared.report.SettingRow.{SettingRow}
 use Rattle.rinqebo_request.specs.Keys.{key_name, key_table, key_text}
 use Rattle.rinqebo_rules.specs.AsWritten.{IsValueAsWritten, node_alone}
 use Rattle.rinqebo_rules.specs.Origins.{key_steps}
-use Rattle.rinqebo_rules.specs.Told.{reported_of, value_view}
+use Rattle.rinqebo_rules.specs.Reported.{reported_of, value_view}
 
 -- whether a rule decides a setting
 abbrev pub is_by_rule : Option Origin → Bool

@@ -4,7 +4,7 @@ ghost use Rattle.std.specs.Option.{option_copied};
 ghost use Rattle.nextest_tree.specs.Node.{as_text};
 ghost use Rattle.nextest_tree.specs.View.{tree_view};
 ghost use Rattle.rinqebo_rules.specs.AsWritten.{member_text, IsReadAs, WritesDuration, IsAsWritten, IsScalarAsWritten, IsMemberAsWritten, IsValueAsWritten};
-ghost use Rattle.rinqebo_rules.specs.Told.{scalar_view, field_view, value_view};
+ghost use Rattle.rinqebo_rules.specs.Reported.{scalar_view, field_view, value_view};
 
 use nextest_config::Tree;
 use nextest_elements::parse_duration;

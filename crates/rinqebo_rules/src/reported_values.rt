@@ -3,7 +3,7 @@ ghost use Rattle.std.specs.Prelude.{◌≡◌, ◌++◌, IfOk, IfSome, OnOk, map
 ghost use Rattle.nextest_tree.specs.View.{tree_view};
 ghost use Rattle.rinqebo_rules.specs.AsWritten.{IsValueAsWritten};
 ghost use Rattle.rinqebo_rules.specs.SettingValues.{reported_value};
-ghost use Rattle.rinqebo_rules.specs.Told.{ReportedScalar, ReportedValue, scalar_view, field_view, value_view, reported_count, one, one_if, one_if_true, retry_fields, is_plain, reported_fixed, reported_retries, reported_slow, reported_leak, reported_threads};
+ghost use Rattle.rinqebo_rules.specs.Reported.{ReportedScalar, ReportedValue, scalar_view, field_view, value_view, reported_count, one, one_if, one_if_true, retry_fields, is_plain, reported_fixed, reported_retries, reported_slow, reported_leak, reported_threads};
 
 use crate::as_written::value_as_written;
 use nextest_config::{

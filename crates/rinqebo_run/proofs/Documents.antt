@@ -10,7 +10,7 @@ use Rattle.rinqebo_report.specs.declared.format.Format.TheVariants as formats
 use Rattle.rinqebo_report.specs.declared.report.Report.{Report}
 use Rattle.rinqebo_request.specs.declared.request.Request.{Request}
 use Rattle.rinqebo_run.specs.Answered.{IsAnswer}
-use Rattle.rinqebo_run.specs.Refused.{Fails, HasNoReport, IsReportOfFailure, TellsFailure, TellsRefusal}
+use Rattle.rinqebo_run.specs.Refused.{Fails, HasNoReport, IsReportOfFailure, ReportsFailure, ReportsRefusal}
 use Rattle.rinqebo_run.specs.Statuses.{IsAnswerStatus, failure_status}
 use Rattle.rinqebo_run.proofs.Statuses.{answer_status}
 
@@ -69,7 +69,7 @@ module _ (failure : Failure) (request : Request) (report : Report) (n s : ℕ) (
     (json : request.format ≡ formats.Json) (reported : IsReportOfFailure failure report)
     (same : s ≡ failure_status failure) where
   document : n ≡ s → Appends old new (rendered report request.format request.paper)
-      → TellsFailure failure request n old new
+      → ReportsFailure failure request n old new
   document is page = record {
     is_json = json;
     status_is = is ∙ same;
@@ -79,7 +79,7 @@ module _ (failure : Failure) (request : Request) (report : Report) (n s : ℕ) (
   }
 
   silent : n ≡ 5 → (n ≡ s) ⊎ (n ≡ 6) ⊎ (new ≡ old)
-      → (n ≡ 6) ⊎ (new ≡ old) ⊎ TellsFailure failure request n old new
+      → (n ≡ 6) ⊎ (new ≡ old) ⊎ ReportsFailure failure request n old new
   silent five (inl is) = no_memory failure report n reported (is ∙ same) five
   silent five (inr (inl six)) = inl six
   silent five (inr (inr kept)) = inr (inl kept)
@@ -87,7 +87,7 @@ module _ (failure : Failure) (request : Request) (report : Report) (n s : ℕ) (
   -- what goes out of the document of a failure
   pub document_quiet : (n ≡ s) ⊎ (n ≡ 5) ⊎ (n ≡ 6) → (n ≡ s) ⊎ (n ≡ 6) ⊎ (new ≡ old)
       → (n ≡ 5) ⊎ (n ≡ 6) ⊎ Appends old new (rendered report request.format request.paper)
-      → (n ≡ 6) ⊎ (new ≡ old) ⊎ TellsFailure failure request n old new
+      → (n ≡ 6) ⊎ (new ≡ old) ⊎ ReportsFailure failure request n old new
   document_quiet ends quiet (inl five) = silent five quiet
   document_quiet ends quiet (inr (inl six)) = inl six
   document_quiet (inl is) quiet (inr (inr page)) = inr (inr (document is page))
@@ -97,7 +97,7 @@ module _ (failure : Failure) (request : Request) (report : Report) (n s : ℕ) (
   -- the document of a failure goes out
   pub document_reported : (n ≡ s) ⊎ (n ≡ 5) ⊎ (n ≡ 6)
       → (n ≡ 5) ⊎ (n ≡ 6) ⊎ Appends old new (rendered report request.format request.paper)
-      → (n ≡ 3) ⊎ (n ≡ 4) → TellsFailure failure request n old new
+      → (n ≡ 3) ⊎ (n ≡ 4) → ReportsFailure failure request n old new
   document_reported ends (inl five) told = not_cut_off n (inl five) told
   document_reported ends (inr (inl six)) told = not_cut_off n (inr six) told
   document_reported (inl is) (inr (inr page)) told = document is page
@@ -106,8 +106,8 @@ module _ (failure : Failure) (request : Request) (report : Report) (n s : ℕ) (
 -- what goes out where a request is not answered
 pub refusal_quiet : {X : Type 0} (request : Request) (gathered : Gathered) (failure : Failure) (n : ℕ)
     (old new : Option (List ℕ)) → Fails request gathered failure
-    → (n ≡ 6) ⊎ (new ≡ old) ⊎ TellsFailure failure request n old new
-    → X ⊎ (n ≡ 6) ⊎ (new ≡ old) ⊎ TellsRefusal request gathered n old new
+    → (n ≡ 6) ⊎ (new ≡ old) ⊎ ReportsFailure failure request n old new
+    → X ⊎ (n ≡ 6) ⊎ (new ≡ old) ⊎ ReportsRefusal request gathered n old new
 refusal_quiet request gathered failure n old new fails (inl six) = inr (inl six)
 refusal_quiet request gathered failure n old new fails (inr (inl kept)) = inr (inr (inl kept))
 refusal_quiet request gathered failure n old new fails (inr (inr tells)) =
@@ -115,8 +115,8 @@ refusal_quiet request gathered failure n old new fails (inr (inr tells)) =
 
 -- the document of why a request is not answered goes out
 pub refusal_told : {X : Type 0} (request : Request) (gathered : Gathered) (failure : Failure) (n : ℕ)
-    (old new : Option (List ℕ)) → Fails request gathered failure → TellsFailure failure request n old new
-    → X ⊎ TellsRefusal request gathered n old new
+    (old new : Option (List ℕ)) → Fails request gathered failure → ReportsFailure failure request n old new
+    → X ⊎ ReportsRefusal request gathered n old new
 refusal_told request gathered failure n old new fails tells =
     inr (record { failure = failure; fails = fails; tells = tells })
 

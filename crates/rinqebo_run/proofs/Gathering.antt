@@ -38,10 +38,10 @@ use Rattle.rinqebo_run.specs.Reasons.{AreRulesReported, IsRuleAsWritten}
 use Rattle.rinqebo_load.specs.Sessions.{files_view, readings, IsLoadedFrom}
 use Rattle.rinqebo_rules.specs.Origins.{key_steps}
 use Rattle.rinqebo_rules.specs.SettingRules.{rules_for}
-use Rattle.rinqebo_run.specs.TellsReasons.{AreReasons, AreReasonsIn, configured_by, IfWhy, IsTestNamed, TellsReasons}
+use Rattle.rinqebo_run.specs.ReportsReasons.{AreReasons, AreReasonsIn, configured_by, IfWhy, IsTestNamed, ReportsReasons}
 use Rattle.rinqebo_load.specs.declared.found_test.FoundTest.{FoundTest}
 use Rattle.rinqebo_load.specs.declared.session.Session.{Session}
-use Rattle.rinqebo_rules.specs.Told.{reported_of, value_view}
+use Rattle.rinqebo_rules.specs.Reported.{reported_of, value_view}
 
 -- what is told of the rules of a profile for a setting, and then of the fallback
 pub reasons_here : (layers : List FileLayer) (platforms : BuildPlatforms Platform) (test : FoundTest) (query : TestQuery) (s : Setting)
@@ -94,7 +94,7 @@ pub tells : (session : Session) (profile : Name) (test : FoundTest) (s : Setting
       scripts = loaded.scripts;
     }) profile test s rules)
     → IsRequestedIn session (parents_in (config_parents loaded.config)) profile test.mode content
-    → TellsReasons session profile test s report
+    → ReportsReasons session profile test s report
 tells session profile test s report content loaded accepted from there same is requested =
     let engines = readings session.engines.filters in
     let read : Configured (Filterset FieldMatcher) TargetSpec = record {

@@ -42,7 +42,7 @@ use Rattle.nextest_lists.specs.ListView.{list_view}
 use Rattle.nextest_lists.specs.Lists.{all_binaries, all_tests, list_tests}
 use Rattle.rinqebo_load.specs.Accepted.{AreAccepted}
 use Rattle.rinqebo_rules.specs.Conditions.{is_met_by}
-use Rattle.rinqebo_run.specs.Listed.{IsProfileOn, unused_places, AreObjectsListed, AreTestsOf, IfListed, TellsTests}
+use Rattle.rinqebo_run.specs.Listed.{IsProfileOn, unused_places, AreObjectsListed, AreTestsOf, IfListed, ReportsTests}
 use Rattle.rinqebo_run.specs.ListedBy.{basis_of, read_by, listed_by, places_of}
 use Rattle.rinqebo_run.specs.Requested.{IsRequestedIn}
 use Rattle.rinqebo_run.proofs.Requests.{requested_meant}
@@ -157,7 +157,7 @@ pub tells_tests : (session : Session) (profile : Name) (mode : NextestRunMode) (
     → IsIn (names_in loaded.config.profiles) profile → report.content ≡ content
     → IfListed content (listed_by session loaded profile mode asked)
     → IsRequestedIn session (parents_in (config_parents loaded.config)) profile mode content
-    → TellsTests session profile mode asked report
+    → ReportsTests session profile mode asked report
 tells_tests session profile mode asked report content loaded accepted from there same is requested =
     let engines = readings session.engines.filters in
     let Listed : Content → ConfigModel Filter Spec → Type 0 =

@@ -40,7 +40,7 @@ use Rattle.rinqebo_report.specs.declared.report.Verdict.TheVariants as told
 use Rattle.rinqebo_rules.specs.Conditions.{is_met_by, filter_matches}
 use Rattle.rinqebo_rules.specs.FilterRules.{FilterRule, filter_facts, filter_rule_on, filter_rule_view, filter_rules, has_default}
 use Rattle.rinqebo_rules.specs.RulePlaces.{id_place}
-use Rattle.rinqebo_rules.specs.Told.{value_view}
+use Rattle.rinqebo_rules.specs.Reported.{value_view}
 use Rattle.rinqebo_rules.specs.VerdictsBy.{verdicts_by}
 use Rattle.rinqebo_rules.specs.declared.chain_rules.SettingRule.{SettingRule}
 use Rattle.rinqebo_rules.specs.declared.verdict.RuleVerdict.{RuleVerdict}
@@ -49,8 +49,8 @@ use Rattle.rinqebo_run.proofs.Meant.{condition_meant, read_meets, specs_meant}
 use Rattle.rinqebo_run.proofs.Pairs.{zip_moved}
 use Rattle.rinqebo_run.proofs.Requests.{requested_meant}
 use Rattle.rinqebo_run.specs.Requested.{IsRequestedIn}
-use Rattle.rinqebo_run.specs.RunsReasons.{AreFilterRulesReported, AreHeldReported, AreRunsReasons, AreRunsReasonsIn, AreRunsTold, IfWhyRuns, IsFilterRuleReported, TellsRunsReasons, default_answer, default_value, filter_verdicts, is_decision, is_selected_on}
-use Rattle.rinqebo_run.specs.TellsReasons.{IsTestNamed, configured_by}
+use Rattle.rinqebo_run.specs.RunsReasons.{AreFilterRulesReported, AreHeldReported, AreRunsReasons, AreRunsReasonsIn, AreRunsReported, IfWhyRuns, IsFilterRuleReported, ReportsRunsReasons, default_answer, default_value, filter_verdicts, is_decision, is_selected_on}
+use Rattle.rinqebo_run.specs.ReportsReasons.{IsTestNamed, configured_by}
 
 -- the verdicts of rules as code holds them
 held_verdicts : (rules : List SettingRule) (found : List FilterRule) → map filter_rule_view rules ≡ found
@@ -90,7 +90,7 @@ runs_here layers platforms test query default profile matches held given before 
     let all : given ≡ filter_verdicts overrides = verdicts ∙ held_verdicts held overrides found in
     let there : matches ≡ is_selected_on filter_matches (profile_on is_met_by platforms profile) (found_view test).test =
     selected ∙ (λ i. filter_matches (same i).filter (asked i) (same i).filter) in
-    let whole : AreRunsTold layers overrides matches rules = record {
+    let whole : AreRunsReported layers overrides matches rules = record {
       before = before;
       fallback = fallback;
       are = are;
@@ -100,7 +100,7 @@ runs_here layers platforms test query default profile matches held given before 
       fallback_filter = filtered ∙ ap (λ vs. default_answer (not (list_any is_decision vs)) matches) all;
       fallback_value = valued ∙ ap (λ vs. default_value (not (list_any is_decision vs)) matches) all;
     } in
-    subst (λ m. AreRunsTold layers overrides m rules) there whole
+    subst (λ m. AreRunsReported layers overrides m rules) there whole
 
 -- something that is there is there by what it means
 some_meant : {E M : Type 0} (f : E → M) (o : Option E) → is_some o ≡ is_some (option_map f o)
@@ -161,9 +161,9 @@ module _ {E N M K P : Type 0} (f : E → M) (g : N → K) (meets : K → P → O
         let default : f (profile_on (read_meets f g meets platforms) platforms profile).default_filter.filter
         ≡ (profile_on meets platforms meant).default_filter.filter =
         ap (λ p. p.default_filter.filter) (profile_means f g meets platforms c name chain) in
-        subst (λ found. AreRunsTold layers found
+        subst (λ found. AreRunsReported layers found
         (is_selected_on matches (profile_on meets platforms meant) asked) rules) found
-        (subst (λ m. AreRunsTold layers (filter_rules (read_meets f g meets platforms) platforms profile.overrides) m rules)
+        (subst (λ m. AreRunsReported layers (filter_rules (read_meets f g meets platforms) platforms profile.overrides) m rules)
         (ap (λ d. matches d asked d) default) is)
 
     -- why a test runs or not in a profile, by what texts mean
@@ -213,7 +213,7 @@ pub tells_runs : (session : Session) (profile : Name) (test : FoundTest) (report
       scripts = loaded.scripts;
     }) profile test rules)
     → IsRequestedIn session (parents_in (config_parents loaded.config)) profile test.mode content
-    → TellsRunsReasons session profile test report
+    → ReportsRunsReasons session profile test report
 tells_runs session profile test report content loaded accepted from there same is requested =
     let engines = readings session.engines.filters in
     let read : Configured (Filterset FieldMatcher) TargetSpec = record {

@@ -29,7 +29,7 @@ use Rattle.rinqebo_report.specs.declared.report.Content.{Content}
 use Rattle.rinqebo_report.specs.declared.report.Report.{Report}
 use Rattle.rinqebo_rules.specs.RulePlaces.{Place}
 use Rattle.rinqebo_run.specs.ListedBy.{read_by}
-use Rattle.rinqebo_run.specs.ShownConfig.{AreShownOf, IsShownBy, ShowsConfig, TellsLeaf, TellLeaves, shown_status}
+use Rattle.rinqebo_run.specs.ShownConfig.{AreShownOf, IsShownBy, ShowsConfig, ReportsLeaf, TellLeaves, shown_status}
 
 -- whether a leaf is told
 abbrev pub tells : Leaf → Bool
@@ -52,14 +52,14 @@ next_leaf found n m leaf within at next =
 -- one leaf more that is told
 pub reported_more : (found : List Found) (n m : ℕ) (leaf : Found) (old new : List Entry) (entry : Entry)
     → n < length found → leaf ≡ get_or found n leaf → m ≡ n + 1 → TellLeaves (map leaf_view (take n found)) old
-    → TellsLeaf (leaf_view leaf) entry → new ≡ old ++ entry ∷ [] → TellLeaves (map leaf_view (take m found)) new
+    → ReportsLeaf (leaf_view leaf) entry → new ≡ old ++ entry ∷ [] → TellLeaves (map leaf_view (take m found)) new
 reported_more found n m leaf old new entry within at next before is more =
     let leaves = map leaf_view (take n found) in
     let same = ap (filter tells) (next_leaf found n m leaf within at next)
     ∙ ended leaves (leaf_view leaf) true is.is_entry.value.told in
-    subst (λ ls. AllZip TellsLeaf ls new) (sym same)
-    (subst (AllZip TellsLeaf (filter tells leaves ++ leaf_view leaf ∷ [])) (sym more)
-    (all_zipped_more TellsLeaf (filter tells leaves) old (leaf_view leaf) entry before is))
+    subst (λ ls. AllZip ReportsLeaf ls new) (sym same)
+    (subst (AllZip ReportsLeaf (filter tells leaves ++ leaf_view leaf ∷ [])) (sym more)
+    (all_zipped_more ReportsLeaf (filter tells leaves) old (leaf_view leaf) entry before is))
 
 -- one leaf more that is not told
 pub reported_less : (found : List Found) (n m : ℕ) (leaf : Found) (old new : List Entry) → n < length found
@@ -69,7 +69,7 @@ reported_less found n m leaf old new within at next before none kept =
     let leaves = map leaf_view (take n found) in
     let same = ap (filter tells) (next_leaf found n m leaf within at next)
     ∙ ended leaves (leaf_view leaf) false none ∙ append-nil (filter tells leaves) in
-    subst (λ ls. AllZip TellsLeaf ls new) (sym same) (subst (AllZip TellsLeaf (filter tells leaves)) (sym kept) before)
+    subst (λ ls. AllZip ReportsLeaf ls new) (sym same) (subst (AllZip ReportsLeaf (filter tells leaves)) (sym kept) before)
 
 -- what is asked for of layers, a place and a chain by other names
 pub shown_at : (keys : List (Bor (List ℕ))) (with_hidden : Bool) (layers others : List FileLayer)

@@ -7,7 +7,7 @@ use Rattle.rinqebo_report.specs.declared.report.Content.{Content}
 use Rattle.rinqebo_report.specs.declared.report.Content.TheVariants as contents
 use Rattle.rinqebo_report.specs.declared.report.Entry.{Entry}
 use Rattle.rinqebo_report.specs.declared.report.Report.{Report}
-use Rattle.rinqebo_run.specs.Answered.{AnswersQuestion, HasObjectsFor, IsAnswer, Tells}
+use Rattle.rinqebo_run.specs.Answered.{AnswersQuestion, HasObjectsFor, IsAnswer, Reports}
 use Rattle.rinqebo_load.specs.SessionOf.{IsSessionOf}
 use Rattle.rinqebo_run.specs.LookedUp.{AreLookedUp}
 use Rattle.rinqebo_run.specs.Refused.{Fails, IsFailureIn}
@@ -108,7 +108,7 @@ reported_page q n (inr (inr page)) is = page
 -- a run with an answer tells it
 pub tells : (request : Request) (gathered : Gathered) (report : Report) (n m : ℕ) (old new : Option (List ℕ))
     → IsAnswer request gathered report m → n ≡ m
-    → Appends old new (rendered report request.format request.paper) → Tells request gathered n old new
+    → Appends old new (rendered report request.format request.paper) → Reports request gathered n old new
 tells request gathered report n m old new answer same page = record {
   report = report;
   is_answer = subst (IsAnswer request gathered report) (sym same) answer;

@@ -50,11 +50,11 @@ use Rattle.rinqebo_run.proofs.Documents.{text_or_json}
 use Rattle.rinqebo_run.proofs.Listing.{given_means, tells_tests, zip_mapped}
 use Rattle.rinqebo_run.proofs.Refused.{failure_reported}
 use Rattle.rinqebo_run.proofs.Statuses.{failed_silent, failed_status}
-use Rattle.rinqebo_run.specs.Answered.{AnswersQuestion, Tells}
+use Rattle.rinqebo_run.specs.Answered.{AnswersQuestion, Reports}
 use Rattle.rinqebo_run.specs.Begun.{tests_text, AreFirstOf, AreFirstWritten, BeginsList, BeginsPage, IsBegun}
 use Rattle.rinqebo_load.specs.Accepted.{AreAccepted}
 use Rattle.rinqebo_rules.specs.Conditions.{is_met_by}
-use Rattle.rinqebo_run.specs.Listed.{IfListed, IsProfileOn, TellsTests}
+use Rattle.rinqebo_run.specs.Listed.{IfListed, IsProfileOn, ReportsTests}
 use Rattle.rinqebo_run.specs.ListedBy.{basis_of, listed_by, read_by}
 use Rattle.rinqebo_run.specs.Requested.{IsRequestedIn, IsRequestedOf}
 use Rattle.rinqebo_run.proofs.Requests.{requested_on}
@@ -268,12 +268,12 @@ stops_behind more begun old mid new faults.Write further first stop = tt
 
 -- a question that asks for a list is answered by what tells its tests
 answers_list : (q : Question) (list : RequestedList) (session : Session) (report : Report) → AsksList q list
-    → TellsTests session list.profile.now list.mode list.settings.now report → AnswersQuestion q session report 0
+    → ReportsTests session list.profile.now list.mode list.settings.now report → AnswersQuestion q session report 0
 answers_list (questions.List profile mode file settings) list session report asks tells = (
   refl,
-  subst (λ p. TellsTests session p mode settings report) asks.0
-      (subst (λ m. TellsTests session list.profile.now m settings report) asks.1
-      (subst (λ s. TellsTests session list.profile.now list.mode s report) asks.2 tells)),
+  subst (λ p. ReportsTests session p mode settings report) asks.0
+      (subst (λ m. ReportsTests session list.profile.now m settings report) asks.1
+      (subst (λ s. ReportsTests session list.profile.now list.mode s report) asks.2 tells)),
 )
 answers_list _ list session report asks tells = absurd asks
 
@@ -310,7 +310,7 @@ pub list_reported : (request : Request) (gathered : Gathered) (list : RequestedL
     (old new : Option (List ℕ)) → IsSessionOf request gathered session → AsksList request.question list
     → request.format ≡ formats.Text
     → WritesList session list.profile.now list.mode list.settings.now request.paper old new
-    → Tells request gathered 0 old new
+    → Reports request gathered 0 old new
 list_reported request gathered list session old new begun asks is_text writes = record {
   report = writes.report;
   is_answer = record {

@@ -9,13 +9,13 @@ use Rattle.rinqebo_report.specs.declared.report.Content.{Content}
 use Rattle.rinqebo_report.specs.declared.report.Report.{Report}
 use Rattle.rinqebo_run.specs.Checked.{IsCheckStatus}
 use Rattle.rinqebo_run.specs.Explained.{Explains}
-use Rattle.rinqebo_run.specs.Listed.{HasObjects, TellsTests}
+use Rattle.rinqebo_run.specs.Listed.{HasObjects, ReportsTests}
 use Rattle.rinqebo_load.specs.FindTests.{IsFoundFor}
 use Rattle.rinqebo_run.specs.LookedUp.{AreLookedUp}
 use Rattle.rinqebo_load.specs.SessionOf.{IsSessionOf}
-use Rattle.rinqebo_run.specs.RunsReasons.{TellsRunsReasons}
+use Rattle.rinqebo_run.specs.RunsReasons.{ReportsRunsReasons}
 use Rattle.rinqebo_run.specs.ShownConfig.{ShowsConfig}
-use Rattle.rinqebo_run.specs.TellsReasons.{TellsReasons}
+use Rattle.rinqebo_run.specs.ReportsReasons.{ReportsReasons}
 use Rattle.rinqebo_files.specs.declared.files.Gathered.{Gathered}
 use Rattle.rinqebo_request.specs.declared.request.Question.{Question}
 use Rattle.rinqebo_request.specs.declared.request.Question.TheVariants as questions
@@ -38,12 +38,12 @@ AnswersQuestion (questions.Explain profile test asked) session report status =
     (λ found. Explains session profile.now found asked report)
 AnswersQuestion (questions.Why profile test setting) session report status =
     (status ≡ 0) × IsAboutTest session test
-    (λ found. TellsReasons session profile.now found setting report)
+    (λ found. ReportsReasons session profile.now found setting report)
 AnswersQuestion (questions.WhyRuns profile test) session report status =
     (status ≡ 0) × IsAboutTest session test
-    (λ found. TellsRunsReasons session profile.now found report)
+    (λ found. ReportsRunsReasons session profile.now found report)
 AnswersQuestion (questions.List profile mode list asked) session report status =
-    (status ≡ 0) × TellsTests session profile.now mode asked report
+    (status ≡ 0) × ReportsTests session profile.now mode asked report
 AnswersQuestion (questions.ShowConfig profile keys with_hidden) session report status =
     ShowsConfig session profile.now (keys_view keys.items) with_hidden report status
 AnswersQuestion (questions.Check deny_warnings) session report status =
@@ -72,7 +72,7 @@ pub record IsAnswer (request : Request) (gathered : Gathered) (report : Report) 
 
 -- A writer received the page of a result: known bytes grew by exactly the report, in the format and
 -- on the paper of the request.
-pub record Tells (request : Request) (gathered : Gathered) (status : ℕ)
+pub record Reports (request : Request) (gathered : Gathered) (status : ℕ)
     (old new : Option (List ℕ)) : Type 0 where
   pub report : Report
   pub is_answer : IsAnswer request gathered report status

@@ -35,7 +35,7 @@ use Rattle.rinqebo_run.specs.Listed.{IsProfileOn}
 use Rattle.rinqebo_load.specs.SessionOf.{IsSessionOf}
 use Rattle.rinqebo_load.specs.Sessions.{files_view, readings}
 use Rattle.rinqebo_run.specs.Requested.{IsRequestedOf}
-use Rattle.rinqebo_run.specs.TellsReasons.{configured_by}
+use Rattle.rinqebo_run.specs.ReportsReasons.{configured_by}
 use Rattle.rinqebo_load.specs.declared.session.Session.{Session}
 
 -- the lines of tests on the page of a report

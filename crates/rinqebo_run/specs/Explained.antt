@@ -26,7 +26,7 @@ use Rattle.rinqebo_report.specs.declared.report.TestRows.{TestRows}
 use Rattle.rinqebo_request.specs.declared.request.RequestedSettings.{RequestedSettings}
 use Rattle.rinqebo_run.specs.Listed.{IsProfileOn}
 use Rattle.rinqebo_run.specs.Requested.{IsRequestedIn}
-use Rattle.rinqebo_run.specs.TellsReasons.{configured_by}
+use Rattle.rinqebo_run.specs.ReportsReasons.{configured_by}
 
 -- A report lists a test as the profile of a name gives it settings on the platforms of a build, and
 -- as the report of a list lists it: whether it runs, and the requested settings, in order, each

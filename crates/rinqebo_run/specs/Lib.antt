@@ -5,7 +5,7 @@ pub mod Checked
 pub mod Answered
 pub mod Refused
 pub mod Reasons
-pub mod TellsReasons
+pub mod ReportsReasons
 pub mod RunsReasons
 pub mod Listed
 pub mod ListedBy

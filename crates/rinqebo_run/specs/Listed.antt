@@ -37,7 +37,7 @@ use Rattle.rinqebo_rules.specs.Origins.{IsOriginOf}
 use Rattle.rinqebo_rules.specs.RulePlaces.{Place, id_place, script_place}
 use Rattle.rinqebo_load.specs.Sessions.{files_view, readings}
 use Rattle.rinqebo_run.specs.Requested.{IsRequestedIn}
-use Rattle.rinqebo_run.specs.TellsReasons.{configured_by}
+use Rattle.rinqebo_run.specs.ReportsReasons.{configured_by}
 use Rattle.rinqebo_load.specs.declared.session.Session.{Session}
 use Rattle.serde_json.specs.Data.{Data}
 use Rattle.serde_json.specs.View.{view}
@@ -105,7 +105,7 @@ HasObjects (contents.List asked tests unused scripts (Some objects)) = Unit {0}
 HasObjects _ = ⊥
 
 -- A report lists the tests of a list in a profile, by what the files mean.
-pub record TellsTests (session : Session) (profile : Name) (mode : NextestRunMode)
+pub record ReportsTests (session : Session) (profile : Name) (mode : NextestRunMode)
     (asked : RequestedSettings) (report : Report) : Type 0 where
   -- Every written rule holds of the files.
   pub acceptance : AreAccepted session

@@ -22,7 +22,7 @@ use Rattle.rinqebo_request.specs.declared.request.Question.{Question}
 use Rattle.rinqebo_request.specs.declared.request.Question.TheVariants as questions
 use Rattle.rinqebo_rules.specs.EvaluatedFilters.{Site, open_filters}
 use Rattle.rinqebo_run.specs.Listed.{IsProfileOn}
-use Rattle.rinqebo_run.specs.TellsReasons.{configured_by}
+use Rattle.rinqebo_run.specs.ReportsReasons.{configured_by}
 
 -- The filters that a profile evaluates and that were not looked up are these, on the platforms of a
 -- session and by what its files mean.

@@ -118,7 +118,7 @@ HasNoReport failures.Memory = Unit {0}
 
 -- A writer received the document of a failure, where the request is for JSON: known bytes grew by
 -- exactly the report of the failure, and the exit status is that of the failure.
-pub record TellsFailure (failure : Failure) (request : Request) (status : ℕ)
+pub record ReportsFailure (failure : Failure) (request : Request) (status : ℕ)
     (old new : Option (List ℕ)) : Type 0 where
   pub is_json : request.format ≡ formats.Json
   pub status_is : status ≡ failure_status failure
@@ -127,8 +127,8 @@ pub record TellsFailure (failure : Failure) (request : Request) (status : ℕ)
   pub page : Appends old new (rendered report request.format request.paper)
 
 -- A writer received the document of why a request has no result.
-pub record TellsRefusal (request : Request) (gathered : Gathered) (status : ℕ)
+pub record ReportsRefusal (request : Request) (gathered : Gathered) (status : ℕ)
     (old new : Option (List ℕ)) : Type 0 where
   pub failure : Failure
   pub fails : Fails request gathered failure
-  pub tells : TellsFailure failure request status old new
+  pub tells : ReportsFailure failure request status old new

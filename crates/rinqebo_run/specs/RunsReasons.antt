@@ -32,14 +32,14 @@ use Rattle.rinqebo_rules.specs.Conditions.{reported_answer}
 use Rattle.rinqebo_rules.specs.FilterRules.{FilterRule, filter_rule_view, filter_rules}
 use Rattle.rinqebo_rules.specs.Origins.{IsOriginOf}
 use Rattle.rinqebo_rules.specs.Runs.{is_selected}
-use Rattle.rinqebo_rules.specs.Told.{ReportedScalar, ReportedValue, value_view}
+use Rattle.rinqebo_rules.specs.Reported.{ReportedScalar, ReportedValue, value_view}
 use Rattle.rinqebo_rules.specs.VerdictsBy.{verdicts_by}
 use Rattle.rinqebo_rules.specs.declared.chain_rules.SettingRule.{SettingRule}
 use Rattle.rinqebo_rules.specs.declared.verdict.RuleVerdict.{RuleVerdict}
 use Rattle.rinqebo_rules.specs.declared.verdict.RuleVerdict.TheVariants as verdicts
 use Rattle.rinqebo_run.specs.Reasons.{page_verdict}
 use Rattle.rinqebo_run.specs.Requested.{IsRequestedIn}
-use Rattle.rinqebo_run.specs.TellsReasons.{IsTestNamed, configured_by}
+use Rattle.rinqebo_run.specs.ReportsReasons.{IsTestNamed, configured_by}
 
 -- What a report says of a default filter and a test, by whether the filter is the one that counts
 -- and whether that one matches the test: the program evaluates only the one that counts.
@@ -94,7 +94,7 @@ AreHeldReported layers matches rules given told = AllZip
 -- A report lists why a test runs or not, by the overrides that have a default filter and whether
 -- the one that counts matches the test: these overrides in order, with the result of each, and then
 -- the default filter of the chain of profiles, which counts where none of them decides.
-pub record AreRunsTold (layers : List Layer) (found : List FilterRule) (matches : Bool)
+pub record AreRunsReported (layers : List Layer) (found : List FilterRule) (matches : Bool)
     (rules : List Rule) : Type 0 where
   pub before : List Rule
   pub fallback : Rule
@@ -116,7 +116,7 @@ abbrev pub AreRunsReasons : {M K P : Type 0} → List Layer → (K → P → Opt
     → (M → Test → M → Bool) → BuildPlatforms P → FoundTest → EarlyModel M K → List Rule
     → Type 0
 AreRunsReasons layers meets matches platforms test profile rules =
-    AreRunsTold layers (filter_rules meets platforms profile.overrides)
+    AreRunsReported layers (filter_rules meets platforms profile.overrides)
     (is_selected_on matches (profile_on meets platforms profile) (found_view test).test) rules
 
 -- A report lists why a test runs or not in the profile of a name.
@@ -135,7 +135,7 @@ IfWhyRuns (contents.Why asked test key rules is_ignored) P =
 IfWhyRuns _ P = ⊥
 
 -- A report lists why a test runs or not in a profile, by what the files mean.
-pub record TellsRunsReasons (session : Session) (profile : List ℕ) (test : FoundTest)
+pub record ReportsRunsReasons (session : Session) (profile : List ℕ) (test : FoundTest)
     (report : Report) : Type 0 where
   -- Every written rule holds of the files.
   pub acceptance : AreAccepted session

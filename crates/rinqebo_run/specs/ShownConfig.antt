@@ -33,10 +33,10 @@ use Rattle.rinqebo_load.specs.declared.session.Session.{Session}
 use Rattle.rinqebo_run.specs.InForce.{IsInForce}
 use Rattle.rinqebo_run.specs.Listed.{IsProfileOn}
 use Rattle.rinqebo_run.specs.Requested.{IfRequested, IsRequestedOf}
-use Rattle.rinqebo_run.specs.TellsReasons.{configured_by}
+use Rattle.rinqebo_run.specs.ReportsReasons.{configured_by}
 
 -- An entry shows a leaf, at a place in the file of the leaf's layer.
-pub record TellsLeaf (leaf : Leaf) (entry : Entry) : Type 0 where
+pub record ReportsLeaf (leaf : Leaf) (entry : Entry) : Type 0 where
   pub place : FilePlace
   pub source : place.source ≡ leaf.layer
   pub is_entry : IsEntryOf leaf place entry
@@ -44,7 +44,7 @@ pub record TellsLeaf (leaf : Leaf) (entry : Entry) : Type 0 where
 -- entries show leaves one by one: all those whose values a report can show
 abbrev pub TellLeaves : List Leaf → List Entry → Type 0
 TellLeaves leaves entries =
-    AllZip TellsLeaf (filter (λ leaf. is_tellable leaf.value) leaves) entries
+    AllZip ReportsLeaf (filter (λ leaf. is_tellable leaf.value) leaves) entries
 
 -- Entries show the requested leaves in the layers of a chain of profiles.
 pub record AreShown (layers : List Node) (chain keys : List (List ℕ)) (with_hidden : Bool)

@@ -49,10 +49,10 @@ IsWordsStatus stops.Memory n = (n ≡ 5) ⊎ (n ≡ 6)
 
 -- The program reports words that are not a request: help goes to standard output, and why they are
 -- not one to standard error, beside which standard output receives nothing.
-abbrev pub TellsWords : ParseStop → Option (List ℕ) → Option (List ℕ) → Option (List ℕ)
+abbrev pub ReportsWords : ParseStop → Option (List ℕ) → Option (List ℕ) → Option (List ℕ)
     → Option (List ℕ) → Type 0
-TellsWords (stops.Help text) out_old out_new err_old err_new =
+ReportsWords (stops.Help text) out_old out_new err_old err_new =
     Appends out_old out_new (string_bytes text)
-TellsWords (stops.Usage text) out_old out_new err_old err_new =
+ReportsWords (stops.Usage text) out_old out_new err_old err_new =
     (out_new ≡ out_old) × Appends err_old err_new (string_bytes text)
-TellsWords stops.Memory out_old out_new err_old err_new = out_new ≡ out_old
+ReportsWords stops.Memory out_old out_new err_old err_new = out_new ≡ out_old

@@ -29,7 +29,7 @@ use Rattle.platform_language.specs.declared.expression.TargetSpec.{TargetSpec}
 use Rattle.nextest_lists.specs.ListView.{list_view}
 use Rattle.nextest_lists.specs.Lists.{ListTest, list_tests}
 use Rattle.rinqebo_run.specs.Begun.{AreFirstOf}
-use Rattle.rinqebo_run.specs.Listed.{TellsTests}
+use Rattle.rinqebo_run.specs.Listed.{ReportsTests}
 use Rattle.rinqebo_run.specs.ListedBy.{read_by}
 use Rattle.rinqebo_run.specs.Requested.{IsRequestedOf}
 use Rattle.rinqebo_run.specs.LookedUp.{IsLookedUp}
@@ -73,7 +73,7 @@ pub record WritesList (session : Session) (profile : Name) (mode : NextestRunMod
     (asked : RequestedSettings) (paper : Paper) (old new : Option (List ℕ)) : Type 0 where
   pub report : Report
   pub about : IsReportOf session report
-  pub tells : TellsTests session profile mode asked report
+  pub tells : ReportsTests session profile mode asked report
   pub looked_up : IsLookedUp session profile
   pub page : Appends old new (rendered report formats.Text paper)
 

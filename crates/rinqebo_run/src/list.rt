@@ -15,7 +15,7 @@ ghost use Rattle.nextest_lists.specs.Lists.{all_tests, list_tests};
 ghost use Rattle.rinqebo_rules.specs.Rows.{AreTestsReported};
 ghost use Rattle.rinqebo_rules.specs.Unused.{AreUnusedIn};
 ghost use Rattle.rinqebo_rules.specs.Conditions.{is_met_by};
-ghost use Rattle.rinqebo_run.specs.Listed.{HasObjects, IfListed, IsProfileOn, TellsTests};
+ghost use Rattle.rinqebo_run.specs.Listed.{HasObjects, IfListed, IsProfileOn, ReportsTests};
 ghost use Rattle.rinqebo_run.specs.ListedBy.{basis_of, read_by, listed_by};
 ghost use Rattle.rinqebo_run.specs.Requested.{IsRequestedIn};
 ghost use Rattle.rinqebo_run.specs.LookedUp.{IsFailureOn, IsLookedUp};
@@ -131,7 +131,7 @@ pub fn list<P: Progress>(
     asked: &RequestedSettings,
     progress: &mut P,
 ) -> Result<Report, Failure>
-    ensures ok { IfOk result (TellsTests session.now profile.now mode asked.now) }
+    ensures ok { IfOk result (ReportsTests session.now profile.now mode asked.now) }
     ensures about { IfOk result (IsReportOf session.now) }
     ensures looked_up { IfOk result (λ _. IsLookedUp session.now profile.now) }
     ensures objects { IfOk result (λ report. HasObjects report.content) }

@@ -1,6 +1,6 @@
 //! Writes a list as a text, test after test, as the program resolves them.
 ghost use Rattle.std.specs.Prelude.{◌≡◌, ◌⊎◌, IfErr, IfOk, OnOk};
-ghost use Rattle.rinqebo_run.specs.Answered.{Tells};
+ghost use Rattle.rinqebo_run.specs.Answered.{Reports};
 ghost use Rattle.rinqebo_run.specs.Refused.{Fails};
 ghost use Rattle.rinqebo_run.specs.LookedUp.{IsFailureOn};
 ghost use Rattle.rinqebo_run.specs.Begun.{BeginsList, IsBegun};
@@ -90,7 +90,7 @@ pub fn write_list<O: Write, E: Write>(
     requires question { AsksList request.now.question list.now }
     requires format { request.now.format ≡ formats.Text }
     ensures ok { OnOk result
-        (Tells request.now gathered.now 0 (O.contents out.old) (O.contents out.new)) }
+        (Reports request.now gathered.now 0 (O.contents out.old) (O.contents out.new)) }
     ensures err { IfErr result (StopsList (Fails request.now gathered.now)
         (IsBegun request.now gathered.now (O.contents out.old) (O.contents out.new))
         (O.contents out.old) (O.contents out.new)) }

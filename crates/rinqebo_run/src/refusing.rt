@@ -3,7 +3,7 @@ ghost use Rattle.std.specs.Prelude.{◌≡◌, ◌⊎◌, MatchOption};
 ghost use Rattle.std.specs.Io.KnownBytes.{Appends};
 ghost use Rattle.rinqebo_report.specs.Rendered.{rendered};
 ghost use Rattle.rinqebo_report.specs.declared.format.Format.TheVariants as formats;
-ghost use Rattle.rinqebo_run.specs.Refused.{HasNoReport, IsReportOfFailure, TellsFailure};
+ghost use Rattle.rinqebo_run.specs.Refused.{HasNoReport, IsReportOfFailure, ReportsFailure};
 ghost use Rattle.rinqebo_run.specs.Statuses.{failure_status};
 
 use crate::printing::{print_text, refuse_for_memory, refuse_message, refuse_with};
@@ -133,9 +133,9 @@ fn refuse_json<O: Write, E: Write>(
     requires json { request.now.format ≡ formats.Json }
     ensures status { (result ≡ failure_status failure.now) ⊎ (result ≡ 5) ⊎ (result ≡ 6) }
     ensures quiet { (result ≡ 6) ⊎ (O.contents out.new ≡ O.contents out.old)
-        ⊎ TellsFailure failure.now request.now result (O.contents out.old) (O.contents out.new) }
+        ⊎ ReportsFailure failure.now request.now result (O.contents out.old) (O.contents out.new) }
     ensures document { (result ≡ 3) ⊎ (result ≡ 4)
-        → TellsFailure failure.now request.now result (O.contents out.old) (O.contents out.new) }
+        → ReportsFailure failure.now request.now result (O.contents out.old) (O.contents out.new) }
 {
     match report_in(failure) {
         Some(report) => {
@@ -157,9 +157,9 @@ pub fn refuse_in<O: Write, E: Write>(
 ) -> u8
     ensures status { (result ≡ failure_status failure.now) ⊎ (result ≡ 5) ⊎ (result ≡ 6) }
     ensures quiet { (result ≡ 6) ⊎ (O.contents out.new ≡ O.contents out.old)
-        ⊎ TellsFailure failure.now request.now result (O.contents out.old) (O.contents out.new) }
+        ⊎ ReportsFailure failure.now request.now result (O.contents out.old) (O.contents out.new) }
     ensures document { request.now.format ≡ formats.Json → (result ≡ 3) ⊎ (result ≡ 4)
-        → TellsFailure failure.now request.now result (O.contents out.old) (O.contents out.new) }
+        → ReportsFailure failure.now request.now result (O.contents out.old) (O.contents out.new) }
 {
     match request.format {
         Format::Json => refuse_json(alloc, failure, request, out, err),

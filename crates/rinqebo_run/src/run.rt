@@ -7,14 +7,14 @@ ghost use Rattle.nextest_shape.specs.Page.{schema_data};
 ghost use Rattle.serde_json.specs.Written.{compact_text};
 ghost use Rattle.rinqebo_findings.specs.Reports.{IsReportOf};
 ghost use Rattle.rinqebo_report.specs.Rendered.{rendered};
-ghost use Rattle.rinqebo_run.specs.Answered.{AnswersQuestion, HasObjectsFor, IsAboutTest, IsAnswer, Tells};
+ghost use Rattle.rinqebo_run.specs.Answered.{AnswersQuestion, HasObjectsFor, IsAboutTest, IsAnswer, Reports};
 ghost use Rattle.rinqebo_run.specs.Begun.{IsBegun};
 ghost use Rattle.rinqebo_run.specs.Explained.{Explains};
 ghost use Rattle.rinqebo_run.specs.LookedUp.{AreLookedUp, IsLookedUp};
-ghost use Rattle.rinqebo_run.specs.Refused.{Fails, IsFailureAboutTest, IsFailureIn, IsReportedBy, TellsRefusal};
-ghost use Rattle.rinqebo_run.specs.RunsReasons.{TellsRunsReasons};
-ghost use Rattle.rinqebo_run.specs.TellsReasons.{TellsReasons};
-ghost use Rattle.rinqebo_run.specs.Statuses.{IsStatus, IsAnswerStatus, IsGatherStatus, IsWordsStatus, TellsWords};
+ghost use Rattle.rinqebo_run.specs.Refused.{Fails, IsFailureAboutTest, IsFailureIn, IsReportedBy, ReportsRefusal};
+ghost use Rattle.rinqebo_run.specs.RunsReasons.{ReportsRunsReasons};
+ghost use Rattle.rinqebo_run.specs.ReportsReasons.{ReportsReasons};
+ghost use Rattle.rinqebo_run.specs.Statuses.{IsStatus, IsAnswerStatus, IsGatherStatus, IsWordsStatus, ReportsWords};
 ghost use Rattle.rinqebo_run.specs.Written.{AsksList, IsStopStatus};
 ghost use Rattle.rinqebo_report.specs.declared.format.Format.TheVariants as formats;
 
@@ -106,7 +106,7 @@ fn why_of_test(
     setting: Setting,
 ) -> Result<Answer, Failure>
     ensures ok { IfOk result (λ answer. (answer.status ≡ 0) × IsAboutTest session.now test.now
-        (λ found. TellsReasons session.now profile.now found setting answer.report)) }
+        (λ found. ReportsReasons session.now profile.now found setting answer.report)) }
     ensures about { IfOk result (λ answer. IsReportOf session.now answer.report) }
     ensures looked_up { IfOk result (λ _. IsLookedUp session.now profile.now) }
     ensures err { IfErr result (IsFailureAboutTest session.now profile.now test.now) }
@@ -124,7 +124,7 @@ fn why_runs_of(
     path: Option<&str>,
 ) -> Result<Answer, Failure>
     ensures ok { IfOk result (λ answer. (answer.status ≡ 0) × IsAboutTest session.now test.now
-        (λ found. TellsRunsReasons session.now profile.now found answer.report)) }
+        (λ found. ReportsRunsReasons session.now profile.now found answer.report)) }
     ensures about { IfOk result (λ answer. IsReportOf session.now answer.report) }
     ensures looked_up { IfOk result (λ _. IsLookedUp session.now profile.now) }
     ensures err { IfErr result (IsFailureAboutTest session.now profile.now test.now) }
@@ -251,12 +251,12 @@ fn answer_whole<O: Write, E: Write>(
     ensures status { IsStatus request.now.question result }
     ensures quiet { IsAnswerStatus request.now.question result ⊎ (result ≡ 6)
         ⊎ (O.contents out.new ≡ O.contents out.old)
-        ⊎ TellsRefusal request.now gathered.now result (O.contents out.old) (O.contents out.new) }
+        ⊎ ReportsRefusal request.now gathered.now result (O.contents out.old) (O.contents out.new) }
     ensures page { IsAnswerStatus request.now.question result
-        → Tells request.now gathered.now result (O.contents out.old) (O.contents out.new) }
+        → Reports request.now gathered.now result (O.contents out.old) (O.contents out.new) }
     ensures refusal { request.now.format ≡ formats.Json → (result ≡ 3) ⊎ (result ≡ 4)
         → IsAnswerStatus request.now.question result
-        ⊎ TellsRefusal request.now gathered.now result (O.contents out.old) (O.contents out.new) }
+        ⊎ ReportsRefusal request.now gathered.now result (O.contents out.old) (O.contents out.new) }
     ensures cause { IsReportedBy request.now gathered.now result }
 {
     let mut progress = ProgressLine::new(&mut *err, request.shows_progress);
@@ -320,7 +320,7 @@ fn answer_list<O: Write, E: Write>(
         ⊎ (O.contents out.new ≡ O.contents out.old) ⊎ ((result ≡ 5)
         × IsBegun request.now gathered.now (O.contents out.old) (O.contents out.new)) }
     ensures page { IsAnswerStatus request.now.question result
-        → Tells request.now gathered.now result (O.contents out.old) (O.contents out.new) }
+        → Reports request.now gathered.now result (O.contents out.old) (O.contents out.new) }
     ensures cause { IsReportedBy request.now gathered.now result }
 {
     match write_list(alloc, request, list, gathered, out, err) {
@@ -351,12 +351,12 @@ pub fn perform<O: Write, E: Write>(
     ensures quiet { IsAnswerStatus request.now.question result ⊎ (result ≡ 6)
         ⊎ (O.contents out.new ≡ O.contents out.old) ⊎ ((result ≡ 5)
         × IsBegun request.now gathered.now (O.contents out.old) (O.contents out.new))
-        ⊎ TellsRefusal request.now gathered.now result (O.contents out.old) (O.contents out.new) }
+        ⊎ ReportsRefusal request.now gathered.now result (O.contents out.old) (O.contents out.new) }
     ensures page { IsAnswerStatus request.now.question result
-        → Tells request.now gathered.now result (O.contents out.old) (O.contents out.new) }
+        → Reports request.now gathered.now result (O.contents out.old) (O.contents out.new) }
     ensures refusal { request.now.format ≡ formats.Json → (result ≡ 3) ⊎ (result ≡ 4)
         → IsAnswerStatus request.now.question result
-        ⊎ TellsRefusal request.now gathered.now result (O.contents out.old) (O.contents out.new) }
+        ⊎ ReportsRefusal request.now gathered.now result (O.contents out.old) (O.contents out.new) }
     ensures cause { IsReportedBy request.now gathered.now result }
 {
     match text_list(request) {
@@ -381,7 +381,7 @@ pub fn print_schema<O: Write, E: Write>(alloc: Global, out: &mut O, err: &mut E)
 /// Reports why words are not a request, and returns the exit status. Help goes to standard output.
 pub fn refuse_words<O: Write, E: Write>(stop: &ParseStop, out: &mut O, err: &mut E) -> u8
     ensures status { IsWordsStatus stop.now result }
-    ensures told { (result ≡ 6) ⊎ TellsWords stop.now (O.contents out.old) (O.contents out.new)
+    ensures told { (result ≡ 6) ⊎ ReportsWords stop.now (O.contents out.old) (O.contents out.new)
         (E.contents err.old) (E.contents err.new) }
 {
     match stop {

@@ -13,7 +13,7 @@ ghost use Rattle.platform_language.specs.Expressions.{spec_view};
 ghost use Rattle.rinqebo_rules.specs.RulePlaces.{place_view};
 ghost use Rattle.rinqebo_rules.specs.Trees.{trees_of};
 ghost use Rattle.rinqebo_run.specs.ListedBy.{read_by};
-ghost use Rattle.rinqebo_run.specs.ShownConfig.{TellsLeaf, TellLeaves, AreShown, AreShownOf, IsShownBy, shown_status, ShowsConfig};
+ghost use Rattle.rinqebo_run.specs.ShownConfig.{ReportsLeaf, TellLeaves, AreShown, AreShownOf, IsShownBy, shown_status, ShowsConfig};
 
 use crate::answer::Answer;
 use crate::asked::requested_of;
@@ -40,7 +40,7 @@ fn reported_leaf(
     leaf: &LayerLeaf<'_>,
 ) -> Result<Option<Entry>, AllocError>
     ensures { IfOk result (λ told. MatchOption told
-        (is_tellable (leaf_view leaf.now).value ≡ false) (TellsLeaf (leaf_view leaf.now))) }
+        (is_tellable (leaf_view leaf.now).value ≡ false) (ReportsLeaf (leaf_view leaf.now))) }
 {
     let path = steps_of(alloc, leaf)?;
     let place = path_place(layers, leaf.layer, &path);

@@ -16,8 +16,8 @@ ghost use Rattle.rinqebo_findings.specs.Reports.{IsReportOf};
 ghost use Rattle.rinqebo_rules.specs.RuleViews.{setting_rule_view, Rule as ReadRule};
 ghost use Rattle.rinqebo_rules.specs.declared.conditions.Asking.{Asking};
 ghost use Rattle.rinqebo_run.specs.Requested.{IsRequestedIn};
-ghost use Rattle.rinqebo_run.specs.TellsReasons.{AreReasons, AreReasonsIn, IfWhy, IsTestNamed, TellsReasons};
-ghost use Rattle.rinqebo_rules.specs.Told.{reported_of, value_view};
+ghost use Rattle.rinqebo_run.specs.ReportsReasons.{AreReasons, AreReasonsIn, IfWhy, IsTestNamed, ReportsReasons};
+ghost use Rattle.rinqebo_rules.specs.Reported.{reported_of, value_view};
 
 use crate::answer::Answer;
 use crate::asked::requested_of;
@@ -276,7 +276,7 @@ pub fn why(
 ) -> Result<Answer, Failure>
     ensures status { IfOk result (λ answer. answer.status ≡ 0) }
     ensures ok { IfOk result (λ answer.
-        TellsReasons session.now profile.now test.now setting answer.report) }
+        ReportsReasons session.now profile.now test.now setting answer.report) }
     ensures about { IfOk result (λ answer. IsReportOf session.now answer.report) }
     ensures looked_up { IfOk result (λ _. IsLookedUp session.now profile.now) }
     ensures err { IfErr result (IsFailureOn session.now profile.now) }

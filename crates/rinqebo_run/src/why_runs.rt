@@ -7,13 +7,13 @@ ghost use Rattle.nextest_tables.specs.FileTexts.{names_in, IsIn};
 ghost use Rattle.rinqebo_report.specs.declared.report.Verdict.TheVariants as told;
 ghost use Rattle.rinqebo_rules.specs.Conditions.{is_met_by, filter_matches};
 ghost use Rattle.rinqebo_rules.specs.FilterRules.{filter_rule_view};
-ghost use Rattle.rinqebo_rules.specs.Told.{value_view};
+ghost use Rattle.rinqebo_rules.specs.Reported.{value_view};
 ghost use Rattle.rinqebo_run.specs.ListedBy.{read_by};
 ghost use Rattle.rinqebo_run.specs.LookedUp.{IsFailureOn, IsLookedUp};
 ghost use Rattle.rinqebo_findings.specs.Reports.{IsReportOf};
 ghost use Rattle.rinqebo_run.specs.Requested.{IsRequestedIn};
-ghost use Rattle.rinqebo_run.specs.RunsReasons.{AreHeldReported, AreRunsReasons, AreRunsReasonsIn, IfWhyRuns, IsFilterRuleReported, TellsRunsReasons, default_answer, default_value, is_decision};
-ghost use Rattle.rinqebo_run.specs.TellsReasons.{IsTestNamed};
+ghost use Rattle.rinqebo_run.specs.RunsReasons.{AreHeldReported, AreRunsReasons, AreRunsReasonsIn, IfWhyRuns, IsFilterRuleReported, ReportsRunsReasons, default_answer, default_value, is_decision};
+ghost use Rattle.rinqebo_run.specs.ReportsReasons.{IsTestNamed};
 
 use crate::answer::Answer;
 use crate::asked::requested_of;
@@ -224,7 +224,7 @@ pub fn why_runs(
 ) -> Result<Answer, Failure>
     ensures status { IfOk result (λ answer. answer.status ≡ 0) }
     ensures ok { IfOk result (λ answer.
-        TellsRunsReasons session.now profile.now test.now answer.report) }
+        ReportsRunsReasons session.now profile.now test.now answer.report) }
     ensures about { IfOk result (λ answer. IsReportOf session.now answer.report) }
     ensures looked_up { IfOk result (λ _. IsLookedUp session.now profile.now) }
     ensures err { IfErr result (IsFailureOn session.now profile.now) }

@@ -1,6 +1,6 @@
 -- No failure has the number of an answer, or that of a wrong size.
 use Rattle.std.proofs.Common.{◌≢◌, ◌∙◌, ℕ, Result, Ok, Err, arith, sym}
-use Rattle.rinqebo_session.specs.Answering.{AnswersBy}
+use Rattle.rinqebo_session.specs.Answering.{ReturnsBy}
 use Rattle.rinqebo_session.specs.Asking.{fault_status}
 use Rattle.rinqebo_session.specs.Statuses.{open_status}
 use Rattle.rinqebo_session.specs.declared.failure.OpenFailure.{OpenFailure}
@@ -33,7 +33,7 @@ failure_of_no_size opens.Memory is = omega arith
 
 -- what a profile answers never has the number of a wrong size
 pub answer_of_no_size : (outcome : Result Opened OpenFailure) (asked : CallerTest) (n : SettingNumbers)
-    (status : ℕ) → AnswersBy outcome asked n status → status ≢ BAD_SIZE
+    (status : ℕ) → ReturnsBy outcome asked n status → status ≢ BAD_SIZE
 answer_of_no_size (Ok opened) asked n status answers is =
     let failed = answers.refused (λ done. omega arith) in
     fault_of_no_size failed.0 (sym failed.2 ∙ is)

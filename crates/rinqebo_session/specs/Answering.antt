@@ -85,16 +85,16 @@ pub record IsAnswerOf (opened : Opened) (asked : CallerTest) (n : SettingNumbers
 
 -- An open profile returns the numbers of a test; or the test is not understood or lacks a part that
 -- a filter uses, and the status says so.
-pub record AnswersTest (opened : Opened) (asked : CallerTest) (n : SettingNumbers) (status : ℕ)
+pub record ReturnsTest (opened : Opened) (asked : CallerTest) (n : SettingNumbers) (status : ℕ)
     : Type 0 where
   pub answered : status ≡ DONE → IsAnswerOf opened asked n
   pub refused : status ≢ DONE
       → (fault : TestFault) × IsFaultIn opened asked fault × (status ≡ fault_status fault)
 
 -- what a profile returns; where it is not open, the status says why
-abbrev pub AnswersBy : Result Opened OpenFailure → CallerTest → SettingNumbers → ℕ → Type 0
-AnswersBy (Ok opened) asked n status = AnswersTest opened asked n status
-AnswersBy (Err failure) asked n status = status ≡ open_status failure
+abbrev pub ReturnsBy : Result Opened OpenFailure → CallerTest → SettingNumbers → ℕ → Type 0
+ReturnsBy (Ok opened) asked n status = ReturnsTest opened asked n status
+ReturnsBy (Err failure) asked n status = status ≡ open_status failure
 
 -- the sizes in a test and in settings are those of this version
 abbrev pub AreSized : CallerTest → SettingNumbers → Type 0
@@ -104,6 +104,6 @@ AreSized asked old = (asked.size ≡ test_size) × (old.size ≡ settings_size)
 -- the status says so; and where it returns none, the settings stay as they were.
 pub record Answers (profile : Profile) (asked : CallerTest) (old new : SettingNumbers)
     (status : ℕ) : Type 0 where
-  pub sized : AreSized asked old → AnswersBy profile.outcome asked new status
+  pub sized : AreSized asked old → ReturnsBy profile.outcome asked new status
   pub bad_size : (status ≡ BAD_SIZE) ↔ (¬ AreSized asked old)
   pub kept : status ≢ DONE → new ≡ old

@@ -36,20 +36,20 @@ IsCopiedOrNone text old new needed status =
     (λ text. IsCopiedOut text old new needed status)
 
 -- what an open profile returns: an argument, or the fault of the test
-abbrev pub AnswersArgument : Opened → CallerTest → ℕ → List ℕ → List ℕ → ℕ → ℕ
+abbrev pub ReturnsArgument : Opened → CallerTest → ℕ → List ℕ → List ℕ → ℕ → ℕ
     → Type 0
-AnswersArgument opened asked index old new needed status =
+ReturnsArgument opened asked index old new needed status =
     ((text : Option (List ℕ)) × IsArgumentOf opened asked index text
     × IsCopiedOrNone text old new needed status)
     ⊎ ((fault : TestFault) × IsFaultIn opened asked fault
     × IsNothingCopied (fault_status fault) old new needed status)
 
 -- what a profile returns; where it is not open, the status says why
-abbrev pub AnswersArgumentBy : Result Opened OpenFailure → CallerTest → ℕ → List ℕ → List ℕ
+abbrev pub ReturnsArgumentBy : Result Opened OpenFailure → CallerTest → ℕ → List ℕ → List ℕ
     → ℕ → ℕ → Type 0
-AnswersArgumentBy (Ok opened) asked index old new needed status =
-    AnswersArgument opened asked index old new needed status
-AnswersArgumentBy (Err failure) asked index old new needed status =
+ReturnsArgumentBy (Ok opened) asked index old new needed status =
+    ReturnsArgument opened asked index old new needed status
+ReturnsArgumentBy (Err failure) asked index old new needed status =
     IsNothingCopied (open_status failure) old new needed status
 
 -- The argument of an index that a profile gives to a test is copied out. Where the size in the test
@@ -57,5 +57,5 @@ AnswersArgumentBy (Err failure) asked index old new needed status =
 pub record IsArgumentCopied (profile : Profile) (asked : CallerTest) (index : ℕ)
     (old new : List ℕ) (needed status : ℕ) : Type 0 where
   pub sized : asked.size ≡ test_size
-      → AnswersArgumentBy profile.outcome asked index old new needed status
+      → ReturnsArgumentBy profile.outcome asked index old new needed status
   pub bad_size : (¬ (asked.size ≡ test_size)) → IsNothingCopied BAD_SIZE old new needed status

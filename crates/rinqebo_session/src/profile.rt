@@ -2,9 +2,9 @@
 ghost use Rattle.std.specs.Prelude.{◌≡◌, ◌≢◌, ◌↔◌, IfOk, IfErr, IsTrue, map, option_map, slice_get, string_bytes};
 ghost use Rattle.nextest_load.specs.ConfigView.{groups_view};
 ghost use Rattle.nextest_scripts.specs.ScriptId.{script_text};
-ghost use Rattle.rinqebo_session.specs.Answering.{Answers, AnswersBy, AnswersTest, AreSized, IsAnswerOf};
+ghost use Rattle.rinqebo_session.specs.Answering.{ReturnsNumbers, ReturnsBy, ReturnsTest, AreSized, IsAnswerOf};
 ghost use Rattle.rinqebo_objects.specs.Scripts.{directories_view};
-ghost use Rattle.rinqebo_session.specs.Arguments.{AnswersArgument, AnswersArgumentBy, IsArgumentCopied, IsArgumentOf, IsCopiedOrNone};
+ghost use Rattle.rinqebo_session.specs.Arguments.{ReturnsArgument, ReturnsArgumentBy, IsArgumentCopied, IsArgumentOf, IsCopiedOrNone};
 ghost use Rattle.rinqebo_session.specs.Asking.{needs_on, IsFaultIn, IsKnownTest};
 ghost use Rattle.rinqebo_session.specs.Opening.{directories_in, group_entry, IsObjectsText, IsOpened, IsNotOpened, IsProfileIn, IsOpenedIn};
 ghost use Rattle.nextest_engines.specs.Engines.{test_view};
@@ -277,7 +277,7 @@ impl Opened<'_> {
 
     /// Writes the settings of a test, as numbers, or returns why there are none.
     fn write_answer(&self, test: &CallerTest<'_>, settings: &mut SettingNumbers) -> u32
-        ensures answers { AnswersTest self.now test.now settings.new result }
+        ensures answers { ReturnsTest self.now test.now settings.new result }
         ensures kept { result ≢ DONE → settings.new ≡ settings.old }
     {
         match self.answer(test) {
@@ -313,7 +313,7 @@ impl Opened<'_> {
         out: &mut [u8],
         needed: &mut usize,
     ) -> u32
-        ensures { AnswersArgument self.now test.now index out.old out.new needed.new result }
+        ensures { ReturnsArgument self.now test.now index out.old out.new needed.new result }
     {
         match self.argument(test, index) {
             Ok(text) => copy_text_or_none(text, out, needed),
@@ -362,7 +362,7 @@ impl<'a> Profile<'a> {
 
     /// Writes the settings of a test, as numbers, where the profile is open.
     fn ask_if_open(&self, test: &CallerTest<'_>, settings: &mut SettingNumbers) -> u32
-        ensures answers { AnswersBy self.now.outcome test.now settings.new result }
+        ensures answers { ReturnsBy self.now.outcome test.now settings.new result }
         ensures kept { result ≢ DONE → settings.new ≡ settings.old }
     {
         match &self.outcome {
@@ -375,7 +375,7 @@ impl<'a> Profile<'a> {
     /// the two is not this version's, or there are no settings, nothing is written. It takes no
     /// memory.
     pub fn ask(&self, test: &CallerTest<'_>, settings: &mut SettingNumbers) -> u32
-        ensures { Answers self.now test.now settings.old settings.new result }
+        ensures { ReturnsNumbers self.now test.now settings.old settings.new result }
     {
         if !are_sized(test, settings) {
             return BAD_SIZE;
@@ -392,7 +392,7 @@ impl<'a> Profile<'a> {
         out: &mut [u8],
         needed: &mut usize,
     ) -> u32
-        ensures { AnswersArgumentBy self.now.outcome test.now index out.old out.new needed.new
+        ensures { ReturnsArgumentBy self.now.outcome test.now index out.old out.new needed.new
             result }
     {
         match &self.outcome {

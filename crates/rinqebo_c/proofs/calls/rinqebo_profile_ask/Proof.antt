@@ -31,7 +31,7 @@ use denote.Triple.Spec.{triple_of}
 use denote.Triple.Table.{framed}
 use denote.Triple.Walked.{says, Stay, Stays, walk_of, stay_dropped, Goes, Goes-dropped, ends_at}
 use Rattle.rinqebo_c.specs.Handles.{lent_profile, profile_row}
-use Rattle.rinqebo_session.specs.Answering.{Answers}
+use Rattle.rinqebo_session.specs.Answering.{ReturnsNumbers}
 use Rattle.rinqebo_session.proofs.profile.Profile.TheLaws as held
 use Rattle.rinqebo_session.specs.contracts.test.CallerTest as asked
 use Rattle.rinqebo_session.specs.declared.settings.SettingNumbers.{SettingNumbers}
@@ -126,7 +126,7 @@ rinqebo_profile_ask_spec 𝓤 𝓛 𝓜 𝓡 wired =
     (u32.own_val w (v ∷ []))) ⊛
     some (λ (ws : Unit {0} × (Unit {0} × (SettingNumbers × Unit {0}))). ‵
     (lasts g.ended z.0.0 z.0.3 ws) ⊛ raw
-    (fact 𝓤 (Answers x test.now settings.now ws.1.1.0 w)))))) (id⊢ 𝓤 _) $
+    (fact 𝓤 (ReturnsNumbers x test.now settings.now ws.1.1.0 w)))))) (id⊢ 𝓤 _) $
     await ! tt $ pick ! (λ w. split ! $ move ! (1 ∷ []) $ pick ! (λ ws. split ! $ move ! (1 ∷ []) $ heard ! _ (λ is.
     fsplit ! $ drop ! $ fsplit ! $ drop ! $ fsplit ! $ move ! (1 ∷ []) $ drop ! $
     -- [`settings` at its last value; the tokens and the answer; what a `&` holds]

@@ -3,7 +3,7 @@ use Rattle.std.proofs.lemmas.List.Elements.{All-push}
 use Rattle.nextest_tree.specs.View.{tree_view}
 use Rattle.rinqebo_rules.proofs.Moved.{one_moved}
 use Rattle.rinqebo_rules.specs.AsWritten.{IsMemberAsWritten}
-use Rattle.rinqebo_rules.specs.Told.{field_view}
+use Rattle.rinqebo_rules.specs.Reported.{field_view}
 use Rattle.rinqebo_rules.proofs.as_written.members_as_written.Goals as goal
 
 pub loop-member-preserved : goal.loop-member-preserved

@@ -1,7 +1,7 @@
 use Rattle.std.proofs.Common.{◌≡◌, ◌++◌, All, map, option_map}
 use Rattle.nextest_tree.specs.View.{tree_view}
 use Rattle.rinqebo_rules.specs.AsWritten.{IsMemberAsWritten}
-use Rattle.rinqebo_rules.specs.Told.{field_view}
+use Rattle.rinqebo_rules.specs.Reported.{field_view}
 use Rattle.rinqebo_rules.proofs.as_written.members_as_written.Given as goal
 
 -- the members so far, and those that are left

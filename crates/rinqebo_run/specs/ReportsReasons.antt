@@ -33,7 +33,7 @@ use Rattle.rinqebo_rules.specs.Origins.{key_steps}
 use Rattle.rinqebo_rules.specs.SettingRules.{rules_for}
 use Rattle.rinqebo_load.specs.declared.found_test.FoundTest.{FoundTest}
 use Rattle.rinqebo_load.specs.declared.session.Session.{Session}
-use Rattle.rinqebo_rules.specs.Told.{reported_of, value_view}
+use Rattle.rinqebo_rules.specs.Reported.{reported_of, value_view}
 
 -- A report lists the rules of a setting for a test: each override of a profile, in order, or for a
 -- run wrapper each script rule, with its result on the platforms of a build, and then what counts
@@ -81,7 +81,7 @@ IfWhy (contents.Why asked test key rules is_ignored) P = P test (string_bytes ke
 IfWhy _ P = ⊥
 
 -- A report lists the rules of a setting for a test in a profile, by what the files mean.
-pub record TellsReasons (session : Session) (profile : List ℕ) (test : FoundTest) (s : Setting)
+pub record ReportsReasons (session : Session) (profile : List ℕ) (test : FoundTest) (s : Setting)
     (report : Report) : Type 0 where
   -- Every written rule holds of the files.
   pub acceptance : AreAccepted session
