@@ -1,5 +1,5 @@
 -- Faults that are added.
-use Rattle.std.proofs.Common.{◌≡◌, ℕ, List, [], ◌∷◌, ◌++◌, map, Option, Some, None, option_map, refl, sym, ap, ◌∙◌, append_assoc, subst}
+use Rattle.std.proofs.Common.{◌≡◌, ℕ, List, [], ◌∷◌, ◌++◌, map, Option, Some, option_map, sym, ap, ◌∙◌, append_assoc, subst}
 use Rattle.std.proofs.lemmas.List.{append-nil, map-append}
 use Rattle.nextest_places.specs.declared.step.Step.{Step}
 use Rattle.nextest_tree.specs.declared.fault.ElementCause.{ElementCause}
@@ -34,12 +34,6 @@ left_more old now new xs rest left all is parts added =
     ∙ ap (λ t. map found_view now ++ t)
     (sym (map-append (λ f. Some f) xs rest) ∙ ap (map (λ f. Some f)) (sym parts))
     ∙ is
-
--- those that are left, written another way
-pub left_same : (old now : List FoundFault) (left rest all : List Fault) → Left old now left all → left ≡ rest
-    → Left old now rest all
-left_same old now left rest all is same =
-    ap (λ l. map found_view now ++ map (λ f. Some f) l) (sym same) ∙ is
 
 -- none is left
 pub left_none : (old now : List FoundFault) (left all : List Fault) → Left old now left all → left ≡ []

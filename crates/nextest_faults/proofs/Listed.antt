@@ -1,5 +1,5 @@
 -- The faults of keys, fields, entries and items, one after another.
-use Rattle.std.proofs.Common.{◌≡◌, ◌<◌, ◌+◌, ℕ, List, [], ◌∷◌, ◌++◌, Bool, true, false, not, cond, Option, Some, None, map, filter, length, drop, get_or, String, Global, string_bytes, refl, sym, ap, ◌∙◌}
+use Rattle.std.proofs.Common.{◌≡◌, ◌<◌, ◌+◌, ℕ, List, [], ◌∷◌, ◌++◌, Bool, false, not, cond, Option, Some, None, map, filter, length, drop, get_or, refl, sym, ap, ◌∙◌}
 use Rattle.std.proofs.lemmas.List.{drop_more}
 use Rattle.std.specs.Fmt.{decimal}
 use Rattle.nextest_tree.specs.declared.key.Key.{Key}
@@ -18,12 +18,7 @@ unknown_keys names p ks =
     map (λ k. record { path = below p k; cause = unknown_field })
     (filter (λ k. not (is_one_of (map key_text names) k)) ks)
 
--- a key that is among the names
-pub known_key : (names : List Key) (p k : List ℕ) (ks : List (List ℕ)) → is_one_of (map key_text names) k ≡ true
-    → unknown_keys names p (k ∷ ks) ≡ unknown_keys names p ks
-known_key names p k ks is = rw is refl
-
--- a key that is not
+-- a key that is not among the names
 pub unknown_key : (names : List Key) (p k : List ℕ) (ks : List (List ℕ)) → is_one_of (map key_text names) k ≡ false
     → unknown_keys names p (k ∷ ks) ≡ record { path = below p k; cause = unknown_field } ∷ unknown_keys names p ks
 unknown_key names p k ks is = rw is refl

@@ -1,6 +1,6 @@
 -- Trees as the nodes that they stand for.
-use Rattle.std.proofs.Common.{◌≡◌, ℤ, List, [], ◌∷◌, None, Some, String, Global, length, string_bytes, rules, refl}
-use Rattle.nextest_tree.specs.Node.{text, int}
+use Rattle.std.proofs.Common.{◌≡◌, List, [], ◌∷◌, None, String, Global, length, string_bytes, rules, refl}
+use Rattle.nextest_tree.specs.Node.{text}
 use Rattle.nextest_tree.specs.View.{nodes_view, tree_view}
 use Rattle.nextest_tree.specs.declared.tree.Tree as trees
 use Rattle.nextest_tree.specs.declared.tree.Tree.{Tree}

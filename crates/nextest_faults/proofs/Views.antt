@@ -1,17 +1,37 @@
 -- Places as the schemas that they stand for, and their faults.
 use Rattle.std.proofs.Common.{◌≡◌, ℕ, List, [], ◌∷◌, ◌++◌, Vec, Box, Global, Option, Some, None, rules, refl, sym, ap, ◌∙◌}
 use Rattle.nextest_tree.specs.Node.{Node, table, array, text, int, bool, opaque, Nodes, Entries, as_table, as_array}
-use Rattle.nextest_tree.specs.Schema.{Fault, FaultCause, Schema, any, leaf, fields, map_of, items_of, Fields, field, append_fields, at, each_entry, each_item, faults, fields_faults, names_of, others_faults, wrong_kind}
+use Rattle.nextest_tree.specs.Schema.{FaultCause, Schema, any, leaf, fields, map_of, items_of, Fields, field, append_fields, at, each_entry, each_item, faults, fields_faults, names_of, others_faults, wrong_kind}
 use Rattle.nextest_tree.specs.Schema as schemas
+use Rattle.nextest_tree.specs.Leaf.{a_text, a_bool}
+use Rattle.nextest_texts.specs.IdentifierReader.{an_identifier}
+use Rattle.nextest_texts.specs.Nanoseconds.{a_duration}
+use Rattle.nextest_elements.specs.FlakyResult.{a_flaky_result}
+use Rattle.nextest_elements.specs.Junit.{a_report_skip_policy, a_junit_flaky_fail_status}
+use Rattle.nextest_elements.specs.LeakTimeout.{a_leak_result}
+use Rattle.nextest_elements.specs.MaxFail.{a_limit}
+use Rattle.nextest_elements.specs.Positive.{a_positive}
+use Rattle.nextest_elements.specs.RetryPolicy.{a_backoff, a_count}
+use Rattle.nextest_elements.specs.SlowTimeout.{a_slow_result}
+use Rattle.nextest_elements.specs.StatusLevel.{a_status_level, a_final_status_level}
+use Rattle.nextest_elements.specs.TestGroup.{a_test_group}
+use Rattle.nextest_elements.specs.TestOutputDisplay.{a_test_output_display}
+use Rattle.nextest_elements.specs.TestPriority.{a_priority}
+use Rattle.nextest_elements.specs.TestThreads.{a_test_threads}
+use Rattle.nextest_elements.specs.ThreadsRequired.{a_threads_required}
+use Rattle.nextest_scripts.specs.Command.{a_relative_to}
+use Rattle.nextest_scripts.specs.SetupScript.{a_setup_result}
+use Rattle.nextest_scripts.specs.WrapperScript.{a_target_runner}
 use Rattle.nextest_faults.specs.declared.across.Across.{Across}
 use Rattle.nextest_faults.specs.declared.across.AcrossItems.{AcrossItems}
 use Rattle.nextest_faults.specs.declared.across.Names.{Names}
 use Rattle.nextest_faults.specs.declared.leaf.Leaf.{Leaf}
+use Rattle.nextest_faults.specs.declared.leaf.Leaf.TheVariants as leaves
 use Rattle.nextest_faults.specs.declared.place.Field.{Field}
 use Rattle.nextest_faults.specs.declared.place.Others.{Others}
 use Rattle.nextest_faults.specs.declared.place.Place as places
 use Rattle.nextest_faults.specs.declared.place.Place.{Place}
-use Rattle.nextest_faults.specs.Places.{across_test, fields_view, items_test, leaf_test, names_test, need_test, others_view, place_view}
+use Rattle.nextest_faults.specs.Places.{across_test, fields_view, items_test, leaf_schema, leaf_test, names_test, need_test, others_view, place_view}
 use Rattle.nextest_faults.proofs.Listed.{entry_faults}
 
 -- some fields, and then others
@@ -24,7 +44,37 @@ fields_view-append (x ∷ xs) ys =
 view-Anything : place_view places.Anything ≡ any
 view-Anything = search (rules, places.the_lemmas)
 
-view-Leaf : (l : Leaf) → place_view (places.Leaf l) ≡ leaf (leaf_test l)
+-- the schema of a single value has its test
+schema-test : (l : Leaf) → leaf_schema l ≡ leaf (leaf_test l)
+unfolding a_text a_bool a_duration an_identifier a_test_group a_flaky_result a_status_level a_final_status_level a_test_output_display a_priority a_test_threads a_threads_required a_positive a_limit a_count a_backoff a_leak_result a_slow_result a_setup_result a_report_skip_policy a_junit_flaky_fail_status a_relative_to a_target_runner
+schema-test leaves.Text = refl
+schema-test leaves.Boolean = refl
+schema-test leaves.Duration = refl
+schema-test leaves.Identifier = refl
+schema-test leaves.TestGroup = refl
+schema-test leaves.FlakyResult = refl
+schema-test leaves.StatusLevel = refl
+schema-test leaves.FinalStatusLevel = refl
+schema-test leaves.Output = refl
+schema-test leaves.Priority = refl
+schema-test leaves.TestThreads = refl
+schema-test leaves.ThreadsRequired = refl
+schema-test leaves.Positive = refl
+schema-test leaves.Limit = refl
+schema-test leaves.Count = refl
+schema-test leaves.Backoff = refl
+schema-test leaves.LeakResult = refl
+schema-test leaves.SlowResult = refl
+schema-test leaves.SetupResult = refl
+schema-test leaves.ReportSkipped = refl
+schema-test leaves.FlakyFailStatus = refl
+schema-test leaves.RelativeTo = refl
+schema-test leaves.TargetRunner = refl
+schema-test leaves.CommandLine = refl
+schema-test leaves.Table = refl
+schema-test leaves.Array = refl
+
+view-Leaf : (l : Leaf) → place_view (places.Leaf l) ≡ leaf_schema l
 view-Leaf l = search (rules, places.the_lemmas)
 
 view-Table : (how : Others) (other : Box Place Global) (fs : Vec (Field Place) Global) (across : Across)
@@ -64,7 +114,7 @@ module _ (place : Place) (p : List ℕ) where
   of_anything n is = sym (ap (λ s. faults s p n) (ap place_view is ∙ view-Anything))
 
   pub of_leaf : (l : Leaf) (n : Node) → place ≡ places.Leaf l → at p (leaf_test l n) ≡ faults (place_view place) p n
-  of_leaf l n is = sym (ap (λ s. faults s p n) (ap place_view is ∙ view-Leaf l))
+  of_leaf l n is = sym (ap (λ s. faults s p n) (ap place_view is ∙ view-Leaf l ∙ schema-test l))
 
   pub of_table : (how : Others) (other : Box Place Global) (fs : Vec (Field Place) Global) (across : Across)
       (n : Node) (es : Entries) → place ≡ places.Table how other fs across → Some es ≡ as_table n

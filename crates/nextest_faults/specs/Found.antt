@@ -1,5 +1,5 @@
 -- Faults that are found, as contracts see them.
-use Rattle.std.specs.Prelude.{◌≡◌, ℕ, List, [], ◌∷◌, ◌++◌, fold, map, Option, None, Some, option_map, string_bytes}
+use Rattle.std.specs.Prelude.{◌≡◌, ℕ, List, [], ◌++◌, fold, map, Option, None, Some, option_map, string_bytes}
 use Rattle.std.specs.Fmt.{decimal}
 use Rattle.nextest_places.specs.declared.step.Step.{Step}
 use Rattle.nextest_places.specs.declared.step.Step.TheVariants as steps
@@ -46,7 +46,8 @@ path_text path = fold (λ p step. below p (step_text step)) [] path
 -- the fault of the definitions that one which is found is
 abbrev pub found_view : FoundFault → Option Fault
 found_view f =
-    option_map (λ c. let fault : Fault = record { path = path_text f.path.items; cause = c } in fault)
+    option_map
+    (λ c. let fault : Fault = record { path = path_text f.path.items; cause = c } in fault)
     (cause_view f.cause)
 
 -- exactly these faults of the definitions were added

@@ -1,29 +1,29 @@
 -- The schema that a `Place` stands for.
-use Rattle.std.specs.Prelude.{ℕ, Bool, true, false, List, [], ◌∷◌, map, Option, None, Some}
-use Rattle.nextest_tree.specs.Leaf.{cause_of, text_at, bool_at, any_key}
+use Rattle.std.specs.Prelude.{ℕ, Bool, true, false, List, [], ◌∷◌, map, Option, None}
+use Rattle.nextest_tree.specs.Leaf.{cause_of, text_at, a_text, bool_at, a_bool, any_key}
 use Rattle.nextest_tree.specs.Node.{Node, Nodes, Entries}
 use Rattle.nextest_tree.specs.Schema.{FaultCause, Schema, any, leaf, fields, map_of, items_of, are_noted, are_refused, Fields, no_more, field, not_table, not_array}
-use Rattle.nextest_tree.specs.Schema as Schema
-use Rattle.nextest_texts.specs.IdentifierReader.{identifier_at, identifier_cause}
-use Rattle.nextest_texts.specs.Nanoseconds.{duration_at}
-use Rattle.nextest_elements.specs.FlakyResult.{flaky_result_at}
-use Rattle.nextest_elements.specs.Junit.{report_skip_policy_at, junit_flaky_fail_status_at}
-use Rattle.nextest_elements.specs.LeakTimeout.{leak_result_at}
-use Rattle.nextest_elements.specs.MaxFail.{limit_at}
-use Rattle.nextest_elements.specs.Positive.{positive_at}
-use Rattle.nextest_elements.specs.RetryPolicy.{backoff_at, count_at, grows_in, retry_across}
-use Rattle.nextest_elements.specs.SlowTimeout.{slow_result_at}
-use Rattle.nextest_elements.specs.StatusLevel.{status_level_at, final_status_level_at}
-use Rattle.nextest_elements.specs.TestGroup.{test_group_at}
-use Rattle.nextest_elements.specs.TestOutputDisplay.{test_output_display_at}
-use Rattle.nextest_elements.specs.TestPriority.{priority_at}
-use Rattle.nextest_elements.specs.TestThreads.{test_threads_at}
-use Rattle.nextest_elements.specs.ThreadsRequired.{threads_required_at}
-use Rattle.nextest_scripts.specs.Command.{relative_to_at}
+use Rattle.nextest_tree.specs.Schema as schemas
+use Rattle.nextest_texts.specs.IdentifierReader.{identifier_at, identifier_cause, an_identifier}
+use Rattle.nextest_texts.specs.Nanoseconds.{duration_at, a_duration}
+use Rattle.nextest_elements.specs.FlakyResult.{flaky_result_at, a_flaky_result}
+use Rattle.nextest_elements.specs.Junit.{report_skip_policy_at, a_report_skip_policy, junit_flaky_fail_status_at, a_junit_flaky_fail_status}
+use Rattle.nextest_elements.specs.LeakTimeout.{leak_result_at, a_leak_result}
+use Rattle.nextest_elements.specs.MaxFail.{limit_at, a_limit}
+use Rattle.nextest_elements.specs.Positive.{positive_at, a_positive}
+use Rattle.nextest_elements.specs.RetryPolicy.{backoff_at, a_backoff, count_at, a_count, grows_in, retry_across}
+use Rattle.nextest_elements.specs.SlowTimeout.{slow_result_at, a_slow_result}
+use Rattle.nextest_elements.specs.StatusLevel.{status_level_at, a_status_level, final_status_level_at, a_final_status_level}
+use Rattle.nextest_elements.specs.TestGroup.{test_group_at, a_test_group}
+use Rattle.nextest_elements.specs.TestOutputDisplay.{test_output_display_at, a_test_output_display}
+use Rattle.nextest_elements.specs.TestPriority.{priority_at, a_priority}
+use Rattle.nextest_elements.specs.TestThreads.{test_threads_at, a_test_threads}
+use Rattle.nextest_elements.specs.ThreadsRequired.{threads_required_at, a_threads_required}
+use Rattle.nextest_scripts.specs.Command.{relative_to_at, a_relative_to}
 use Rattle.nextest_scripts.specs.CommandLine.{line_cause, list_cause}
 use Rattle.nextest_scripts.specs.EnvMap.{env_key_cause}
-use Rattle.nextest_scripts.specs.SetupScript.{setup_result_at}
-use Rattle.nextest_scripts.specs.WrapperScript.{target_runner_at}
+use Rattle.nextest_scripts.specs.SetupScript.{setup_result_at, a_setup_result}
+use Rattle.nextest_scripts.specs.WrapperScript.{target_runner_at, a_target_runner}
 use Rattle.nextest_faults.specs.declared.across.Across.{Across}
 use Rattle.nextest_faults.specs.declared.across.Across.TheVariants as across_tests
 use Rattle.nextest_faults.specs.declared.across.AcrossItems.{AcrossItems}
@@ -70,6 +70,35 @@ leaf_test leaves.CommandLine = line_cause
 leaf_test leaves.Table = not_table
 leaf_test leaves.Array = not_array
 
+-- the schema of a single value
+abbrev pub leaf_schema : Leaf → Schema
+leaf_schema leaves.Text = a_text
+leaf_schema leaves.Boolean = a_bool
+leaf_schema leaves.Duration = a_duration
+leaf_schema leaves.Identifier = an_identifier
+leaf_schema leaves.TestGroup = a_test_group
+leaf_schema leaves.FlakyResult = a_flaky_result
+leaf_schema leaves.StatusLevel = a_status_level
+leaf_schema leaves.FinalStatusLevel = a_final_status_level
+leaf_schema leaves.Output = a_test_output_display
+leaf_schema leaves.Priority = a_priority
+leaf_schema leaves.TestThreads = a_test_threads
+leaf_schema leaves.ThreadsRequired = a_threads_required
+leaf_schema leaves.Positive = a_positive
+leaf_schema leaves.Limit = a_limit
+leaf_schema leaves.Count = a_count
+leaf_schema leaves.Backoff = a_backoff
+leaf_schema leaves.LeakResult = a_leak_result
+leaf_schema leaves.SlowResult = a_slow_result
+leaf_schema leaves.SetupResult = a_setup_result
+leaf_schema leaves.ReportSkipped = a_report_skip_policy
+leaf_schema leaves.FlakyFailStatus = a_junit_flaky_fail_status
+leaf_schema leaves.RelativeTo = a_relative_to
+leaf_schema leaves.TargetRunner = a_target_runner
+leaf_schema leaves.CommandLine = leaf line_cause
+leaf_schema leaves.Table = leaf not_table
+leaf_schema leaves.Array = leaf not_array
+
 -- the test over several fields
 abbrev pub across_test : Across → (Entries → Option FaultCause)
 across_test across_tests.Nothing = λ es. None
@@ -93,7 +122,7 @@ need_test needs.Must = λ es. true
 need_test needs.Growing = grows_in
 
 -- what becomes of other keys
-abbrev pub others_view : Others → Schema.Others
+abbrev pub others_view : Others → schemas.Others
 others_view others.Noted = are_noted
 others_view others.Refused = are_refused
 
@@ -105,7 +134,7 @@ fields_of (f ∷ fs) = field f.key (need_test f.need) f.place (fields_of fs)
 -- one level, with each place inside already seen as its schema
 abbrev pub place_step : Place-F Schema → Schema
 place_step Place-F.Anything = any
-place_step (Place-F.Leaf l) = leaf (leaf_test l)
+place_step (Place-F.Leaf l) = leaf_schema l
 place_step (Place-F.Table how other fs across) =
     fields (others_view how) other.value (fields_of fs.items) (across_test across)
 place_step (Place-F.Map names values) = map_of (names_test names) values.value

@@ -11,82 +11,78 @@ ghost use Rattle.nextest_faults.specs.Places.{place_view, fields_view};
 
 use crate::across::{Across, Need};
 use crate::leaf::Leaf;
-use crate::parts::{joined, may, must, table, table_or};
+use crate::parts::{joined, may, must, table, table_or, value};
 use crate::place::{Field, Others, Place};
 use nextest_tree::Key;
 use std::alloc::{AllocError, Global};
 
 /// How often a test is tried again.
-#[tactic(auto, unfolding(nextest_tree::specs::Leaf::a_bool, nextest_texts::specs::Nanoseconds::a_duration, nextest_elements::specs::RetryPolicy::a_count, nextest_elements::specs::RetryPolicy::a_backoff))]
 pub(crate) fn retries(alloc: Global) -> Result<Place, AllocError>
     ensures { IfOk result (λ place. place_view place ≡ retry) }
 {
     let fields = vec![in alloc;
-        must(Key::Backoff, Place::Leaf(Leaf::Backoff)),
-        must(Key::Count, Place::Leaf(Leaf::Count)),
+        must(Key::Backoff, value(Leaf::Backoff)),
+        must(Key::Count, value(Leaf::Count)),
         Field {
             key: Key::Delay,
             need: Need::Growing,
-            place: Place::Leaf(Leaf::Duration),
+            place: value(Leaf::Duration),
         },
-        may(Key::Jitter, Place::Leaf(Leaf::Boolean)),
-        may(Key::MaxDelay, Place::Leaf(Leaf::Duration)),
+        may(Key::Jitter, value(Leaf::Boolean)),
+        may(Key::MaxDelay, value(Leaf::Duration)),
     ]?;
     Ok(Place::Table {
         others: Others::Noted,
-        other: Box::new(alloc, Place::Leaf(Leaf::Count))?,
+        other: Box::new(alloc, value(Leaf::Count))?,
         fields,
         across: Across::Delays,
     })
 }
 
 /// When a test counts as slow, and when it is ended.
-#[tactic(auto, unfolding(nextest_texts::specs::Nanoseconds::a_duration, nextest_elements::specs::Positive::a_positive, nextest_elements::specs::SlowTimeout::a_slow_result))]
 pub(crate) fn slow(alloc: Global) -> Result<Place, AllocError>
     ensures { IfOk result (λ place. place_view place ≡ slow_timeout) }
 {
     let fields = vec![in alloc;
-        must(Key::Period, Place::Leaf(Leaf::Duration)),
-        may(Key::TerminateAfter, Place::Leaf(Leaf::Positive)),
-        may(Key::GracePeriod, Place::Leaf(Leaf::Duration)),
-        may(Key::OnTimeout, Place::Leaf(Leaf::SlowResult)),
+        must(Key::Period, value(Leaf::Duration)),
+        may(Key::TerminateAfter, value(Leaf::Positive)),
+        may(Key::GracePeriod, value(Leaf::Duration)),
+        may(Key::OnTimeout, value(Leaf::SlowResult)),
     ]?;
-    table_or(alloc, Place::Leaf(Leaf::Duration), fields)
+    table_or(alloc, value(Leaf::Duration), fields)
 }
 
 /// How long what a test started may outlive it.
-#[tactic(auto, unfolding(nextest_texts::specs::Nanoseconds::a_duration, nextest_elements::specs::LeakTimeout::a_leak_result))]
 pub(crate) fn leak(alloc: Global) -> Result<Place, AllocError>
     ensures { IfOk result (λ place. place_view place ≡ leak_timeout) }
 {
     let fields = vec![in alloc;
-        must(Key::Period, Place::Leaf(Leaf::Duration)),
-        may(Key::Result, Place::Leaf(Leaf::LeakResult)),
+        must(Key::Period, value(Leaf::Duration)),
+        may(Key::Result, value(Leaf::LeakResult)),
     ]?;
-    table_or(alloc, Place::Leaf(Leaf::Duration), fields)
+    table_or(alloc, value(Leaf::Duration), fields)
 }
 
 /// After how many failures a run ends.
-#[tactic(auto, unfolding(nextest_tree::specs::Leaf::a_bool, nextest_elements::specs::MaxFail::a_limit, nextest_elements::specs::MaxFail::a_max_fail))]
+#[tactic(auto, unfolding(nextest_elements::specs::MaxFail::a_max_fail))]
 pub(crate) fn max_fail(alloc: Global) -> Result<Place, AllocError>
     ensures { IfOk result (λ place. place_view place ≡ a_max_fail) }
 {
     let fields = vec![in alloc;
-        must(Key::MaxFail, Place::Leaf(Leaf::Limit)),
+        must(Key::MaxFail, value(Leaf::Limit)),
         may(Key::Terminate, Place::Anything),
     ]?;
-    table_or(alloc, Place::Leaf(Leaf::Boolean), fields)
+    table_or(alloc, value(Leaf::Boolean), fields)
 }
 
 /// The timeouts of benchmarks of a profile.
-#[tactic(auto, unfolding(nextest_texts::specs::Nanoseconds::a_duration))]
 pub(crate) fn profile_bench(alloc: Global) -> Result<Place, AllocError>
     ensures { IfOk result (λ place. place_view place ≡ bench) }
 {
     let slow = slow(alloc)?;
     let fields = vec![in alloc;
         may(Key::SlowTimeout, slow),
-        may(Key::GlobalTimeout, Place::Leaf(Leaf::Duration)),
+        may(Key::GlobalTimeout, value(Leaf::Duration)),
     ]?;
     table(alloc, fields)
 }
@@ -101,15 +97,14 @@ pub(crate) fn override_bench(alloc: Global) -> Result<Place, AllocError>
 }
 
 /// The fields of a report that profiles and overrides share.
-#[tactic(auto, unfolding(nextest_tree::specs::Leaf::a_bool, nextest_elements::specs::Junit::a_report_skip_policy, nextest_elements::specs::Junit::a_junit_flaky_fail_status))]
 fn report_fields(alloc: Global) -> Result<Vec<Field<Place>>, AllocError>
     ensures { IfOk result (λ fields. fields_view fields.items ≡ junit_override_fields) }
 {
     Ok(vec![in alloc;
-        may(Key::StoreSuccessOutput, Place::Leaf(Leaf::Boolean)),
-        may(Key::StoreFailureOutput, Place::Leaf(Leaf::Boolean)),
-        may(Key::ReportSkipped, Place::Leaf(Leaf::ReportSkipped)),
-        may(Key::FlakyFailStatus, Place::Leaf(Leaf::FlakyFailStatus)),
+        may(Key::StoreSuccessOutput, value(Leaf::Boolean)),
+        may(Key::StoreFailureOutput, value(Leaf::Boolean)),
+        may(Key::ReportSkipped, value(Leaf::ReportSkipped)),
+        may(Key::FlakyFailStatus, value(Leaf::FlakyFailStatus)),
     ]?)
 }
 
@@ -122,22 +117,21 @@ pub(crate) fn override_junit(alloc: Global) -> Result<Place, AllocError>
 }
 
 /// The report of a profile.
-#[tactic(auto, unfolding(nextest_tree::specs::Leaf::a_text, nextest_elements::specs::Junit::a_junit))]
+#[tactic(auto, unfolding(nextest_elements::specs::Junit::a_junit))]
 pub(crate) fn profile_junit(alloc: Global) -> Result<Place, AllocError>
     ensures { IfOk result (λ place. place_view place ≡ a_junit) }
 {
     let own = vec![in alloc;
-        may(Key::Path, Place::Leaf(Leaf::Text)),
-        may(Key::ReportName, Place::Leaf(Leaf::Text)),
+        may(Key::Path, value(Leaf::Text)),
+        may(Key::ReportName, value(Leaf::Text)),
     ]?;
     table(alloc, joined(own, report_fields(alloc)?)?)
 }
 
 /// A group of tests.
-#[tactic(auto, unfolding(nextest_elements::specs::TestThreads::a_test_threads))]
 pub(crate) fn group(alloc: Global) -> Result<Place, AllocError>
     ensures { IfOk result (λ place. place_view place ≡ group_config) }
 {
-    let fields = vec![in alloc; must(Key::MaxThreads, Place::Leaf(Leaf::TestThreads))]?;
+    let fields = vec![in alloc; must(Key::MaxThreads, value(Leaf::TestThreads))]?;
     table(alloc, fields)
 }

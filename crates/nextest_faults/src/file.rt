@@ -11,7 +11,7 @@ use crate::element_places::group;
 use crate::found::FoundFault;
 use crate::leaf::Leaf;
 use crate::listing::add_faults;
-use crate::parts::{map_by, may, must, table};
+use crate::parts::{map_by, may, must, table, value};
 use crate::place::Place;
 use crate::profile_places::profile;
 use crate::script_places::{setup_script, wrapper_script};
@@ -19,11 +19,11 @@ use nextest_tree::{Key, Tree};
 use std::alloc::{AllocError, Global};
 
 /// The store.
-#[tactic(auto, unfolding(nextest_tree::specs::Leaf::a_text, nextest_tables::specs::Tables::a_store))]
+#[tactic(auto, unfolding(nextest_tables::specs::Tables::a_store))]
 fn store(alloc: Global) -> Result<Place, AllocError>
     ensures { IfOk result (λ place. place_view place ≡ a_store) }
 {
-    let fields = vec![in alloc; must(Key::Dir, Place::Leaf(Leaf::Text))]?;
+    let fields = vec![in alloc; must(Key::Dir, value(Leaf::Text))]?;
     table(alloc, fields)
 }
 
@@ -61,8 +61,8 @@ fn file(alloc: Global) -> Result<Place, AllocError>
 }
 
 /// Returns all faults of the elements of a file, in the order of places: a load refuses the file
-/// for the first of them. The file is the tree of its text laid over the table of defaults, as a load
-/// reads it.
+/// for the first of them. The file is the tree of its text laid over the table of defaults, as a
+/// load reads it.
 ///
 /// # Errors
 /// Memory was refused.

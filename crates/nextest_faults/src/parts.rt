@@ -1,7 +1,7 @@
 //! Places that others are made of.
 ghost use Rattle.std.specs.Prelude.{◌≡◌, IfOk, None, map};
 ghost use Rattle.nextest_tree.specs.Schema.{append_fields, fields, are_noted, list_of, map_of, struct};
-ghost use Rattle.nextest_faults.specs.Places.{names_test, field_view, fields_view, place_view};
+ghost use Rattle.nextest_faults.specs.Places.{leaf_schema, names_test, field_view, fields_view, place_view};
 ghost use Rattle.nextest_faults.specs.declared.across.Need.TheVariants as needs;
 
 use crate::across::{Across, AcrossItems, Names, Need};
@@ -9,6 +9,13 @@ use crate::leaf::Leaf;
 use crate::place::{Field, Others, Place};
 use nextest_tree::Key;
 use std::alloc::{AllocError, Global};
+
+/// A value of a kind.
+pub(crate) fn value(kind: Leaf) -> Place
+    ensures { place_view result ≡ leaf_schema kind }
+{
+    Place::Leaf(kind)
+}
 
 /// A field that may be absent.
 pub(crate) fn may(key: Key, place: Place) -> Field<Place>
@@ -55,7 +62,7 @@ pub(crate) fn table_or(
 pub(crate) fn table(alloc: Global, fields: Vec<Field<Place>>) -> Result<Place, AllocError>
     ensures { IfOk result (λ place. place_view place ≡ struct (fields_view fields.items)) }
 {
-    table_or(alloc, Place::Leaf(Leaf::Table), fields)
+    table_or(alloc, value(Leaf::Table), fields)
 }
 
 /// A list of items.
@@ -63,7 +70,7 @@ pub(crate) fn list(alloc: Global, items: Place) -> Result<Place, AllocError>
     ensures { IfOk result (λ place. place_view place ≡ list_of (place_view items)) }
 {
     Ok(Place::List {
-        other: Box::new(alloc, Place::Leaf(Leaf::Array))?,
+        other: Box::new(alloc, value(Leaf::Array))?,
         items: Box::new(alloc, items)?,
         across: AcrossItems::Nothing,
     })

@@ -5,51 +5,47 @@ ghost use Rattle.nextest_faults.specs.Places.{place_view, fields_view};
 
 use crate::element_places::{leak, max_fail, profile_bench, profile_junit, retries, slow};
 use crate::leaf::Leaf;
-use crate::parts::{joined, list, may, table};
+use crate::parts::{joined, list, may, table, value};
 use crate::place::{Field, Place};
 use crate::rule_places::{an_override, script_rule};
 use nextest_tree::Key;
 use std::alloc::{AllocError, Global};
 
 /// The default filter of a profile.
-#[tactic(auto, unfolding(nextest_tree::specs::Leaf::a_text))]
 fn profile_head(alloc: Global) -> Result<Vec<Field<Place>>, AllocError>
     ensures { IfOk result (λ fields. fields_view fields.items ≡ profile_head_fields) }
 {
-    Ok(vec![in alloc; may(Key::DefaultFilter, Place::Leaf(Leaf::Text))]?)
+    Ok(vec![in alloc; may(Key::DefaultFilter, value(Leaf::Text))]?)
 }
 
 /// How a profile has tests run.
-#[tactic(auto, unfolding(nextest_tree::specs::Leaf::a_text, nextest_elements::specs::FlakyResult::a_flaky_result, nextest_elements::specs::TestThreads::a_test_threads, nextest_elements::specs::ThreadsRequired::a_threads_required))]
 fn profile_runs(alloc: Global) -> Result<Vec<Field<Place>>, AllocError>
     ensures { IfOk result (λ fields. fields_view fields.items ≡ profile_run_fields) }
 {
     let retries = retries(alloc)?;
-    let arguments = list(alloc, Place::Leaf(Leaf::Text))?;
+    let arguments = list(alloc, value(Leaf::Text))?;
     Ok(vec![in alloc;
         may(Key::Retries, retries),
-        may(Key::FlakyResult, Place::Leaf(Leaf::FlakyResult)),
-        may(Key::TestThreads, Place::Leaf(Leaf::TestThreads)),
-        may(Key::ThreadsRequired, Place::Leaf(Leaf::ThreadsRequired)),
+        may(Key::FlakyResult, value(Leaf::FlakyResult)),
+        may(Key::TestThreads, value(Leaf::TestThreads)),
+        may(Key::ThreadsRequired, value(Leaf::ThreadsRequired)),
         may(Key::RunExtraArgs, arguments),
     ]?)
 }
 
 /// What a profile has shown.
-#[tactic(auto, unfolding(nextest_elements::specs::StatusLevel::a_status_level, nextest_elements::specs::StatusLevel::a_final_status_level, nextest_elements::specs::TestOutputDisplay::a_test_output_display))]
 fn profile_outputs(alloc: Global) -> Result<Vec<Field<Place>>, AllocError>
     ensures { IfOk result (λ fields. fields_view fields.items ≡ profile_output_fields) }
 {
     Ok(vec![in alloc;
-        may(Key::StatusLevel, Place::Leaf(Leaf::StatusLevel)),
-        may(Key::FinalStatusLevel, Place::Leaf(Leaf::FinalStatusLevel)),
-        may(Key::FailureOutput, Place::Leaf(Leaf::Output)),
-        may(Key::SuccessOutput, Place::Leaf(Leaf::Output)),
+        may(Key::StatusLevel, value(Leaf::StatusLevel)),
+        may(Key::FinalStatusLevel, value(Leaf::FinalStatusLevel)),
+        may(Key::FailureOutput, value(Leaf::Output)),
+        may(Key::SuccessOutput, value(Leaf::Output)),
     ]?)
 }
 
 /// When a profile has a run or a test ended.
-#[tactic(auto, unfolding(nextest_texts::specs::Nanoseconds::a_duration))]
 fn profile_ends(alloc: Global) -> Result<Vec<Field<Place>>, AllocError>
     ensures { IfOk result (λ fields. fields_view fields.items ≡ profile_end_fields) }
 {
@@ -59,13 +55,12 @@ fn profile_ends(alloc: Global) -> Result<Vec<Field<Place>>, AllocError>
     Ok(vec![in alloc;
         may(Key::FailFast, fail_fast),
         may(Key::SlowTimeout, slow),
-        may(Key::GlobalTimeout, Place::Leaf(Leaf::Duration)),
+        may(Key::GlobalTimeout, value(Leaf::Duration)),
         may(Key::LeakTimeout, leak),
     ]?)
 }
 
 /// The lists and tables of a profile, and what it inherits from.
-#[tactic(auto, unfolding(nextest_tree::specs::Leaf::a_text))]
 fn profile_rest(alloc: Global) -> Result<Vec<Field<Place>>, AllocError>
     ensures { IfOk result (λ fields. fields_view fields.items ≡ profile_rest_fields) }
 {
@@ -79,7 +74,7 @@ fn profile_rest(alloc: Global) -> Result<Vec<Field<Place>>, AllocError>
         may(Key::Junit, junit),
         may(Key::Archive, Place::Anything),
         may(Key::Bench, bench),
-        may(Key::Inherits, Place::Leaf(Leaf::Text)),
+        may(Key::Inherits, value(Leaf::Text)),
     ]?)
 }
 

@@ -6,67 +6,64 @@ ghost use Rattle.nextest_faults.specs.Places.{place_view, fields_view};
 use crate::across::AcrossItems;
 use crate::element_places::{leak, override_bench, override_junit, retries, slow};
 use crate::leaf::Leaf;
-use crate::parts::{joined, list, may, table, table_or};
+use crate::parts::{joined, list, may, table, table_or, value};
 use crate::place::{Field, Place};
 use nextest_tree::Key;
 use std::alloc::{AllocError, Global};
 
 /// The platforms of a rule.
-#[tactic(auto, unfolding(nextest_tree::specs::Leaf::a_text, nextest_tables::specs::Tables::a_platform))]
+#[tactic(auto, unfolding(nextest_tables::specs::Tables::a_platform))]
 fn platform(alloc: Global) -> Result<Place, AllocError>
     ensures { IfOk result (λ place. place_view place ≡ a_platform) }
 {
     let fields = vec![in alloc;
-        may(Key::Host, Place::Leaf(Leaf::Text)),
-        may(Key::Target, Place::Leaf(Leaf::Text)),
+        may(Key::Host, value(Leaf::Text)),
+        may(Key::Target, value(Leaf::Text)),
     ]?;
-    table_or(alloc, Place::Leaf(Leaf::Text), fields)
+    table_or(alloc, value(Leaf::Text), fields)
 }
 
 /// Which tests an override is for, their priority, and its default filter.
-#[tactic(auto, unfolding(nextest_tree::specs::Leaf::a_text, nextest_elements::specs::TestPriority::a_priority))]
 fn override_head(alloc: Global) -> Result<Vec<Field<Place>>, AllocError>
     ensures { IfOk result (λ fields. fields_view fields.items ≡ override_head_fields) }
 {
     let platform = platform(alloc)?;
     Ok(vec![in alloc;
         may(Key::Platform, platform),
-        may(Key::Filter, Place::Leaf(Leaf::Text)),
-        may(Key::Priority, Place::Leaf(Leaf::Priority)),
-        may(Key::DefaultFilter, Place::Leaf(Leaf::Text)),
+        may(Key::Filter, value(Leaf::Text)),
+        may(Key::Priority, value(Leaf::Priority)),
+        may(Key::DefaultFilter, value(Leaf::Text)),
     ]?)
 }
 
 /// How an override has tests run.
-#[tactic(auto, unfolding(nextest_tree::specs::Leaf::a_text, nextest_elements::specs::ThreadsRequired::a_threads_required, nextest_elements::specs::FlakyResult::a_flaky_result))]
 fn override_runs(alloc: Global) -> Result<Vec<Field<Place>>, AllocError>
     ensures { IfOk result (λ fields. fields_view fields.items ≡ override_run_fields) }
 {
-    let arguments = list(alloc, Place::Leaf(Leaf::Text))?;
+    let arguments = list(alloc, value(Leaf::Text))?;
     let retries = retries(alloc)?;
     let slow = slow(alloc)?;
     let leak = leak(alloc)?;
     Ok(vec![in alloc;
-        may(Key::ThreadsRequired, Place::Leaf(Leaf::ThreadsRequired)),
+        may(Key::ThreadsRequired, value(Leaf::ThreadsRequired)),
         may(Key::RunExtraArgs, arguments),
         may(Key::Retries, retries),
-        may(Key::FlakyResult, Place::Leaf(Leaf::FlakyResult)),
+        may(Key::FlakyResult, value(Leaf::FlakyResult)),
         may(Key::SlowTimeout, slow),
         may(Key::LeakTimeout, leak),
     ]?)
 }
 
 /// What an override has grouped, shown and reported.
-#[tactic(auto, unfolding(nextest_elements::specs::TestGroup::a_test_group, nextest_elements::specs::TestOutputDisplay::a_test_output_display))]
 fn override_outputs(alloc: Global) -> Result<Vec<Field<Place>>, AllocError>
     ensures { IfOk result (λ fields. fields_view fields.items ≡ override_output_fields) }
 {
     let junit = override_junit(alloc)?;
     let bench = override_bench(alloc)?;
     Ok(vec![in alloc;
-        may(Key::TestGroup, Place::Leaf(Leaf::TestGroup)),
-        may(Key::SuccessOutput, Place::Leaf(Leaf::Output)),
-        may(Key::FailureOutput, Place::Leaf(Leaf::Output)),
+        may(Key::TestGroup, value(Leaf::TestGroup)),
+        may(Key::SuccessOutput, value(Leaf::Output)),
+        may(Key::FailureOutput, value(Leaf::Output)),
         may(Key::Junit, junit),
         may(Key::Bench, bench),
     ]?)
@@ -82,19 +79,19 @@ pub(crate) fn an_override(alloc: Global) -> Result<Place, AllocError>
 }
 
 /// An id of a script, or a list of ids.
-#[tactic(auto, unfolding(nextest_texts::specs::IdentifierReader::an_identifier, nextest_tables::specs::Tables::script_ids))]
+#[tactic(auto, unfolding(nextest_tables::specs::Tables::script_ids))]
 fn ids(alloc: Global) -> Result<Place, AllocError>
     ensures { IfOk result (λ place. place_view place ≡ script_ids) }
 {
     Ok(Place::List {
-        other: Box::new(alloc, Place::Leaf(Leaf::Identifier))?,
-        items: Box::new(alloc, Place::Leaf(Leaf::Identifier))?,
+        other: Box::new(alloc, value(Leaf::Identifier))?,
+        items: Box::new(alloc, value(Leaf::Identifier))?,
         across: AcrossItems::Nothing,
     })
 }
 
 /// A script rule.
-#[tactic(auto, unfolding(nextest_tree::specs::Leaf::a_text, nextest_texts::specs::IdentifierReader::an_identifier, nextest_tables::specs::Tables::a_script_rule))]
+#[tactic(auto, unfolding(nextest_tables::specs::Tables::a_script_rule))]
 pub(crate) fn script_rule(alloc: Global) -> Result<Place, AllocError>
     ensures { IfOk result (λ place. place_view place ≡ a_script_rule) }
 {
@@ -102,10 +99,10 @@ pub(crate) fn script_rule(alloc: Global) -> Result<Place, AllocError>
     let ids = ids(alloc)?;
     let fields = vec![in alloc;
         may(Key::Platform, platform),
-        may(Key::Filter, Place::Leaf(Leaf::Text)),
+        may(Key::Filter, value(Leaf::Text)),
         may(Key::Setup, ids),
-        may(Key::ListWrapper, Place::Leaf(Leaf::Identifier)),
-        may(Key::RunWrapper, Place::Leaf(Leaf::Identifier)),
+        may(Key::ListWrapper, value(Leaf::Identifier)),
+        may(Key::RunWrapper, value(Leaf::Identifier)),
     ]?;
     table(alloc, fields)
 }

@@ -9,34 +9,34 @@ ghost use Rattle.nextest_faults.specs.Places.{place_view};
 use crate::across::{Across, AcrossItems, Names};
 use crate::element_places::leak;
 use crate::leaf::Leaf;
-use crate::parts::{map_by, may, must, table, table_or};
+use crate::parts::{map_by, may, must, table, table_or, value};
 use crate::place::{Others, Place};
 use nextest_tree::Key;
 use std::alloc::{AllocError, Global};
 
 /// A line, or a list of texts with the program first.
-#[tactic(auto, unfolding(nextest_tree::specs::Leaf::a_text, nextest_scripts::specs::CommandLine::a_command_line))]
+#[tactic(auto, unfolding(nextest_scripts::specs::CommandLine::a_command_line))]
 fn command_line(alloc: Global) -> Result<Place, AllocError>
     ensures { IfOk result (λ place. place_view place ≡ a_command_line) }
 {
     Ok(Place::List {
-        other: Box::new(alloc, Place::Leaf(Leaf::CommandLine))?,
-        items: Box::new(alloc, Place::Leaf(Leaf::Text))?,
+        other: Box::new(alloc, value(Leaf::CommandLine))?,
+        items: Box::new(alloc, value(Leaf::Text))?,
         across: AcrossItems::First,
     })
 }
 
 /// A command: a line, a list, or a table, which refuses other keys.
-#[tactic(auto, unfolding(nextest_tree::specs::Leaf::a_text, nextest_scripts::specs::EnvMap::an_env_map, nextest_scripts::specs::Command::a_relative_to, nextest_scripts::specs::Command::a_command))]
+#[tactic(auto, unfolding(nextest_scripts::specs::EnvMap::an_env_map, nextest_scripts::specs::Command::a_command))]
 fn command(alloc: Global) -> Result<Place, AllocError>
     ensures { IfOk result (λ place. place_view place ≡ a_command) }
 {
     let line = command_line(alloc)?;
-    let env = map_by(alloc, Names::Variables, Place::Leaf(Leaf::Text))?;
+    let env = map_by(alloc, Names::Variables, value(Leaf::Text))?;
     let fields = vec![in alloc;
         must(Key::CommandLine, line),
         may(Key::Env, env),
-        may(Key::RelativeTo, Place::Leaf(Leaf::RelativeTo)),
+        may(Key::RelativeTo, value(Leaf::RelativeTo)),
     ]?;
     Ok(Place::Table {
         others: Others::Refused,
@@ -47,33 +47,31 @@ fn command(alloc: Global) -> Result<Place, AllocError>
 }
 
 /// When a setup script counts as slow, and when it is ended.
-#[tactic(auto, unfolding(nextest_texts::specs::Nanoseconds::a_duration, nextest_elements::specs::Positive::a_positive, nextest_scripts::specs::SetupScript::a_setup_result))]
 fn setup_timeout(alloc: Global) -> Result<Place, AllocError>
     ensures { IfOk result (λ place. place_view place ≡ a_setup_timeout) }
 {
     let fields = vec![in alloc;
-        must(Key::Period, Place::Leaf(Leaf::Duration)),
-        may(Key::TerminateAfter, Place::Leaf(Leaf::Positive)),
-        may(Key::GracePeriod, Place::Leaf(Leaf::Duration)),
-        may(Key::OnTimeout, Place::Leaf(Leaf::SetupResult)),
+        must(Key::Period, value(Leaf::Duration)),
+        may(Key::TerminateAfter, value(Leaf::Positive)),
+        may(Key::GracePeriod, value(Leaf::Duration)),
+        may(Key::OnTimeout, value(Leaf::SetupResult)),
     ]?;
-    table_or(alloc, Place::Leaf(Leaf::Duration), fields)
+    table_or(alloc, value(Leaf::Duration), fields)
 }
 
 /// What a report keeps of a setup script.
-#[tactic(auto, unfolding(nextest_tree::specs::Leaf::a_bool))]
 fn setup_junit(alloc: Global) -> Result<Place, AllocError>
     ensures { IfOk result (λ place. place_view place ≡ a_setup_junit) }
 {
     let fields = vec![in alloc;
-        may(Key::StoreSuccessOutput, Place::Leaf(Leaf::Boolean)),
-        may(Key::StoreFailureOutput, Place::Leaf(Leaf::Boolean)),
+        may(Key::StoreSuccessOutput, value(Leaf::Boolean)),
+        may(Key::StoreFailureOutput, value(Leaf::Boolean)),
     ]?;
     table(alloc, fields)
 }
 
 /// A setup script.
-#[tactic(auto, unfolding(nextest_tree::specs::Leaf::a_bool, nextest_scripts::specs::SetupScript::a_setup_script))]
+#[tactic(auto, unfolding(nextest_scripts::specs::SetupScript::a_setup_script))]
 pub(crate) fn setup_script(alloc: Global) -> Result<Place, AllocError>
     ensures { IfOk result (λ place. place_view place ≡ a_setup_script) }
 {
@@ -85,22 +83,22 @@ pub(crate) fn setup_script(alloc: Global) -> Result<Place, AllocError>
         must(Key::Command, command),
         may(Key::SlowTimeout, slow),
         may(Key::LeakTimeout, leak),
-        may(Key::CaptureStdout, Place::Leaf(Leaf::Boolean)),
-        may(Key::CaptureStderr, Place::Leaf(Leaf::Boolean)),
+        may(Key::CaptureStdout, value(Leaf::Boolean)),
+        may(Key::CaptureStderr, value(Leaf::Boolean)),
         may(Key::Junit, junit),
     ]?;
     table(alloc, fields)
 }
 
 /// A wrapper script.
-#[tactic(auto, unfolding(nextest_scripts::specs::WrapperScript::a_target_runner, nextest_scripts::specs::WrapperScript::a_wrapper_script))]
+#[tactic(auto, unfolding(nextest_scripts::specs::WrapperScript::a_wrapper_script))]
 pub(crate) fn wrapper_script(alloc: Global) -> Result<Place, AllocError>
     ensures { IfOk result (λ place. place_view place ≡ a_wrapper_script) }
 {
     let command = command(alloc)?;
     let fields = vec![in alloc;
         must(Key::Command, command),
-        may(Key::TargetRunner, Place::Leaf(Leaf::TargetRunner)),
+        may(Key::TargetRunner, value(Leaf::TargetRunner)),
     ]?;
     table(alloc, fields)
 }

@@ -1,6 +1,5 @@
-use Rattle.std.proofs.Common.{cond, ◌≡◌, ◌+◌, [], ◌∷◌, ◌++◌, drop, map, string_bytes, Some, refl, sym, ap, ◌∙◌, subst, OnOk}
+use Rattle.std.proofs.Common.{cond, ◌≡◌, ◌+◌, [], ◌++◌, drop, string_bytes, Some, refl, sym, ap, ◌∙◌, subst, OnOk}
 use Rattle.std.proofs.lemmas.List.{drop_all}
-use Rattle.std.specs.Fmt.{decimal}
 use Rattle.nextest_places.specs.declared.step.Step.TheVariants as steps
 use Rattle.nextest_tree.specs.Key.{key_text}
 use Rattle.nextest_tree.specs.Node.{get}

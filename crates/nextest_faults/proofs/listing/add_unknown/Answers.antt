@@ -1,4 +1,4 @@
-use Rattle.std.proofs.Common.{◌≡◌, [], ◌∷◌, ◌++◌, map, string_bytes, true, false, Some, refl, sym, ap, ◌∙◌, arith}
+use Rattle.std.proofs.Common.{◌≡◌, ◌++◌, map, string_bytes, true, false, Some, sym, ap, ◌∙◌, arith}
 use Rattle.std.proofs.lemmas.Grind.{common_steps}
 use Rattle.nextest_tree.specs.Key.{key_text}
 use Rattle.nextest_tree.specs.Node.{keys}
@@ -7,8 +7,8 @@ use Rattle.nextest_tree.specs.View.{entries_view}
 use Rattle.nextest_tree.proofs.Trees.{keys-members}
 use Rattle.nextest_faults.specs.Found.{Adds, found_view, path_text}
 use Rattle.nextest_faults.specs.Places.{fields_view}
-use Rattle.nextest_faults.proofs.Adding.{Left, left_more, left_none, left_same}
-use Rattle.nextest_faults.proofs.Listed.{unknown_keys, known_key, unknown_key}
+use Rattle.nextest_faults.proofs.Adding.{left_more, left_none}
+use Rattle.nextest_faults.proofs.Listed.{unknown_keys, unknown_key}
 use Rattle.nextest_faults.proofs.listing.add_unknown.Goals as goal
 
 pub loop-key-init : goal.loop-key-init
