@@ -1,6 +1,7 @@
 -- The order in which findings are reported.
-use Rattle.std.specs.Prelude.{ℕ, ◌×◌, ◌-◌, ◌^◌, Option, Some, None}
-use Rattle.std.specs.Ordering.{Ordering, nat_cmp, ordering_then}
+use Rattle.std.specs.Prelude.{ℕ, ◌-◌, ◌^◌, Option, Some, None}
+use Rattle.std.specs.Ordering.{nat_cmp, ordering_then}
+use Rattle.std.specs.declared.cmp.Ordering.{Ordering}
 use Rattle.rinqebo_report.specs.declared.finding.Finding.{Finding}
 use Rattle.rinqebo_report.specs.declared.origin.FileLines.{FileLines}
 use Rattle.rinqebo_report.specs.declared.origin.FilePlace.{FilePlace}
@@ -20,7 +21,8 @@ spot_in None None column = (0, 0)
 
 -- the file, the line and the column of a place; what is in no file comes last
 abbrev pub spot_at : Option FilePlace → Option ℕ → ℕ × ℕ × ℕ
-spot_at (Some place) column = (place.source, spot_in place.range place.lines column)
+spot_at (Some place) column =
+    let at = spot_in place.range place.lines column in (place.source, at.0, at.1)
 spot_at None column = (2 ^ 64 - 1, 0, 0)
 
 -- the file, the line and the column of a finding

@@ -227,31 +227,6 @@ fn finding_of(
     fault_finding(&refused, &fault.fault.cause, &fault.fault.path, fault.stray)
 }
 
-/// Adds the finding of a fault in the source at a place among the layers, unless the fault is
-/// joined with another one.
-fn add_finding(
-    alloc: Global,
-    session: &Session<'_>,
-    source: usize,
-    fault: &ValueFault<'_>,
-    is_joined: bool,
-    findings: &mut Vec<Finding>,
-) -> Result<(), AllocError>
-    ensures { let IsOf = IsFindingOf session.now.layers.items source in
-        (Joined : ValueFault → Type 0) (earlier : List ValueFault)
-        → (is_joined ≡ true → Joined fault.now)
-        → ReportFaults IsOf Joined earlier findings.old.items
-        → OnOk result
-        (ReportFaults IsOf Joined (earlier ++ fault.now ∷ []) findings.new.items) }
-{
-    if is_joined {
-        return Ok(());
-    }
-    let own = finding_of(alloc, session, source, fault)?;
-    findings.push(own)?;
-    Ok(())
-}
-
 /// The findings of all faults of the values of the source at a place among the layers, in their
 /// order.
 pub fn fault_findings(
@@ -267,8 +242,10 @@ pub fn fault_findings(
     let marks = joined_marks(alloc, faults)?;
     let mut findings = Vec::new(alloc);
     for (place, fault) in faults.iter().enumerate() {
-        let is_joined = is_marked(&marks, place);
-        add_finding(alloc, session, source, fault, is_joined, &mut findings)?;
+        if is_marked(&marks, place) {
+            continue;
+        }
+        findings.push(finding_of(alloc, session, source, fault)?)?;
     }
     Ok(findings)
 }
