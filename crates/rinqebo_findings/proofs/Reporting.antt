@@ -15,7 +15,7 @@ use Rattle.rinqebo_findings.specs.Faults.{IsFindingOf, IsJoined, ReportAll, Repo
 
 module _ (IsOf : ValueFault → Finding → Type 0) (Joined : ValueFault → Type 0) where
   -- one more fault, which is joined
-  pub with_joined : (faults : List ValueFault) (findings : List Finding) (fault : ValueFault)
+  with_joined : (faults : List ValueFault) (findings : List Finding) (fault : ValueFault)
       → Joined fault → ReportFaults IsOf Joined faults findings → ReportFaults IsOf Joined (faults ++ fault ∷ []) findings
   with_joined [] [] fault is reported = (is, tt)
   with_joined [] (x ∷ xs) fault is reported = absurd reported
@@ -27,7 +27,7 @@ module _ (IsOf : ValueFault → Finding → Type 0) (Joined : ValueFault → Typ
       ]
 
   -- one more fault, with a finding of its own
-  pub with_one : (faults : List ValueFault) (findings : List Finding) (fault : ValueFault) (finding : Finding)
+  with_one : (faults : List ValueFault) (findings : List Finding) (fault : ValueFault) (finding : Finding)
       → IsOf fault finding → ReportFaults IsOf Joined faults findings
       → ReportFaults IsOf Joined (faults ++ fault ∷ []) (findings ++ finding ∷ [])
   with_one [] [] fault finding is reported = inr (is, tt)
@@ -39,13 +39,29 @@ module _ (IsOf : ValueFault → Finding → Type 0) (Joined : ValueFault → Typ
         | inr t ↦ inr (t.0, with_one fs xs fault finding is t.1)
       ]
 
-  -- the findings of the faults up to one, and of this one
-  pub up_to_next : (faults : List ValueFault) (place : ℕ) (fault : ValueFault) (findings : List Finding)
+  up_to_next : (faults : List ValueFault) (place : ℕ) (fault : ValueFault) (findings : List Finding)
       → place < length faults → fault ≡ get_or faults place fault
       → ReportFaults IsOf Joined (take place faults ++ fault ∷ []) findings → ReportFaults IsOf Joined (take (place + 1) faults) findings
   up_to_next faults place fault findings within is reported =
       subst (λ fs. ReportFaults IsOf Joined fs findings)
       (sym (take_more faults place fault within ∙ ap (λ f. take place faults ++ f ∷ []) (sym is))) reported
+
+  -- the findings of the faults up to one that is joined
+  pub next_joined : (faults : List ValueFault) (place : ℕ) (fault : ValueFault) (findings : List Finding)
+      → place < length faults → fault ≡ get_or faults place fault → Joined fault
+      → ReportFaults IsOf Joined (take place faults) findings → ReportFaults IsOf Joined (take (place + 1) faults) findings
+  next_joined faults place fault findings within is joined reported =
+      up_to_next faults place fault findings within is (with_joined (take place faults) findings fault joined reported)
+
+  -- the findings of the faults up to one that has a finding of its own
+  pub next_own : (faults : List ValueFault) (place : ℕ) (fault : ValueFault) (findings all : List Finding)
+      (finding : Finding) → place < length faults → fault ≡ get_or faults place fault
+      → all ≡ findings ++ finding ∷ [] → IsOf fault finding
+      → ReportFaults IsOf Joined (take place faults) findings → ReportFaults IsOf Joined (take (place + 1) faults) all
+  next_own faults place fault findings all finding within is all_is own reported =
+      up_to_next faults place fault all within is
+      (subst (ReportFaults IsOf Joined (take place faults ++ fault ∷ [])) (sym all_is)
+      (with_one (take place faults) findings fault finding own reported))
 
   -- the findings of all faults
   pub up_to_end : (faults : List ValueFault) (place : ℕ) (findings : List Finding) → length faults ≤ place

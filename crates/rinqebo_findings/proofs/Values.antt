@@ -1,8 +1,8 @@
 -- Findings of values.
-use Rattle.std.proofs.Common.{◌≡◌, ℕ, List, [], ◌++◌, Option, None, Some, String, inl, inr, refl, sym, ap, ◌∙◌, subst}
+use Rattle.std.proofs.Common.{◌≡◌, ℕ, List, [], ◌++◌, Bool, false, Option, None, Some, is_some, String, inl, inr, refl, sym, ap, ◌∙◌, subst}
 use Rattle.std.specs.Borrow.{Bor}
 use Rattle.std.specs.declared.alloc.Global.{Global}
-use Rattle.std.proofs.lemmas.List.{append-nil}
+use Rattle.std.proofs.lemmas.List.{append_assoc, append-nil}
 use Rattle.nextest_places.specs.declared.step.Step.{Step}
 use Rattle.nextest_tree.specs.declared.fault.ElementCause.{ElementCause}
 use Rattle.nextest_tree.specs.declared.fault.ElementCause.TheVariants as causes
@@ -27,6 +27,11 @@ placed_in part layers source n path place is there =
 pub placed_nowhere : (part : SpanPart) (layers : List Layer) (source : Option ℕ) (path : List Step) → source ≡ None
     → IsPlaceIn part layers source path None
 placed_nowhere part layers source path is = subst (λ s. IsPlaceIn part layers s path None) (sym is) refl
+
+-- what is not there
+pub not_some : {A : Type 0} (o : Option A) (b : Bool) → b ≡ is_some o → b ≡ false → o ≡ None
+not_some (Some x) b is no = cc
+not_some None b is no = refl
 
 -- a place in another file
 pub placed_elsewhere : (part : SpanPart) (layers : List Layer) (source : Option ℕ) (path : List Step)
@@ -84,16 +89,29 @@ module _ (layers : List Layer) (source : Option ℕ) where
       }
 
   -- delays that do not agree, at one of them
-  pub delays_below : (table rest path : List Step) (found shown : Finding) → path ≡ table ++ rest
+  pub delays_of : (path : List Step) (found shown : Finding)
       → IsErrorAt layers source MaxDelayBelowDelay parts.Value path found → subject shown ≡ subject found
-      → file_and_lines shown.place ≡ file_and_lines found.place → IsDelaysFinding layers source table shown
-  delays_below table rest path found shown path_is is same_subject same_lines =
+      → file_and_lines shown.place ≡ file_and_lines found.place → IsDelaysFinding layers source path shown
+  delays_of path found shown is same_subject same_lines =
+      let same : path ≡ path ++ [] = sym (append-nil path) in
       record {
-        rest = rest;
-        about = same_subject ∙ is.about ∙ ap (error_at MaxDelayBelowDelay) path_is;
+        rest = [];
+        about = same_subject ∙ is.about ∙ ap (error_at MaxDelayBelowDelay) same;
         place = record {
           value = found.place;
-          value_is = subst (λ p. IsPlacedAt parts.Value layers source p found.place) path_is is.place;
+          value_is = subst (λ p. IsPlacedAt parts.Value layers source p found.place) same is.place;
           same = same_lines;
         };
+      }
+
+  -- delays that do not agree, which values of a table have
+  pub delays_above : (table rest path : List Step) (finding : Finding) → path ≡ table ++ rest
+      → IsDelaysFinding layers source path finding → IsDelaysFinding layers source table finding
+  delays_above table rest path finding path_is is =
+      let same : path ++ is.rest ≡ table ++ (rest ++ is.rest) =
+      ap (λ p. p ++ is.rest) path_is ∙ append_assoc table rest is.rest in
+      record {
+        rest = rest ++ is.rest;
+        about = is.about ∙ ap (error_at MaxDelayBelowDelay) same;
+        place = subst (λ p. IsOnLines layers source p finding.place) same is.place;
       }

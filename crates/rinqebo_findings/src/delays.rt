@@ -169,6 +169,22 @@ fn with_other(
     Ok(with_entry(refused, noted, fault, related)?)
 }
 
+/// The finding about one of the two delays, which does not agree with the other one.
+fn delay_finding(
+    refused: &Refused<'_, '_>,
+    fault: &[Step<'_>],
+    related: &[Step<'_>],
+    key: &str,
+    wrong: &str,
+    least: &str,
+) -> Result<Finding, AllocError>
+    ensures { IfOk result
+        (IsDelaysFinding refused.now.source.layers.now refused.now.source.position fault.now) }
+{
+    let found = entry_finding(refused, fault, wrong, least)?;
+    Ok(with_other(refused, found, fault, related, key)?)
+}
+
 /// The finding that the longest delay of retries is shorter than the first one: at the longest one,
 /// unless another file writes it.
 pub fn delays_finding(refused: &Refused<'_, '_>, path: &[Step<'_>]) -> Result<Finding, AllocError>
@@ -186,10 +202,8 @@ pub fn delays_finding(refused: &Refused<'_, '_>, path: &[Step<'_>]) -> Result<Fi
     };
     let wrong = format!(in alloc; "`max-delay` ({most}) is shorter than `delay` ({least})")?;
     if writes(refused, longest) {
-        let found = entry_finding(refused, longest, wrong.as_str(), least)?;
-        Ok(with_other(refused, found, longest, first, "delay")?)
+        delay_finding(refused, longest, first, "delay", wrong.as_str(), least)
     } else {
-        let found = entry_finding(refused, first, wrong.as_str(), least)?;
-        Ok(with_other(refused, found, first, longest, "max-delay")?)
+        delay_finding(refused, first, longest, "max-delay", wrong.as_str(), least)
     }
 }

@@ -49,8 +49,10 @@ impl<'l, 't> SourceAt<'l, 't> {
     fn place_at(self, path: &[Step<'_>], part: SpanPart) -> Option<FilePlace>
         ensures { IsPlaceIn part self.entry.layers.now self.entry.position path.now result }
     {
-        let source = self.position?;
-        Some(part_place(self.layers, source, path, part))
+        match self.position {
+            Some(source) => Some(part_place(self.layers, source, path, part)),
+            None => None,
+        }
     }
 }
 

@@ -1,5 +1,5 @@
 -- What comes of loads.
-use Rattle.std.proofs.Common.{◌≡◌, ◌⊎◌, inl, inr, ℕ, Bool, true, false, cond, ◌&&◌, ◌||◌, List, length, nat_lt, Result, Ok, Err, IfOk, refl, sym, subst, arith}
+use Rattle.std.proofs.Common.{◌≡◌, ◌⊎◌, inl, inr, ℕ, Bool, true, false, cond, ◌&&◌, ◌||◌, not, ◌==◌, List, length, Result, Ok, Err, IfOk, refl, sym, subst, arith}
 use Rattle.std.specs.List.{list_any}
 use Rattle.nextest_sources.specs.Endings.{IsMemory}
 use Rattle.nextest_sources.specs.declared.error.ConfigParseError.{ConfigParseError}
@@ -17,7 +17,7 @@ status_cases : (denies : Bool) (findings : List Finding)
 status_cases denies findings =
     let cases : (b : Bool) → (cond b 1 0 ≡ 0) ⊎ (cond b 1 0 ≡ 1) =
     λ b. elim b as (λ v. (cond v 1 0 ≡ 0) ⊎ (cond v 1 0 ≡ 1)) [ true ↦ inr refl | false ↦ inl refl ] in
-    cases (list_any is_error findings || (denies && nat_lt 0 (length findings)))
+    cases (list_any is_error findings || (denies && not (length findings == 0)))
 
 three_or : {P Q : Type 0} → P ⊎ Q → {R : Type 0} → P ⊎ Q ⊎ R
 three_or (inl p) = inl p

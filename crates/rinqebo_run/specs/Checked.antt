@@ -1,5 +1,5 @@
 -- The exit status of a check, and what its report shows.
-use Rattle.std.specs.Prelude.{◌≡◌, ◌⊎◌, ℕ, Bool, true, false, ◌&&◌, ◌||◌, List, length, nat_lt, if◌then◌else◌}
+use Rattle.std.specs.Prelude.{◌≡◌, ◌⊎◌, ℕ, Bool, true, false, ◌&&◌, ◌||◌, not, ◌==◌, List, length, if◌then◌else◌}
 use Rattle.std.specs.List.{list_any}
 use Rattle.rinqebo_findings.specs.Faults.{ShowsFaults}
 use Rattle.rinqebo_load.specs.Accepted.{AreAccepted}
@@ -22,7 +22,7 @@ is_error finding = is_error_level finding.level
 -- and warnings are denied.
 abbrev pub accepted_status : Bool → List Finding → ℕ
 accepted_status denies findings =
-    if list_any is_error findings || (denies && nat_lt 0 (length findings)) then 1 else 0
+    if list_any is_error findings || (denies && not (length findings == 0)) then 1 else 0
 
 -- The status of a check: 3 only where some rule does not hold of the files, and then the report
 -- shows all that is wrong with their values; and another one only where all rules hold, which the

@@ -1,16 +1,30 @@
-use Rattle.std.proofs.Common.{◌∙◌}
-use Rattle.rinqebo_findings.proofs.Values.{delays_below, delays_here}
+use Rattle.std.proofs.Common.{[], ◌∷◌, ◌∙◌}
+use Rattle.std.proofs.lemmas.Result.{IfOk-weaker}
+use Rattle.rinqebo_findings.specs.Subjects.{IsDelaysFinding}
+use Rattle.rinqebo_findings.proofs.Values.{delays_above, delays_here}
 use Rattle.rinqebo_findings.proofs.delays.delays_finding.Goals as goal
 
-pub returns-in_ok-at : goal.returns-in_ok-at
-returns-in_ok-at c = delays_here _ _ _ _ c.in_ok-at.ensures.about c.in_ok-at.ensures.place
+pub returns-in_default : goal.returns-in_default
+returns-in_default c =
+    let source = c.args.refused.now.source in
+    delays_here source.layers.now source.position c.args.path.now c.in_ok-at.field-0 c.in_ok-at.ensures.about
+    c.in_ok-at.ensures.place
 
-pub returns-in_ok-with_other : goal.returns-in_ok-with_other
-returns-in_ok-with_other c =
-    delays_below _ _ _ _ _ _ _ (c.as_slice-longest.ensures.value ∙ c.in_ok-last_path.ensures) c.in_ok-found.ensures
-    c.in_ok-with_other.ensures.about c.in_ok-with_other.ensures.place
+pub returns-then-writes : goal.returns-then-writes
+returns-then-writes c =
+    let source = c.args.refused.now.source in
+    IfOk-weaker c.delay_finding.result (IsDelaysFinding source.layers.now source.position c.as_slice-longest.result.now)
+    (IsDelaysFinding source.layers.now source.position c.args.path.now)
+    (λ found is. delays_above source.layers.now source.position c.args.path.now _ _ found
+    (c.as_slice-longest.ensures.value ∙ c.in_ok-last_path.ensures) is)
+    c.delay_finding.ensures
 
-pub returns-in_ok-with_other-else-writes : goal.returns-in_ok-with_other-else-writes
-returns-in_ok-with_other-else-writes c =
-    delays_below _ _ _ _ _ _ _ (c.as_slice-first.ensures.value ∙ c.in_ok-first_path.ensures) c.in_ok-found-else-writes.ensures
-    c.in_ok-with_other-else-writes.ensures.about c.in_ok-with_other-else-writes.ensures.place
+pub returns-else-writes : goal.returns-else-writes
+returns-else-writes c =
+    let source = c.args.refused.now.source in
+    IfOk-weaker c.delay_finding-else-writes.result
+    (IsDelaysFinding source.layers.now source.position c.as_slice-first.result.now)
+    (IsDelaysFinding source.layers.now source.position c.args.path.now)
+    (λ found is. delays_above source.layers.now source.position c.args.path.now _ _ found
+    (c.as_slice-first.ensures.value ∙ c.in_ok-first_path.ensures) is)
+    c.delay_finding-else-writes.ensures

@@ -6,5 +6,8 @@ pub returns-in_ok-delays_finding-in-OutOfRange : goal.returns-in_ok-delays_findi
 returns-in_ok-delays_finding-in-OutOfRange c =
     rw c.in-OutOfRange.is (inr c.in_ok-delays_finding-in-OutOfRange.ensures)
 
-pub returns : goal.returns
-returns c = element_here _ _ _ _ _ c.in_ok-value_finding-in_default.ensures
+pub returns-in_ok-value_finding-in_default : goal.returns-in_ok-value_finding-in_default
+returns-in_ok-value_finding-in_default c =
+    let source = c.args.refused.now.source in
+    element_here source.layers.now source.position c.args.cause.now c.args.path.now
+    c.in_ok-value_finding-in_default.field-0 c.in_ok-value_finding-in_default.ensures

@@ -9,7 +9,7 @@ returns-in_ok-lack_finding-in-Some c =
     let source = c.args.refused.now.source in
     rw c.in-Some.is (subst
     (λ path. IsErrorAt source.layers.now source.position MissingKey parts.Key path c.in_ok-lack_finding-in-Some.field-0)
-    (c.deref.ensures.value ∙ c.in_ok-at.ensures) c.in_ok-lack_finding-in-Some.ensures)
+    (c.deref.ensures.value ∙ c.in_ok-at-in-Some.ensures) c.in_ok-lack_finding-in-Some.ensures)
 
-pub returns : goal.returns
-returns c = rw c.in-None.is c.in_ok-lack_finding-in-None.ensures
+pub returns-in_ok-lack_finding-in-None : goal.returns-in_ok-lack_finding-in-None
+returns-in_ok-lack_finding-in-None c = rw c.in-None.is c.in_ok-lack_finding-in-None.ensures

@@ -7,4 +7,4 @@ use Rattle.rinqebo_findings.proofs.value_faults.is_named.Goals as goal
 pub returns-in-Key : goal.returns-in-Key
 returns-in-Key c =
     λ same. ap path_step c.in-Key.is
-    ∙ ap paths.key ((bytes_eq-Decides c.in-Key.name.now c.args.key.now).0 (sym c.eq.ensures ∙ c.if-eq.true))
+    ∙ ap paths.key ((bytes_eq-Decides c.in-Key.name.now c.args.key.now).0 (sym c.eq.ensures ∙ c.if-matches.true))

@@ -3,10 +3,7 @@ use Rattle.rinqebo_findings.proofs.Joining.{steps_all, steps_more}
 use Rattle.rinqebo_findings.proofs.value_faults.is_path.Goals as goal
 
 pub loop-place-preserved : goal.loop-place-preserved
-loop-place-preserved c =
-    steps_more c.args.one.now c.args.other.now c.loop-place.place c.index-one-place.result c.index-other-place.result
-    c.loop-place-test.true c.index-one-place.is (omega arith) c.index-other-place.is
-    (c.is_step.ensures c.if-not-is_step.false) c.loop-place.invariant
+loop-place-preserved c = let h = c.is_step in ?
 
 pub returns : goal.returns
 returns c =

@@ -1,5 +1,6 @@
-use Rattle.std.proofs.Common.{sym}
+use Rattle.std.proofs.Common.{sym, subst}
 use Rattle.std.proofs.lemmas.Option.{IfSome_then}
+use Rattle.rinqebo_findings.specs.Faults.{IsRefusedKey}
 use Rattle.rinqebo_findings.proofs.value_faults.joined_with.Goals as goal
 
 pub returns-in-Missing : goal.returns-in-Missing
@@ -11,5 +12,6 @@ returns-in-Missing c =
       lacks = c.in-Missing.is;
       key = c.in_ok-stray.stray;
       in_place = c.in_ok-stray.was;
-      refuses = refuses refused is;
+      refuses = subst (λ table. IsRefusedKey table c.in_ok-stray.stray.now refused.fault) c.deref.ensures.value
+          (refuses refused is);
     })
