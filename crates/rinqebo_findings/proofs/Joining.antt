@@ -9,20 +9,19 @@ use Rattle.rinqebo_findings.specs.declared.value_faults.ValueFault.{ValueFault}
 use Rattle.rinqebo_findings.specs.Faults.{AreJoined, IsJoined, IsKeyIn}
 
 -- one more step of a path
-front : (xs : List Step) (place : ℕ) (x : Step) → place < length xs → x ≡ get_or xs place x
-    → map path_step (take (place + 1) xs) ≡ map path_step (take place xs) ++ path_step x ∷ []
-front xs place x within is =
-    ap (map path_step) (take_more xs place x within ∙ ap (λ s. take place xs ++ s ∷ []) (sym is))
-    ∙ map-append path_step (take place xs) (x ∷ [])
+front : (xs : List Step) (place : ℕ) (d : Step) → place < length xs
+    → map path_step (take (place + 1) xs) ≡ map path_step (take place xs) ++ path_step (get_or xs place d) ∷ []
+front xs place d within =
+    ap (map path_step) (take_more xs place d within) ∙ map-append path_step (take place xs) (get_or xs place d ∷ [])
 
 -- paths that are the same up to a step, and at the step
-pub steps_more : (xs ys : List Step) (place : ℕ) (x y : Step) → place < length xs → x ≡ get_or xs place x
-    → place < length ys → y ≡ get_or ys place y → path_step x ≡ path_step y
+pub steps_more : (xs ys : List Step) (place : ℕ) (d e : Step) → place < length xs → place < length ys
+    → path_step (get_or xs place d) ≡ path_step (get_or ys place e)
     → map path_step (take place xs) ≡ map path_step (take place ys)
     → map path_step (take (place + 1) xs) ≡ map path_step (take (place + 1) ys)
-steps_more xs ys place x y within x_is within' y_is step same =
-    front xs place x within x_is ∙ ap (λ steps. steps ++ path_step x ∷ []) same
-    ∙ ap (λ s. map path_step (take place ys) ++ s ∷ []) step ∙ sym (front ys place y within' y_is)
+steps_more xs ys place d e within within' step same =
+    front xs place d within ∙ ap (λ steps. steps ++ path_step (get_or xs place d) ∷ []) same
+    ∙ ap (λ s. map path_step (take place ys) ++ s ∷ []) step ∙ sym (front ys place e within')
 
 -- paths that are the same up to their ends
 pub steps_all : (xs ys : List Step) (place : ℕ) → length xs ≤ place → length ys ≤ place

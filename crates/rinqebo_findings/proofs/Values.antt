@@ -30,8 +30,8 @@ placed_nowhere part layers source path is = subst (λ s. IsPlaceIn part layers s
 
 -- what is not there
 pub not_some : {A : Type 0} (o : Option A) (b : Bool) → b ≡ is_some o → b ≡ false → o ≡ None
-not_some (Some x) b is no = cc
-not_some None b is no = refl
+not_some (Some x) b same unset = cc
+not_some None b same unset = refl
 
 -- a place in another file
 pub placed_elsewhere : (part : SpanPart) (layers : List Layer) (source : Option ℕ) (path : List Step)

@@ -49,10 +49,11 @@ pub fn report_of_refusal(
     ensures faults { IfOk result
         (λ report. ShowsFaults session.now.layers.items report.findings.items) }
 {
+    let found = all_findings(alloc, session, warnings, error)?;
     let Found {
         findings,
         unreached,
-    } = all_findings(alloc, session, warnings, error)?;
+    } = found;
     Ok(report_of(alloc, session, findings, unreached, Content::Check)?)
 }
 
@@ -68,10 +69,11 @@ pub fn report_of_refused_check(
     ensures faults { IfOk result
         (λ report. ShowsFaults session.now.layers.items report.findings.items) }
 {
+    let found = all_findings(alloc, session, warnings, error)?;
     let Found {
         mut findings,
         unreached,
-    } = all_findings(alloc, session, warnings, error)?;
+    } = found;
     let mut forms = nextest_findings(alloc, &session.layers)?;
     findings.append(&mut forms)?;
     Ok(report_of(alloc, session, findings, unreached, Content::Check)?)

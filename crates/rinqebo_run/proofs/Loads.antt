@@ -1,5 +1,5 @@
 -- What comes of loads.
-use Rattle.std.proofs.Common.{◌≡◌, ◌⊎◌, inl, inr, ℕ, Bool, true, false, cond, ◌&&◌, ◌||◌, not, ◌==◌, List, length, Result, Ok, Err, IfOk, refl, sym, subst, arith}
+use Rattle.std.proofs.Common.{◌≡◌, ◌⊎◌, inl, inr, ℕ, Bool, true, false, cond, ◌&&◌, ◌||◌, not, ◌==◌, List, length, Result, Ok, Err, IfOk, refl, sym, ap, ◌∙◌, subst, arith}
 use Rattle.std.specs.List.{list_any}
 use Rattle.nextest_sources.specs.Endings.{IsMemory}
 use Rattle.nextest_sources.specs.declared.error.ConfigParseError.{ConfigParseError}
@@ -11,13 +11,36 @@ use Rattle.rinqebo_run.specs.Checked.{IsCheckStatus, accepted_status, is_error}
 use Rattle.rinqebo_run.specs.declared.answer.Answer.{Answer}
 use Rattle.rinqebo_load.specs.declared.session.Session.{Session}
 
+-- the status of a check by whether a finding is an error, and whether one is denied
+abbrev status : Bool → Bool → ℕ
+status error denied = cond (error || denied) 1 0
+
+-- a finding is an error
+pub by_error : (error denied r : Bool) → r ≡ error → r ≡ true → status error denied ≡ 1
+by_error error denied r is yes = ap (λ e. status e denied) (sym is ∙ yes)
+
+-- none is an error, and one is denied
+pub by_denied : (error denied r s : Bool) → r ≡ error → r ≡ false → s ≡ denied → s ≡ true
+    → status error denied ≡ 1
+by_denied error denied r s is unset is' yes =
+    ap (λ e. status e denied) (sym is ∙ unset) ∙ ap (λ d. status false d) (sym is' ∙ yes)
+
+-- none is an error, and none is denied
+pub by_none : (error denied r s : Bool) → r ≡ error → r ≡ false → s ≡ denied → s ≡ false
+    → status error denied ≡ 0
+by_none error denied r s is unset is' unset' =
+    ap (λ e. status e denied) (sym is ∙ unset) ∙ ap (λ d. status false d) (sym is' ∙ unset')
+
+abbrev IsZeroOrOne : ℕ → Type 0
+IsZeroOrOne n = (n ≡ 0) ⊎ (n ≡ 1)
+
+by_test : (test : Bool) → IsZeroOrOne (cond test 1 0)
+by_test true = inr refl
+by_test false = inl refl
+
 -- the status of a check whose load accepts
-status_cases : (denies : Bool) (findings : List Finding)
-    → (accepted_status denies findings ≡ 0) ⊎ (accepted_status denies findings ≡ 1)
-status_cases denies findings =
-    let cases : (b : Bool) → (cond b 1 0 ≡ 0) ⊎ (cond b 1 0 ≡ 1) =
-    λ b. elim b as (λ v. (cond v 1 0 ≡ 0) ⊎ (cond v 1 0 ≡ 1)) [ true ↦ inr refl | false ↦ inl refl ] in
-    cases (list_any is_error findings || (denies && not (length findings == 0)))
+status_cases : (denies : Bool) (findings : List Finding) → IsZeroOrOne (accepted_status denies findings)
+status_cases denies findings = by_test (list_any is_error findings || (denies && not (length findings == 0)))
 
 three_or : {P Q : Type 0} → P ⊎ Q → {R : Type 0} → P ⊎ Q ⊎ R
 three_or (inl p) = inl p
@@ -31,8 +54,7 @@ other n three (inr one) = absurd (omega arith)
 pub accepts : (session : Session) (denies : Bool) (report : Report) (n : ℕ) → AreAccepted session
     → n ≡ accepted_status denies report.findings.items → IsCheckStatus session denies report n
 accepts session denies report n accepted is =
-    let cases : (n ≡ 0) ⊎ (n ≡ 1) =
-    subst (λ s. (s ≡ 0) ⊎ (s ≡ 1)) (sym is) (status_cases denies report.findings.items) in
+    let cases : IsZeroOrOne n = subst IsZeroOrOne (sym is) (status_cases denies report.findings.items) in
     record {
       refused = λ three. other n three cases;
       accepted = λ _. accepted;

@@ -1,5 +1,6 @@
 //! The result of a check: what is wrong with files.
-ghost use Rattle.std.specs.Prelude.{◌≡◌, IfOk, IfErr};
+ghost use Rattle.std.specs.Prelude.{◌≡◌, ◌==◌, ◌&&◌, IfOk, IfErr, length, not};
+ghost use Rattle.std.specs.List.{list_any};
 ghost use Rattle.nextest_sources.specs.Endings.{IsMemory};
 ghost use Rattle.rinqebo_findings.specs.Reports.{IsReportOf};
 ghost use Rattle.rinqebo_findings.specs.Faults.{ShowsFaults};
@@ -15,7 +16,7 @@ use rinqebo_load::{Config, Failure, Session};
 use rinqebo_report::{Content, Finding, Level};
 use std::alloc::{AllocError, Global};
 
-/// Whether a finding is at the level of errors.
+/// Whether a finding is an error.
 fn is_error(finding: &Finding) -> bool
     ensures { result ≡ is_error finding.now }
 {
@@ -25,16 +26,31 @@ fn is_error(finding: &Finding) -> bool
     }
 }
 
+/// Whether some finding is an error.
+fn has_error(findings: &[Finding]) -> bool
+    ensures { result ≡ list_any is_error findings.now }
+{
+    findings.iter().any(|finding| is_error(finding))
+}
+
+/// Whether there is a finding, where warnings are denied.
+fn is_denied(findings: &[Finding], deny_warnings: bool) -> bool
+    ensures { result ≡ (deny_warnings && not (length findings.now == 0)) }
+{
+    deny_warnings && !findings.is_empty()
+}
+
 /// The exit status of a check whose load accepts.
 fn status_of(findings: &[Finding], deny_warnings: bool) -> u8
     ensures { result ≡ accepted_status deny_warnings findings.now }
 {
-    let has_error = findings.iter().any(|finding| is_error(finding));
-    if has_error || (deny_warnings && !findings.is_empty()) {
-        Status::Negative as u8
-    } else {
-        Status::Success as u8
+    if has_error(findings) {
+        return Status::Negative as u8;
     }
+    if is_denied(findings, deny_warnings) {
+        return Status::Negative as u8;
+    }
+    Status::Success as u8
 }
 
 /// What is wrong with files that a load accepts: its warnings, and what nextest refuses.

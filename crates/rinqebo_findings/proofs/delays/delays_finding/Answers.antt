@@ -19,8 +19,8 @@ returns-then-writes c =
     (c.as_slice-longest.ensures.value ∙ c.in_ok-last_path.ensures) is)
     c.delay_finding.ensures
 
-pub returns-else-writes : goal.returns-else-writes
-returns-else-writes c =
+pub returns : goal.returns
+returns c =
     let source = c.args.refused.now.source in
     IfOk-weaker c.delay_finding-else-writes.result
     (IsDelaysFinding source.layers.now source.position c.as_slice-first.result.now)

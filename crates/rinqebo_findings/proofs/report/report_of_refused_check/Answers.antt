@@ -5,6 +5,6 @@ pub returns-clause-faults : goal.returns-clause-faults
 returns-clause-faults c =
     record {
       found = c.append.new.self.items;
-      all = with_more _ _ _ _ c.in_ok-append.ensures.items c.in_ok-findings.ensures;
+      all = with_more _ _ _ _ c.in_ok-append.ensures.items c.in_ok-found.ensures;
       shows = c.in_ok-report_of.ensures.findings;
     }
