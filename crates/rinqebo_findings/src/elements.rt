@@ -272,59 +272,39 @@ pub fn fault_finding<'x>(
     }
 }
 
-/// The path of a key of the table in which a value is refused.
-fn path_of_stray<'p>(
-    alloc: Global,
-    source: SourceAt<'p, '_>,
-    fault: &'p ElementFault,
-    stray: &'p str,
-) -> Result<Vec<Step<'p>>, AllocError> {
-    let refusal = Fault::Value(&fault.cause);
-    let table = spelled_path(alloc, source, fault.path.as_str(), refusal)?;
-    path_with(alloc, &table, stray)
-}
-
-/// A copy of the key that the table at a path has in place of one that it lacks, if one is near
+/// The key that the table at a path of a source has in place of one that it lacks, if one is near
 /// that it does not know.
-fn stray_at(
+fn stray_at<'s>(
     alloc: Global,
-    source: SourceAt<'_, '_>,
+    source: SourceAt<'s, '_>,
     key: &str,
     table: &[Step<'_>],
-) -> Result<Option<String>, AllocError> {
-    let Some(tree) = value_at(source, table) else {
-        return Ok(None);
-    };
-    match stray_key(alloc, table, tree, key)? {
-        Some(stray) => Ok(Some(String::from_str(alloc, stray)?)),
+) -> Result<Option<&'s str>, AllocError> {
+    match value_at(source, table) {
+        Some(tree) => stray_key(alloc, table, tree, key),
         None => Ok(None),
     }
 }
 
-/// The finding that a table of a source lacks a key: at a key that it does not know, if one is
-/// near.
-fn missing_in_source(
+/// The finding that the table at a path of a source lacks a key: at a key that it does not know, if
+/// one is near.
+fn missing_in_source<'s>(
     refused: &Refused<'_, '_>,
-    fault: &ElementFault,
+    source: SourceAt<'s, '_>,
     key: &str,
-    table: &[Step<'_>],
+    table: &[Step<'s>],
 ) -> Result<Finding, AllocError> {
-    let alloc = refused.alloc;
-    match stray_at(alloc, refused.source, key, table)? {
-        Some(stray) => {
-            let at = path_of_stray(alloc, refused.source, fault, stray.as_str())?;
-            lack_finding(refused, key, table, &at, true)
-        }
-        None => lack_finding(refused, key, table, table, false),
-    }
+    let stray = stray_at(refused.alloc, source, key, table)?;
+    missing_finding(refused, key, table, stray)
 }
 
 /// Adds that a value is refused.
 pub fn add_element(refused: &mut Refused<'_, '_>, fault: &ElementFault) -> Result<(), AllocError> {
     let about = Fault::Value(&fault.cause);
-    let path = spelled_path(refused.alloc, refused.source, fault.path.as_str(), about)?;
+    let source = refused.source;
+    let path = spelled_path(refused.alloc, source, fault.path.as_str(), about)?;
     let found = match &fault.cause {
-        ElementCause::Missing(key) => missing_in_source(refused, fault, key.as_str(), &path)?,
+        ElementCause::Missing(key) => missing_in_source(refused, source, key.as_str(), &path)?,
         cause => element_finding(refused, cause, &path)?,
     };
     refused.add_finding(found)
