@@ -17,13 +17,13 @@ status error denied = cond (error || denied) 1 0
 
 -- a finding is an error
 pub by_error : (error denied r : Bool) → r ≡ error → r ≡ true → status error denied ≡ 1
-by_error error denied r is yes = ap (λ e. status e denied) (sym is ∙ yes)
+by_error error denied r is holds = ap (λ e. status e denied) (sym is ∙ holds)
 
 -- none is an error, and one is denied
 pub by_denied : (error denied r s : Bool) → r ≡ error → r ≡ false → s ≡ denied → s ≡ true
     → status error denied ≡ 1
-by_denied error denied r s is unset is' yes =
-    ap (λ e. status e denied) (sym is ∙ unset) ∙ ap (λ d. status false d) (sym is' ∙ yes)
+by_denied error denied r s is unset is' holds =
+    ap (λ e. status e denied) (sym is ∙ unset) ∙ ap (λ d. status false d) (sym is' ∙ holds)
 
 -- none is an error, and none is denied
 pub by_none : (error denied r s : Bool) → r ≡ error → r ≡ false → s ≡ denied → s ≡ false
