@@ -1,4 +1,4 @@
-use Rattle.std.proofs.Common.{[], ◌∷◌, ◌∙◌}
+use Rattle.std.proofs.Common.{◌∙◌}
 use Rattle.std.proofs.lemmas.Result.{IfOk-weaker}
 use Rattle.rinqebo_findings.specs.Subjects.{IsDelaysFinding}
 use Rattle.rinqebo_findings.proofs.Values.{delays_above, delays_here}

@@ -1,5 +1,4 @@
 use Rattle.std.proofs.Common.{◌∙◌, subst, sym}
-use Rattle.rinqebo_codes.specs.declared.code.Code.TheVariants.{MissingKey}
 use Rattle.rinqebo_files.specs.declared.places.SpanPart.TheVariants as parts
 use Rattle.rinqebo_findings.specs.Placed.{IsPlacedAt}
 use Rattle.rinqebo_findings.proofs.elements.lack_finding.Goals as goal
