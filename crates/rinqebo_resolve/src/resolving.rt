@@ -44,7 +44,7 @@ fn reason_of(alloc: Global, fault: &InputFault) -> Result<String, AllocError> {
 }
 
 /// The ending of a run that has no result.
-fn failed(alloc: Global, failure: &Failure) -> Result<Ending, AllocError>
+pub fn ending_of_failure(alloc: Global, failure: &Failure) -> Result<Ending, AllocError>
     ensures { IfOk result (ReportsFailure failure.now) }
 {
     match failure {
@@ -64,7 +64,7 @@ fn ended(alloc: Global, outcome: &Result<Answer, Failure>) -> Result<Ending, All
 {
     match outcome {
         Ok(answer) => Ok(Ending::Answered(document_of(alloc, &answer.report)?)),
-        Err(failure) => failed(alloc, failure),
+        Err(failure) => ending_of_failure(alloc, failure),
     }
 }
 
