@@ -112,21 +112,20 @@ fn compared_with_memory(
 ) -> Result<Compared, AllocError>
     ensures { IfOk result (λ end. EndsFor from.now to.now with_origins end.side end.ending) }
 {
-    let left = match reading_of(alloc, from)? {
-        Reading::Run(run) => run,
-        Reading::Ended(ending) => {
-            return Ok(Compared {
-                side: Some(SideName::From),
-                ending,
-            });
-        }
-    };
-    match reading_of(alloc, to)? {
-        Reading::Run(right) => ended_of(alloc, left, right, with_origins),
+    let left = reading_of(alloc, from)?;
+    let right = reading_of(alloc, to)?;
+    match left {
         Reading::Ended(ending) => Ok(Compared {
-            side: Some(SideName::To),
+            side: Some(SideName::From),
             ending,
         }),
+        Reading::Run(left_run) => match right {
+            Reading::Ended(ending) => Ok(Compared {
+                side: Some(SideName::To),
+                ending,
+            }),
+            Reading::Run(right_run) => ended_of(alloc, left_run, right_run, with_origins),
+        },
     }
 }
 
