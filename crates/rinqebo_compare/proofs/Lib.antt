@@ -1,2 +1,2 @@
-mod Ending
-mod Reported
+mod Endings
+mod Receiving

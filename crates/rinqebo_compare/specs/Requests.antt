@@ -14,10 +14,10 @@ pub record IsSideFor (asked : RequestedText) (side : DiffSide) : Type 0 where
 
 -- A request is for what changes from one run to another: for all settings of their tests and for
 -- the whole run, as a document of JSON.
-pub record IsRequestBetween (from to : RequestedText) (with_origins : Bool) (request : DiffRequest)
-    : Type 0 where
-  pub from : IsSideFor from request.from
-  pub to : IsSideFor to request.to
+pub record IsRequestBetween (left right : RequestedText) (with_origins : Bool)
+    (request : DiffRequest) : Type 0 where
+  pub from : IsSideFor left request.from
+  pub to : IsSideFor right request.to
   pub compared : AreAll request.compared.asked
   pub run : request.with_run ≡ true
   pub origins : request.with_origins ≡ with_origins

@@ -1,5 +1,5 @@
 use Rattle.rinqebo_forms.specs.Runs.{run_view}
-use Rattle.rinqebo_compare.proofs.Ending.{understood, unread}
+use Rattle.rinqebo_compare.proofs.Endings.{understood, unread}
 use Rattle.rinqebo_diff.specs.declared.loaded.SideName.TheVariants as names
 use Rattle.rinqebo_compare.proofs.comparing.compared_with_memory.Goals as goal
 

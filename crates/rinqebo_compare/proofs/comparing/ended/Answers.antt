@@ -1,4 +1,4 @@
-use Rattle.rinqebo_compare.proofs.Ending.{side_fails}
+use Rattle.rinqebo_compare.proofs.Endings.{side_fails}
 use Rattle.rinqebo_compare.proofs.comparing.ended.Goals as goal
 
 pub returns-in-Side : goal.returns-in-Side

@@ -1,4 +1,4 @@
-use Rattle.rinqebo_compare.proofs.Ending.{ends_in}
+use Rattle.rinqebo_compare.proofs.Endings.{ends_in}
 use Rattle.rinqebo_compare.proofs.comparing.ended_in.Goals as goal
 
 pub returns : goal.returns

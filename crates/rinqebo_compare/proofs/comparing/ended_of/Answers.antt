@@ -1,5 +1,5 @@
 use Rattle.rinqebo_forms.specs.Runs.{run_view}
-use Rattle.rinqebo_compare.proofs.Ending.{ends_of}
+use Rattle.rinqebo_compare.proofs.Endings.{ends_of}
 use Rattle.rinqebo_compare.proofs.comparing.ended_of.Goals as goal
 
 pub returns : goal.returns

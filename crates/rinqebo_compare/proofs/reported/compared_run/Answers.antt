@@ -1,4 +1,4 @@
-use Rattle.rinqebo_compare.proofs.Reported.{done_with}
+use Rattle.rinqebo_compare.proofs.Receiving.{done_with}
 use Rattle.rinqebo_compare.proofs.reported.compared_run.Goals as goal
 
 pub returns : goal.returns
