@@ -118,10 +118,10 @@ understood from to with_origins left right (Err want) reads_left reads_right so 
 pub unread : (from to : List ℕ) (with_origins : Bool) (name : SideName) (bytes : List ℕ) (ending : Ending)
     → IsNoRequest bytes ending → ((Holds : List ℕ → Type 0) → Holds bytes → HoldsOn Holds from to (Some name))
     → EndsFor from to with_origins (Some name) ending
-unread from to with_origins name bytes (ends.Answered text) no holds = absurd no
-unread from to with_origins name bytes (ends.Refused text) no holds = absurd no
-unread from to with_origins name bytes (ends.NoProfile text) no holds = absurd no
-unread from to with_origins name bytes (ends.NoEngines reason) no holds = absurd no
-unread from to with_origins name bytes (ends.NotUnderstood reason) no holds = holds (λ request. run_of request ≡ None) no
-unread from to with_origins name bytes ends.NotText no holds = holds (λ request. ¬ IsUtf8 request) no
-unread from to with_origins name bytes ends.Memory no holds = absurd no
+unread from to with_origins name bytes (ends.Answered text) is holds = absurd is
+unread from to with_origins name bytes (ends.Refused text) is holds = absurd is
+unread from to with_origins name bytes (ends.NoProfile text) is holds = absurd is
+unread from to with_origins name bytes (ends.NoEngines reason) is holds = absurd is
+unread from to with_origins name bytes (ends.NotUnderstood reason) is holds = holds (λ request. run_of request ≡ None) is
+unread from to with_origins name bytes ends.NotText is holds = holds (λ request. ¬ IsUtf8 request) is
+unread from to with_origins name bytes ends.Memory is holds = absurd is

@@ -1,5 +1,5 @@
 -- What callers receive of comparisons.
-use Rattle.std.proofs.Common.{◌≡◌, ◌∙◌, ◌⊎◌, ◌<◌, ◌≤◌, ◌++◌, inl, inr, ℕ, Bool, List, Option, None, Some, ap, arith, drop, length, refl, subst, sym, take}
+use Rattle.std.proofs.Common.{◌≡◌, ◌∙◌, ◌⊎◌, ◌<◌, ◌≤◌, ◌++◌, inl, inr, ℕ, Bool, Global, List, Option, None, Some, ap, arith, drop, length, refl, String, string_bytes, subst, sym, take}
 use Rattle.std.proofs.Math.Seq.{take-append_seam}
 use Rattle.std.proofs.lemmas.Bool.{cases_lt}
 use Rattle.rinqebo_compare.specs.Comparisons.{EndsFor, EndsUnderstood, IsCompared, IsDiffFor, counts_origins, side_number}
@@ -12,7 +12,7 @@ use Rattle.rinqebo_resolve.proofs.Reporting.{silent_text}
 use Rattle.rinqebo_session.specs.declared.status.TheConstants.{DONE}
 
 -- what a comparison ends with whose status is the first one
-document_of : (from to : List ℕ) (with_origins : Bool) (side : Option SideName) (text : List ℕ)
+document_of : (from to : List ℕ) (with_origins : Bool) (side : Option SideName) (text : String Global)
     → EndsUnderstood from to with_origins side (ends.Answered text)
     → (side_number side ≡ 0) × IsDiffFor from to with_origins (string_bytes text)
 document_of from to with_origins None text is = (
