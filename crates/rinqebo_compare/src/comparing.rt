@@ -42,9 +42,7 @@ fn reading_of(alloc: Global, request: &[u8]) -> Result<Reading, AllocError>
     match RunRequest::read(alloc, text) {
         Ok(run) => Ok(Reading::Run(run)),
         Err(RequestFault::Memory) => Err(AllocError),
-        Err(fault) => Ok(Reading::Ended(Ending::NotUnderstood(
-            format!(in alloc; "{fault}")?,
-        ))),
+        Err(fault) => Ok(Reading::Ended(Ending::NotUnderstood(format!(in alloc; "{fault}")?))),
     }
 }
 
