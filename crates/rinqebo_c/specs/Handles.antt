@@ -22,8 +22,8 @@ abbrev pub finished : List ℕ → Ptr → Fml
 finished request p =
     fex Run (λ r. fex (IsRunOf request r) (λ _. lies_at run_row full_share p r))
 
--- the run that has a comparison of two requests lies at p, beside the number of a side, and it is the
--- program's
+-- the run that has a comparison of two requests lies at p, beside the number of a side, and it is
+-- the program's
 abbrev pub compared : List ℕ → List ℕ → ℕ → ℕ → Ptr → Fml
 compared from to origins side p = fex Run (λ r. fex (IsComparedRun from to origins side r)
     (λ _. lies_at run_row full_share p r))

@@ -49,11 +49,11 @@ pub extern "C" fn rinqebo_resolve(
     resolve(alloc, request, answer, needed)
 }
 
-/// Compares the runs of two requests in JSON: writes the document of what changes from the first to
-/// the second, or why there is none, at the start of a buffer, and returns a number for which it is.
-/// Where the buffer is too small it stays as it was, and `needed` says what it takes. `side` says
-/// which side has no result. Unless `origins` is 0, other origins of a value that is the same are a
-/// change too.
+/// Compares the runs of two requests in JSON: writes the document of what changes from the first
+/// to the second, or why there is none, at the start of a buffer, and returns a number for which it
+/// is. Where the buffer is too small it stays as it was, and `needed` says what it takes. `side`
+/// says which side has no result. Unless `origins` is 0, other origins of a value that is the same
+/// are a change too.
 #[unsafe(no_mangle)]
 pub extern "C" fn rinqebo_diff(
     alloc: Global,
@@ -108,8 +108,8 @@ pub unsafe extern "C" fn rinqebo_run_new(alloc: Global, request: &[u8], room: *m
     (room as *mut Run).write(Run::new(alloc, request));
 }
 
-/// Compares the runs of two requests in JSON, as `rinqebo_diff` does, and keeps how that ends as a run,
-/// in room for a run. It always leaves a run there, whose status says how it ended.
+/// Compares the runs of two requests in JSON, as `rinqebo_diff` does, and keeps how that ends as a
+/// run, in room for a run. It always leaves a run there, whose status says how it ended.
 #[unsafe(no_mangle)]
 pub unsafe extern "C" fn rinqebo_diff_new(
     alloc: Global,

@@ -122,6 +122,7 @@ unread from to with_origins name bytes (ends.Answered text) is holds = absurd is
 unread from to with_origins name bytes (ends.Refused text) is holds = absurd is
 unread from to with_origins name bytes (ends.NoProfile text) is holds = absurd is
 unread from to with_origins name bytes (ends.NoEngines reason) is holds = absurd is
-unread from to with_origins name bytes (ends.NotUnderstood reason) is holds = holds (λ request. run_of request ≡ None) is
+unread from to with_origins name bytes (ends.NotUnderstood reason) is holds =
+    holds (λ request. run_of request ≡ None) is
 unread from to with_origins name bytes ends.NotText is holds = holds (λ request. ¬ IsUtf8 request) is
 unread from to with_origins name bytes ends.Memory is holds = absurd is

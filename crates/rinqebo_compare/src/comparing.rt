@@ -10,7 +10,7 @@ use rinqebo_changes::diff_json;
 use rinqebo_diff::{DiffFailure, DiffRequest, SideName, diff_answer};
 use rinqebo_files::Gathered;
 use rinqebo_forms::{RequestFault, RunRequest};
-use rinqebo_resolve::{Asked, Ending, ending_of_failure, parted};
+use rinqebo_resolve::{Ending, RequestedRun, ending_of_failure, parted};
 use rinqebo_rules::NoProgress;
 use std::alloc::{AllocError, Global};
 
@@ -73,8 +73,8 @@ fn ended(
 /// How what two runs request of their files ends.
 fn ended_in(
     alloc: Global,
-    from: &Asked,
-    to: &Asked,
+    from: &RequestedRun,
+    to: &RequestedRun,
     from_files: &Gathered,
     to_files: &Gathered,
     with_origins: bool,

@@ -28,11 +28,11 @@ fn side_number(side: Option<SideName>) -> u32
     }
 }
 
-/// Compares the runs of two requests in JSON: writes the document of what changes at the start of a
-/// buffer, or why there is none, and returns a number for which it is. Where the buffer is too small
-/// it stays as it was. Either way `needed` is the length of what there is to write, and `side` the
-/// number of the side that has no result. Unless `origins` is 0, other origins of a value that is the
-/// same are a change too.
+/// Compares the runs of two requests in JSON: writes the document of what changes at the start of
+/// a buffer, or why there is none, and returns a number for which it is. Where the buffer is too
+/// small it stays as it was. Either way `needed` is the length of what there is to write, and `side`
+/// the number of the side that has no result. Unless `origins` is 0, other origins of a value that
+/// is the same are a change too.
 pub fn compare(
     alloc: Global,
     from: &[u8],
@@ -53,8 +53,8 @@ pub fn compare(
     ending.report(answer, needed)
 }
 
-/// Compares the runs of two requests in JSON, and keeps how that ends as a run. There always is one:
-/// its status says how it ended. `side` and `origins` are those of [`compare`].
+/// Compares the runs of two requests in JSON, and keeps how that ends as a run. There always is
+/// one: its status says how it ended. `side` and `origins` are those of [`compare`].
 pub fn compared_run(alloc: Global, from: &[u8], to: &[u8], origins: u32, side: &mut u32) -> Run
     ensures { IsComparedRun from.now to.now origins side.new result }
 {

@@ -5,11 +5,11 @@ ghost use Rattle.rinqebo_compare.specs.Requests.{IsRequestBetween, IsSideFor};
 
 use rinqebo_diff::{ComparedSettings, DiffFormat, DiffRequest, DiffSide};
 use rinqebo_report::{Colour, Paper};
-use rinqebo_resolve::Asked;
+use rinqebo_resolve::RequestedRun;
 use std::alloc::{AllocError, Global};
 
 /// A side: what a run requests of its files.
-fn side_of<'a>(alloc: Global, asked: &'a Asked) -> Result<DiffSide<'a>, AllocError>
+fn side_of<'a>(alloc: Global, asked: &'a RequestedRun) -> Result<DiffSide<'a>, AllocError>
     ensures { IfOk result (IsSideFor (requested_view asked.now)) }
 {
     Ok(DiffSide {
@@ -23,8 +23,8 @@ fn side_of<'a>(alloc: Global, asked: &'a Asked) -> Result<DiffSide<'a>, AllocErr
 /// run, as a document of JSON.
 pub fn request_of<'a>(
     alloc: Global,
-    from: &'a Asked,
-    to: &'a Asked,
+    from: &'a RequestedRun,
+    to: &'a RequestedRun,
     with_origins: bool,
 ) -> Result<DiffRequest<'a>, AllocError>
     ensures { IfOk result (IsRequestBetween (requested_view from.now) (requested_view to.now)

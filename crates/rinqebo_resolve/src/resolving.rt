@@ -6,7 +6,7 @@ ghost use Rattle.rinqebo_session.specs.declared.status.TheConstants.{DONE};
 ghost use Rattle.rinqebo_resolve.specs.Asking.{requested_view};
 ghost use Rattle.rinqebo_resolve.specs.Endings.{IsAnswerTo, IsSilent, IsEndingFor, IsEndingIn, IsEndingOf, IsResolved, ReportsFailure, ReportsOutcome};
 
-use crate::asking::{Asked, LIST, parted};
+use crate::asking::{LIST, RequestedRun, parted};
 use crate::ending::Ending;
 use rinqebo_files::Gathered;
 use rinqebo_forms::{RequestFault, RunRequest};
@@ -69,7 +69,7 @@ fn ended(alloc: Global, outcome: &Result<Answer, Failure>) -> Result<Ending, All
 }
 
 /// How what a run requests of files ends.
-fn ending_in(alloc: Global, asked: &Asked, gathered: &Gathered) -> Result<Ending, AllocError>
+fn ending_in(alloc: Global, asked: &RequestedRun, gathered: &Gathered) -> Result<Ending, AllocError>
     ensures { IfOk result (IsEndingIn (requested_view asked.now) gathered.now) }
 {
     let request = asked.request(alloc)?;

@@ -115,7 +115,8 @@ rinqebo_diff_new_spec 𝓤 𝓛 𝓜 𝓡 wired =
     -- [the room; `side`; the number of origins; `to`; `from`; the allocator; the tokens]
     in_a_block ! p (λ s. room_at the_row s) (id⊢ 𝓤 _) (λ b o e.
     regoal ! (λ (us : List Val). prop (WpFn 𝓤 𝓛.H 𝓣.C 𝓣.Λ code.function us Post))
-    (λ i. h.1 i ++ (is_from i ++ (is_to i ++ (is_origins i ++ ((is_p ∙ ap rawptr_vals e) i ++ (is_side i ++ [])))))) refl $
+    (λ i. h.1 i ++ (is_from i
+    ++ (is_to i ++ (is_origins i ++ ((is_p ∙ ap rawptr_vals e) i ++ (is_side i ++ [])))))) refl $
     enter ! _ _ _ _ _ $ alloc_all !
     (λ l. pass_all ! refl (
       h.2,
@@ -157,7 +158,8 @@ rinqebo_diff_new_spec 𝓤 𝓛 𝓜 𝓡 wired =
     (lasts g.ended y.0.0 y.0.3 ws) ⊛ raw
     (fact 𝓤 (IsComparedRun from.now to.now origins ws.1.1.1.1.0 s)))))) (id⊢ 𝓤 _) $
     await ! tt $ pick ! (λ s. split ! $ move ! (1 ∷ []) $ pick ! (λ ws. split ! $ move ! (1 ∷ []) $ heard ! _ (λ is.
-    fsplit ! $ drop ! $ fsplit ! $ drop ! $ fsplit ! $ drop ! $ fsplit ! $ drop ! $ fsplit ! $ move ! (1 ∷ []) $ drop ! $
+    fsplit ! $ drop ! $ fsplit ! $ drop ! $ fsplit ! $ drop ! $ fsplit ! $ drop ! $ fsplit ! $ move ! (1 ∷ [])
+    $ drop ! $
     -- [`side` at its last value; the tokens and the run; the room; the locals]
     move ! (1 ∷ []) $ split ! $ move ! (1 ∷ []) $
     -- [what the run owns; the tokens; `side`; the room; the locals]
@@ -169,7 +171,8 @@ rinqebo_diff_new_spec 𝓤 𝓛 𝓜 𝓡 wired =
     returns ! (look_at ! 0 refl) $ free_all ! refl $
     move ! (3 ∷ 0 ∷ []) $ use2 𝓛 (‵ (part_at the_row full_share s b o)) (part_in 𝓛 the_row refl full_share s b o v) $
     rewrite ! 0 (λ (q : Ptr). ‵ (lies_at the_row full_share q s)) (sym e) refl $
-    fpack ! (IsComparedRun from.now to.now origins ws.1.1.1.1.0 s) (λ _. lies_at the_row full_share p s) is $ fpack ! Run
+    fpack ! (IsComparedRun from.now to.now origins ws.1.1.1.1.0 s) (λ _. lies_at the_row full_share p s) is $
+    fpack ! Run
     (λ (r : Run). fex (IsComparedRun from.now to.now origins ws.1.1.1.1.0 r) (λ _. lies_at the_row full_share p r)) s $
     -- [the run; the tokens; `side`]
     suffices ! _ (ends_at 𝓛 f.ended stayed c z vunit tt
