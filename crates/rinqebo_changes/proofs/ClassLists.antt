@@ -29,7 +29,7 @@ keeps_some {X} p (y ∷ ys) x (suc k) lt is passes =
     longer true z zs h = omega arith
     longer false z zs h = h
 
--- what does not stand together with one of some elements is less than they all
+-- what is not put together with one of some elements is less than they all
 pub fewer : {X : Type 0} (p : X → Bool) (xs : List X) (x : X) → Contains xs x → p x ≡ true
     → length (filter (λ y. not (p y)) xs) < length xs
 fewer p xs x here passes =
@@ -70,7 +70,7 @@ all_pass p (x ∷ xs) = kept (p x) refl (all_pass p xs)
     kept true is all = (is, all)
     kept false is all = all
 
--- classes have all elements, and those of a class stand together
+-- classes have all elements, and those of a class are put together
 pub whole_classes : (rule : ClassRule) {items : List Item} {classes : List (List Item)}
     → AreClasses (same_item rule) items classes → AreWhole rule items classes
 whole_classes rule none = record { kept = IsPermutation-refl []; uniform = tt }

@@ -20,12 +20,15 @@ use Rattle.rinqebo_changes.proofs.SameValues.{setting_decides}
 pub record HaveSameValue (a b : SideRow) : Type 0 where
   pub same : option_map value_view a.row.value ≡ option_map value_view b.row.value
 
-no_change : (p q : Bool) → p ≡ true → (not p || (false && q)) ≡ false
-no_change p q h = rw h
+-- a row does not change whose values are the same, where origins do not count
+no_change : (p : Bool) → p ≡ true → (not p || false) ≡ false
+no_change p h = rw h
 
 -- a row whose value stays does not change
 stays : (from to : List Source) (a b : SideRow) → HaveSameValue a b → is_change from to false a b ≡ false
-stays from to a b alike = no_change _ _ ((setting_decides a.row.value b.row.value).1 alike.same)
+stays from to a b alike =
+    no_change (option_eq same_value a.row.value b.row.value)
+    ((setting_decides a.row.value b.row.value).1 alike.same)
 
 none_from : (from to : List Source) (n : ℕ) (xs ys : List SideRow) → AllZip HaveSameValue xs ys
     → filter (λ c. is_change from to false c.from c.to) (map change_of (enumerate_from n (zip xs ys))) ≡ []

@@ -12,8 +12,8 @@ arrow_line style left right = left ++ styled style (codes " -> ") ∷ right
 abbrev pub behind_arrow : ℕ → Style → List Run → List Run
 behind_arrow indent style right = repeated 32 indent ∷ styled style (codes "-> ") ∷ right
 
--- two things with an arrow between them: on one line if it fits, and else on two, of which the arrow
--- begins the second
+-- two things with an arrow between them: on one line if it fits, and else on two, of which the
+-- arrow begins the second
 abbrev pub arrow_runs : ℕ → ℕ → Style → List Run → List Run → List Run
 arrow_runs columns indent style left right =
     if fits columns (arrow_line style left right) then arrow_line style left right ++ ending ∷ []

@@ -14,7 +14,7 @@ use Rattle.rinqebo_changes.specs.Same.{same_value}
 use Rattle.rinqebo_changes.specs.SameOrigin.{like_origins}
 use Rattle.rinqebo_changes.specs.ValueViews.{value_view}
 
--- whether a value comes from the same on both sides: from the lists, or from origins that are alike
+-- whether a value comes from the lists on both sides, or from origins that are alike
 abbrev pub like_source_of : List Source → List Source → SideRow → SideRow → Bool
 like_source_of sources others from to =
     beq from.is_ignored to.is_ignored
@@ -27,11 +27,11 @@ is_change sources others with_origins from to =
     not (option_eq same_value from.row.value to.row.value)
     || (with_origins && not (like_source_of sources others from to))
 
--- a setting that the list of a side says nothing of
+-- a row of a side that its list does not decide
 abbrev pub side_row : SettingRow → SideRow
 side_row row = record { row = row; is_ignored = false }
 
--- the row that says whether a test runs, where that is compared
+-- the row of whether a test runs, where that is compared
 abbrev pub runs_in : Bool → SideRow → List SideRow
 runs_in true runs = runs ∷ []
 runs_in false runs = []

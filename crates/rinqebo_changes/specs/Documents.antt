@@ -20,8 +20,8 @@ given_members given =
     (member (codes "origins") (list_data origin_data given.row.origins.items)
     (member (codes "value") (optional_value_data given.row.value) no_members))
 
--- what a side gives to a setting: of whether a test runs that a list says to be ignored, a member
--- says so
+-- what a side gives to a setting: the row `runs` of a test that a list gives as ignored has a
+-- member for it
 abbrev pub given_data : SideRow → Data
 given_data given =
     if given.is_ignored

@@ -10,7 +10,7 @@ use Rattle.rinqebo_changes.specs.declared.diff.Diff.{Diff}
 use Rattle.rinqebo_changes.specs.declared.diff.Side.{Side}
 use Rattle.rinqebo_changes.specs.declared.head.Head.{Head}
 
--- What a header has of a side, in parts.
+-- The parts of a side's header.
 pub record Parts : Type 0 where
   pub first : List ℕ
   pub others : List (List ℕ)
@@ -31,7 +31,7 @@ other_parts asked =
 abbrev pub asked_parts : Asked → Parts
 asked_parts asked = record { first = profiles_part asked; others = other_parts asked }
 
--- the file of a side that lies above all others, or the defaults
+-- the highest file of a side, or the defaults
 abbrev pub file_text : Side → List ℕ
 file_text side =
     path_at (string_bytes side.root) side.sources.items (length side.sources.items - 1)
@@ -47,18 +47,18 @@ one_text parts = parts.first ++ flat_map (λ part. codes " " ++ part) parts.othe
 abbrev pub side_runs : ℕ → List ℕ → Parts → List Run
 side_runs columns word parts = header_runs columns (word ++ parts.first) parts.others
 
--- what each side has, on one line
+-- the headers of both sides, on one line
 abbrev pub both_text : Parts → Parts → List ℕ
 both_text from to = codes "# from " ++ (one_text from ++ (codes "  to " ++ one_text to))
 
--- what each side has: on one line if it fits, and else each side on its own
+-- the headers of both sides: on one line if they fit, and else on lines of their own
 abbrev pub apart_runs : ℕ → Parts → Parts → List Run
 apart_runs columns from to =
     if fits columns (styled styles.Remark (both_text from to) ∷ [])
     then remark_line (both_text from to)
     else side_runs columns (codes "from ") from ++ side_runs columns (codes "to ") to
 
--- what both sides have, or what each has
+-- the header that both sides have, or else that of each
 abbrev pub both_runs : ℕ → Parts → Parts → List Run
 both_runs columns from to =
     if bytes_eq (one_text from) (one_text to) then side_runs columns [] from

@@ -78,9 +78,9 @@ pub record AreBeside (to from right rest : List SettingRow) : Type 0 where
 
 -- Rows of two sides are put beside each other: the left ones are those of the left side and then
 -- rows without a value, the right ones are those of the right side, in another order, and rows
--- without a value, and two beside each other have the same key. Rows of one key keep their order. No
--- key has a row without a value on both sides: each row has one of the other side beside it, unless
--- those are used up.
+-- without a value, and two beside each other have the same key. Rows of one key keep their order.
+-- No key has a row without a value on both sides: each row has one of the other side beside it,
+-- unless those are used up.
 pub record AreAligned (from to left right : List SettingRow) : Type 0 where
   pub left_absent : List SettingRow
   pub left_nothing : All SaysNothing left_absent

@@ -13,7 +13,7 @@ use Rattle.rinqebo_changes.specs.declared.groups.Group.{Group}
 use Rattle.rinqebo_changes.specs.Groups.{AreGroups}
 use Rattle.rinqebo_changes.specs.Pages.{has_source, is_whole, setting_text, source_text}
 
--- whether a character has a meaning in a table or in a text between two marks
+-- whether a character has a meaning in a table, or marks up a text
 abbrev pub is_mark : ℕ → Bool
 is_mark c =
     c == 92 || c == 96 || c == 42 || c == 95 || c == 91 || c == 93 || c == 60 || c == 62
@@ -55,8 +55,8 @@ abbrev pub whole_cell : List ℕ → ℕ → List ℕ
 whole_cell binary n =
     marked_text binary ++ (codes " \\* (" ++ (decimal n ++ codes " tests)<br>"))
 
--- the changes of a binary's tests, of which one is the first: once where they are all, unless each
--- is listed
+-- the changes of a binary's tests, of which one is the first: once if all its tests change, unless
+-- each is to be listed
 abbrev pub binary_cell_at : List BinaryTests → Bool → List Item → Option Item → List ℕ
 binary_cell_at binaries lists_all items None = flat_map item_cell items
 binary_cell_at binaries lists_all items (Some item) =

@@ -70,7 +70,7 @@ two_site_runs columns from to =
     arrow_runs columns 8 styles.Remark (repeated 32 4 ∷ styled styles.Remark from ∷ [])
     (styled styles.Remark to ∷ [])
 
--- where the two values come from, if that is known of one
+-- where the two values come from, if that is known of at least one
 abbrev pub site_runs : ℕ → Diff → RowChange → List Run
 site_runs columns diff row =
     if has_source row.from || has_source row.to
@@ -96,20 +96,19 @@ whole_runs binary n =
     plain (codes "    ") ∷ plain binary ∷ plain (codes " *  (") ∷ numbered n
     ∷ plain (codes " tests)") ∷ ending ∷ []
 
--- how many tests a binary has, among binaries
+-- how many tests a binary has: none if it is not one of these binaries
 abbrev pub total_of : List BinaryTests → List ℕ → ℕ
 total_of [] binary = 0
 total_of (b ∷ bs) binary =
     if bytes_eq (string_bytes b.binary) binary then b.tests else total_of bs binary
 
--- whether so many changes of tests of the binary of a first one are those of all its tests, of
--- which there are several
+-- whether a binary has so many tests, and has several: one of its changes is given, the first
 abbrev pub whole_at : List BinaryTests → ℕ → Option Item → Bool
 whole_at binaries n None = false
 whole_at binaries n (Some item) =
     nat_lt 1 n && (n == total_of binaries (string_bytes item.test.now.binary))
 
--- whether changes of a binary's tests are those of all its tests, of which there are several
+-- whether changes of a binary's tests are those of all its tests, and it has several
 abbrev pub is_whole : List BinaryTests → List Item → Bool
 is_whole binaries items = whole_at binaries (length items) (slice_get items 0)
 
@@ -117,8 +116,8 @@ is_whole binaries items = whole_at binaries (length items) (slice_get items 0)
 abbrev pub item_runs : Item → List Run
 item_runs item = test_runs item.test.now
 
--- the changes of a binary's tests, of which one is the first: one line where they are all, unless
--- each is listed
+-- the changes of a binary's tests, of which one is the first: one line if all its tests change,
+-- unless each is to be listed
 abbrev pub binary_runs_at : List BinaryTests → Bool → List Item → Option Item → List Run
 binary_runs_at binaries lists_all items None = flat_map item_runs items
 binary_runs_at binaries lists_all items (Some item) =
@@ -153,7 +152,7 @@ run_runs columns diff =
     if length diff.run.items == 0 then []
     else remark_line (codes "# run") ++ flat_map (change_runs columns diff) diff.run.items
 
--- that so many tests of all change
+-- how many of the compared tests change
 abbrev pub count_runs : ℕ → ℕ → List Run
 count_runs changed compared =
     numbered changed ∷ plain (codes " of ") ∷ numbered compared

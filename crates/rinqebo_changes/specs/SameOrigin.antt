@@ -40,7 +40,7 @@ same_part (Override a) (Override b) = a == b
 same_part (Script a) (Script b) = a == b
 same_part _ _ = false
 
--- whether the same part of the same profile is meant
+-- whether two values are written in the same part of the same profile
 abbrev pub same_written : Written → Written → Bool
 same_written a b =
     bytes_eq (string_bytes a.profile) (string_bytes b.profile) && same_part a.part b.part

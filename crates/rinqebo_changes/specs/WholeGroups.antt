@@ -12,8 +12,7 @@ use Rattle.rinqebo_changes.specs.Classes.{class_items, item_view, items_of}
 use Rattle.rinqebo_changes.specs.OriginViews.{PlainOrigin, origin_view}
 use Rattle.rinqebo_changes.specs.ValueViews.{PlainValue, value_view}
 
--- what a side gives to a setting: its value, whether a list says that the test is ignored, and
--- origins
+-- what a side gives to a setting: its value, whether a list gives the test as ignored, and origins
 abbrev pub given_view : SideRow → (Option PlainValue × Bool) × List PlainOrigin
 given_view given = (
   (option_map value_view given.row.value, given.is_ignored),

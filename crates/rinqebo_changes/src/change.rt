@@ -12,7 +12,7 @@ use std::alloc::{AllocError, Global};
 pub struct SideRow {
     /// Its key, its value, and where that comes from.
     pub row: SettingRow,
-    /// Whether it says whether a test runs, and the list of the side says that the test is ignored.
+    /// Whether it is the row `runs` of a test that the list of the side gives as ignored.
     pub is_ignored: bool,
 }
 
@@ -43,12 +43,12 @@ pub struct Comparison<'s> {
     pub sources: TwoSources<'s>,
     /// Whether other origins are a change too, where the values are the same.
     pub with_origins: bool,
-    /// Whether it is compared whether tests run.
+    /// Whether the rows `runs` are compared too.
     pub with_runs: bool,
 }
 
 impl Comparison<'_> {
-    /// Whether a value comes from the same on both sides: from the lists, or from like origins.
+    /// Whether a value comes from the lists on both sides, or from like origins.
     fn is_like_source(&self, from: &SideRow, to: &SideRow) -> bool
         ensures { result ≡ like_source_of self.now.sources.from.now self.now.sources.to.now
             from.now to.now }
@@ -70,7 +70,7 @@ impl Comparison<'_> {
     }
 }
 
-/// Settings that the list of a side says nothing of.
+/// Rows of a side, of which its list decides none.
 pub fn side_rows(alloc: Global, rows: Vec<SettingRow>) -> Result<Vec<SideRow>, AllocError>
     ensures { IfOk result (λ sides. sides.items ≡ map side_row rows.items) }
 {
@@ -115,7 +115,7 @@ fn rows_beside(
         .collect(alloc)
 }
 
-/// The rows that change, of two lists of as many rows.
+/// The rows that change between two lists of the same length.
 pub fn changed_rows(
     alloc: Global,
     compare: &Comparison<'_>,

@@ -36,7 +36,7 @@ pub enum ClassRule {
     Binary,
 }
 
-/// Whether two rows of a side have the same value, which comes from the same.
+/// Whether two rows of a side have the same value from the same origins.
 fn is_same_row(a: &SideRow, b: &SideRow) -> bool
     ensures { result ≡ same_row a.now b.now }
 {

@@ -11,7 +11,7 @@ use crate::diff::{Diff, Side};
 use rinqebo_report::{Asked, Colour, Paper, Piece, Style, add_pieces, path_at};
 use std::alloc::{AllocError, Global};
 
-/// What a header has of a side, in parts.
+/// The parts of a side's header.
 #[derive(Drop)]
 struct Head {
     /// The first part.
@@ -20,7 +20,7 @@ struct Head {
     others: Vec<String>,
 }
 
-/// Writes a remark, in a line.
+/// Writes a remark on a line of its own.
 pub(crate) fn add_remark<'x>(
     out: &mut String,
     colour: Colour,
@@ -32,7 +32,7 @@ pub(crate) fn add_remark<'x>(
     add_pieces(out, colour, &[Piece::Text(Style::Remark, text), Piece::End])
 }
 
-/// Whether a line fits with one part more.
+/// Whether a line fits with one more part.
 fn has_room(alloc: Global, columns: usize, line: &str, part: &str) -> Result<bool, AllocError>
     ensures { IfOk result (λ has. has ≡ has_room columns line.now part.now) }
 {
@@ -44,7 +44,7 @@ fn has_room(alloc: Global, columns: usize, line: &str, part: &str) -> Result<boo
     )
 }
 
-/// Puts a part behind a line if there is room, and else writes the line and begins another.
+/// Appends a part to a line if there is room, and else writes the line and begins another.
 fn add_part(
     alloc: Global,
     out: &mut String,
@@ -65,7 +65,7 @@ fn add_part(
     }
 }
 
-/// Writes lines that begin with a mark, as many parts on each as fit.
+/// Writes lines that begin with a number sign and have as many parts as fit.
 fn add_parts(
     alloc: Global,
     out: &mut String,
@@ -117,7 +117,7 @@ fn mode_part(alloc: Global, asked: &Asked) -> Result<String, AllocError>
     Ok(part)
 }
 
-/// The triple of the host, and that it is only assumed.
+/// The triple of the host, with a remark if it is only assumed.
 fn host_text(alloc: Global, asked: &Asked) -> Result<String, AllocError>
     ensures { IfOk result (λ text. string_bytes text ≡ host_text asked.now) }
 {
@@ -128,8 +128,8 @@ fn host_text(alloc: Global, asked: &Asked) -> Result<String, AllocError>
     Ok(text)
 }
 
-/// The parts behind the profiles of a side: its mode, and the triples of its build, that of the host
-/// alone where there is no target.
+/// The parts behind the profiles of a side: its mode, and the triples of its build: that of the
+/// host alone if there is no target.
 fn other_parts(alloc: Global, asked: &Asked) -> Result<Vec<String>, AllocError>
     ensures { IfOk result (λ parts. map string_bytes parts.items ≡ other_parts asked.now) }
 {
@@ -154,7 +154,7 @@ fn asked_head(alloc: Global, asked: &Asked) -> Result<Head, AllocError>
     Ok(Head { first, others })
 }
 
-/// The file of a side that lies above all others, as a text: without a file, the defaults.
+/// The highest file of a side, as a text, or the defaults if it has no file.
 fn file_text<'s>(side: &'s Side) -> &'s str
     ensures { result.now ≡ file_text side.now }
 {
@@ -162,7 +162,7 @@ fn file_text<'s>(side: &'s Side) -> &'s str
     path_at(side.root.as_str(), &side.sources, last)
 }
 
-/// The file of a side that lies above all others.
+/// The highest file of a side.
 fn file_head(alloc: Global, side: &Side) -> Result<Head, AllocError>
     ensures { IfOk result (λ head. head_view head ≡ file_parts side.now) }
 {
@@ -184,7 +184,7 @@ impl Head {
         Ok(text)
     }
 
-    /// Writes lines of the parts behind a word, as many on each as fit.
+    /// Writes a word and the parts, as many on each line as fit.
     fn add_lines(
         &self,
         alloc: Global,
@@ -201,7 +201,7 @@ impl Head {
     }
 }
 
-/// Writes what each side has, each on its own.
+/// Writes the header of each side on lines of its own.
 fn add_each(
     alloc: Global,
     out: &mut String,
@@ -217,7 +217,7 @@ fn add_each(
     to.add_lines(alloc, out, paper, "to ")
 }
 
-/// What each side has, on one line.
+/// The headers of both sides, on one line.
 fn both_text(alloc: Global, from: &Head, to: &Head) -> Result<String, AllocError>
     ensures { IfOk result (λ text. string_bytes text
         ≡ both_text (head_view from.now) (head_view to.now)) }
@@ -227,7 +227,7 @@ fn both_text(alloc: Global, from: &Head, to: &Head) -> Result<String, AllocError
     format!(in alloc; "# from {from}  to {to}")
 }
 
-/// Writes what each side has: on one line if it fits, and else each side on its own.
+/// Writes the headers of both sides: on one line if they fit, and else on lines of their own.
 fn add_apart(
     alloc: Global,
     out: &mut String,
@@ -247,7 +247,7 @@ fn add_apart(
     }
 }
 
-/// Whether both sides have the same.
+/// Whether both sides have the same header.
 fn is_same(alloc: Global, from: &Head, to: &Head) -> Result<bool, AllocError>
     ensures { IfOk result (λ is. is
         ≡ bytes_eq (one_text (head_view from.now)) (one_text (head_view to.now))) }
@@ -257,7 +257,7 @@ fn is_same(alloc: Global, from: &Head, to: &Head) -> Result<bool, AllocError>
     Ok(from.as_str() == to.as_str())
 }
 
-/// Writes what both sides have, or what each has.
+/// Writes the header that both sides have, or else that of each.
 fn add_both(
     alloc: Global,
     out: &mut String,

@@ -33,7 +33,7 @@ fn place_of(rows: &[SettingRow], key: &str) -> Option<usize>
     rows.iter().position(|row| row.key.as_str() == key)
 }
 
-/// Takes the first row of a key out of rows, or makes one that says that there is none.
+/// Takes the first row of a key out of rows, or makes one without a value if there is none.
 fn taken(alloc: Global, rows: &mut Vec<SettingRow>, key: &str) -> Result<SettingRow, AllocError>
     ensures { IfOk result (λ row. IsTaken key.now rows.old.items row rows.new.items) }
 {

@@ -58,9 +58,9 @@ pub fn law_keyed()
         → AreKeyedChanges from to changes → changes ≡ [] }
 {}
 
-/// A row with an arrow says the same for every number of columns: but for blanks, ends of lines,
-/// commas and number signs its text is the same. Each line of it fits if what is on each side of the
-/// arrow does on a line of its own.
+/// A row with an arrow shows the same for every number of columns: its text is the same but for
+/// blanks, ends of lines, commas and number signs. Each of its lines fits if each side of the arrow
+/// fits on a line of its own.
 pub fn law_arrows()
     ensures rows { (columns others indent : ℕ) (style : Shown) (left right : List Run)
         → solid_page (arrow_runs columns indent style left right)

@@ -14,7 +14,7 @@ use std::alloc::{AllocError, Global};
 /// The head of the table.
 const HEAD: &str = "| Setting | From | To | Tests |\n|---|---|---|---|\n";
 
-/// Whether a character has a meaning in a table or in a text between two marks.
+/// Whether a character has a meaning in a table, or marks up a text.
 fn is_mark(c: char) -> bool
     ensures { result ≡ is_mark c }
 {
@@ -24,7 +24,7 @@ fn is_mark(c: char) -> bool
     )
 }
 
-/// Writes a character, so that it is shown as it is.
+/// Writes a character so that it is shown as it is: a control character as a space.
 fn add_char(out: &mut String, c: char) -> Result<(), AllocError>
     ensures { OnOk result (string_bytes out.new ≡ string_bytes out.old ++ marked_char c) }
 {
@@ -38,7 +38,7 @@ fn add_char(out: &mut String, c: char) -> Result<(), AllocError>
     out.push(c)
 }
 
-/// Writes a text, so that it is shown as it is.
+/// Writes a text so that it is shown as it is.
 fn add_text(out: &mut String, text: &str) -> Result<(), AllocError>
     ensures { OnOk result (string_bytes out.new ≡ string_bytes out.old ++ marked_text text.now) }
 {
@@ -112,8 +112,8 @@ fn add_whole(alloc: Global, out: &mut String, binary: &str, count: usize) -> Res
     out.push_str(count.as_str())
 }
 
-/// Writes the changes of a binary's tests, of which one is the first: once where they are all,
-/// unless each is listed.
+/// Writes the changes of a binary's tests, of which one is the first: once if all its tests change,
+/// unless each is to be listed.
 fn add_from(
     alloc: Global,
     out: &mut String,

@@ -58,7 +58,7 @@ pub fn is_same_value(a: &Value, b: &Value) -> bool
     }
 }
 
-/// Whether a setting has the same value twice, or none.
+/// Whether two settings have the same value, or neither has one.
 pub fn is_same_setting(a: &Option<Value>, b: &Option<Value>) -> bool
     ensures { result ≡ option_eq same_value a.now b.now }
 {

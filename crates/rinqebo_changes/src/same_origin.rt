@@ -7,7 +7,7 @@ use rinqebo_report::{
     FileLines, FilePlace, Origin, Part, Position, Range, Source, SourceKind, Written,
 };
 
-/// Whether lines are the same, or not known twice.
+/// Whether lines are the same, or both unknown.
 fn are_same_lines(a: Option<FileLines>, b: Option<FileLines>) -> bool
     ensures { result ≡ option_eq same_lines a b }
 {
@@ -25,7 +25,7 @@ fn is_same_position(a: Position, b: Position) -> bool
     a.line == b.line && a.column == b.column
 }
 
-/// Whether ranges are the same, or not known twice.
+/// Whether ranges are the same, or both unknown.
 fn are_same_ranges(a: Option<Range>, b: Option<Range>) -> bool
     ensures { result ≡ option_eq same_range a b }
 {
@@ -55,7 +55,7 @@ fn is_same_part(a: Part, b: Part) -> bool
     }
 }
 
-/// Whether the same part of the same profile is meant.
+/// Whether two values are written in the same part of the same profile.
 fn is_same_written(a: &Written, b: &Written) -> bool
     ensures { result ≡ same_written a.now b.now }
 {

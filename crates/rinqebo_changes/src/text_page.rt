@@ -96,7 +96,7 @@ fn add_two_sites<'x>(
     )
 }
 
-/// Writes where the two values come from, if that is known of one.
+/// Writes where the two values come from, if that is known of at least one.
 fn add_sites(
     alloc: Global,
     out: &mut String,
@@ -185,7 +185,7 @@ fn add_whole<'x>(
     )
 }
 
-/// How many tests a binary has, among binaries.
+/// How many tests a binary has: none if it is not one of these binaries.
 pub fn total_of(binaries: &[BinaryTests], binary: &str) -> usize
     ensures { result ≡ total_of binaries.now binary.now }
 {
@@ -197,15 +197,14 @@ pub fn total_of(binaries: &[BinaryTests], binary: &str) -> usize
     0
 }
 
-/// Whether so many changes of tests of the binary of a first one are those of all its tests, of
-/// which there are several.
+/// Whether a binary has so many tests, and has several. One of its changes is given, the first.
 fn is_whole_at(binaries: &[BinaryTests], count: usize, first: &Item<'_>) -> bool
     ensures { result ≡ whole_at binaries.now count (Some first.now) }
 {
     1 < count && count == total_of(binaries, first.test.binary.as_str())
 }
 
-/// Whether changes of a binary's tests are those of all its tests, of which there are several.
+/// Whether changes of a binary's tests are those of all its tests, and it has several.
 pub fn is_whole(diff: &Diff, items: &[Item<'_>]) -> bool
     ensures { result ≡ is_whole diff.now.binaries.items items.now }
 {
@@ -226,8 +225,8 @@ fn add_tests(out: &mut String, colour: Colour, items: &[Item<'_>]) -> Result<(),
     Ok(())
 }
 
-/// Writes the changes of a binary's tests, of which one is the first: in one line where they are
-/// all, unless each is listed.
+/// Writes the changes of a binary's tests, of which one is the first: on one line if all its tests
+/// change, unless each is to be listed.
 fn add_from(
     out: &mut String,
     colour: Colour,
@@ -307,7 +306,8 @@ fn add_groups(
     groups: &[Group<'_>],
 ) -> Result<(), AllocError>
     ensures { OnOk result (string_bytes out.new ≡ string_bytes out.old
-        ++ page_text paper.colour (flat_map (group_runs paper.columns diff.now lists_all) groups.now)) }
+        ++ page_text paper.colour
+        (flat_map (group_runs paper.columns diff.now lists_all) groups.now)) }
 {
     for group in groups {
         add_group(alloc, out, paper, diff, lists_all, group)?;
@@ -350,7 +350,7 @@ fn add_run(alloc: Global, out: &mut String, paper: Paper, diff: &Diff) -> Result
     Ok(())
 }
 
-/// Writes that so many tests of all change.
+/// Writes how many of the compared tests change.
 fn add_count(
     out: &mut String,
     colour: Colour,

@@ -32,7 +32,7 @@ fn origins_text(alloc: Global, side: &Side, origins: &[Origin]) -> Result<String
     Ok(text)
 }
 
-/// What a page shows in place of the origins of a test that a list says to be ignored.
+/// What a page shows in place of the origins of a test that a list gives as ignored.
 const IGNORED: &str = "ignored in LIST";
 
 /// Where the value of a side comes from, as a text.

@@ -3,6 +3,7 @@ use Rattle.std.proofs.Common.{◌≡◌, ◌∙◌, Bool, List, [], ◌∷◌, �
 use Rattle.std.specs.List.{AllZip, filter_map}
 use Rattle.std.specs.Option.{option_to_list}
 use Rattle.std.proofs.lemmas.List.Elements.{filter_map-append}
+use Rattle.std.proofs.lemmas.Slice.Zip.{all_zipped_more}
 use Rattle.nextest_lists.specs.Lists.{ListTest}
 use Rattle.rinqebo_changes.specs.Changes.{changed_rows, rows_in, IsChangedTest}
 use Rattle.rinqebo_changes.specs.declared.change.SideRow.{SideRow}
@@ -11,7 +12,6 @@ use Rattle.rinqebo_report.specs.declared.report.TestRows.{TestRows}
 use Rattle.rinqebo_rules.specs.TestOrigins.{Basis}
 use Rattle.rinqebo_diff.specs.Compared.{AreCompared, IsComparedBy}
 use Rattle.rinqebo_sides.specs.Matched.{TestPair}
-use Rattle.rinqebo_sides.proofs.Zips.{zip_push}
 
 kept_more : {X : Type 0} (rs : List (Option X)) (r : Option X)
     → filter_map (λ q. q) (rs ++ r ∷ []) ≡ filter_map (λ q. q) rs ++ option_to_list r
@@ -27,7 +27,7 @@ pub compared_more : {left right : ListTest → TestRows → Type 0} {changes : S
 compared_more {left} {right} {changes} {with_runs} pairs more pair changed result after is are one then = record {
   results = are.results ++ result ∷ [];
   each = subst (λ ps. AllZip (IsComparedBy left right changes with_runs) ps (are.results ++ result ∷ [])) (sym is)
-      (zip_push (IsComparedBy left right changes with_runs) pairs are.results pair result are.each one);
+      (all_zipped_more (IsComparedBy left right changes with_runs) pairs are.results pair result are.each one);
   kept = then ∙ ap (λ cs. cs ++ option_to_list result) are.kept ∙ sym (kept_more are.results result);
 }
 

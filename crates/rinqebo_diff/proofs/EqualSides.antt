@@ -13,7 +13,7 @@ use Rattle.rinqebo_report.specs.declared.value.TableMember.{TableMember}
 use Rattle.rinqebo_report.specs.declared.value.Value.{Value}
 use Rattle.rinqebo_report.specs.declared.value.Value.TheVariants as values
 use Rattle.rinqebo_request.specs.declared.request.RequestedSettings.{RequestedSettings}
-use Rattle.rinqebo_rules.specs.Reported as told
+use Rattle.rinqebo_rules.specs.Reported as shown
 use Rattle.rinqebo_changes.specs.Changes.{changed_rows, is_change, rows_in, runs_in, side_row, IsChangedTest}
 use Rattle.rinqebo_changes.specs.Diffs.{is_empty}
 use Rattle.rinqebo_changes.specs.ValueViews as plain
@@ -34,41 +34,41 @@ use Rattle.rinqebo_sides.specs.Matched.{ArePairs, IsOneTest, TestPair}
 use Rattle.rinqebo_sides.specs.Own.{NamesOnce}
 
 -- a reported value without how it is kept
-abbrev plain_scalar : told.ReportedScalar → plain.PlainScalar
-plain_scalar (told.boolean b) = plain.boolean b
-plain_scalar (told.integer n) = plain.integer n
-plain_scalar (told.text t) = plain.text t
-plain_scalar (told.duration n) = plain.duration n
+abbrev plain_scalar : shown.ReportedScalar → plain.PlainScalar
+plain_scalar (shown.boolean b) = plain.boolean b
+plain_scalar (shown.integer n) = plain.integer n
+plain_scalar (shown.text t) = plain.text t
+plain_scalar (shown.duration n) = plain.duration n
 
-abbrev plain_field : told.ReportedField → List ℕ × plain.PlainScalar
+abbrev plain_field : shown.ReportedField → List ℕ × plain.PlainScalar
 plain_field f = (f.key, plain_scalar f.value)
 
-abbrev plain_value : told.ReportedValue → plain.PlainValue
-plain_value (told.scalar s) = plain.scalar (plain_scalar s)
-plain_value (told.texts ts) = plain.texts ts
-plain_value (told.table fs) = plain.table (map plain_field fs)
+abbrev plain_value : shown.ReportedValue → plain.PlainValue
+plain_value (shown.scalar s) = plain.scalar (plain_scalar s)
+plain_value (shown.texts ts) = plain.texts ts
+plain_value (shown.table fs) = plain.table (map plain_field fs)
 
-scalar_plain : (s : Scalar) → plain_scalar (told.scalar_view s) ≡ plain.scalar_view s
+scalar_plain : (s : Scalar) → plain_scalar (shown.scalar_view s) ≡ plain.scalar_view s
 scalar_plain (scalars.Boolean b) = refl
 scalar_plain (scalars.Integer n) = refl
 scalar_plain (scalars.Text t) = refl
 scalar_plain (scalars.Duration d) = refl
 
-fields_plain : (fs : List TableMember) → map plain_field (map told.field_view fs) ≡ map plain.member_view fs
+fields_plain : (fs : List TableMember) → map plain_field (map shown.field_view fs) ≡ map plain.member_view fs
 fields_plain [] = refl
 fields_plain (f ∷ fs) = λ i. (string_bytes f.key, scalar_plain f.value i) ∷ fields_plain fs i
 
-value_plain : (v : Value) → plain_value (told.value_view v) ≡ plain.value_view v
+value_plain : (v : Value) → plain_value (shown.value_view v) ≡ plain.value_view v
 value_plain (values.Scalar s) = ap plain.scalar (scalar_plain s)
 value_plain (values.Texts ts) = refl
 value_plain (values.Table fs) = ap plain.table (fields_plain fs.items)
 
-setting_plain : (v : Option Value) → option_map plain_value (option_map told.value_view v) ≡ option_map plain.value_view v
+setting_plain : (v : Option Value) → option_map plain_value (option_map shown.value_view v) ≡ option_map plain.value_view v
 setting_plain None = refl
 setting_plain (Some v) = ap Some (value_plain v)
 
 -- values that are reported alike are the same
-values_same : (a b : Option Value) → option_map told.value_view a ≡ option_map told.value_view b
+values_same : (a b : Option Value) → option_map shown.value_view a ≡ option_map shown.value_view b
     → option_map plain.value_view a ≡ option_map plain.value_view b
 values_same a b alike = sym (setting_plain a) ∙ ap (option_map plain_value) alike ∙ setting_plain b
 
@@ -161,15 +161,16 @@ nothing_beside R (y ∷ ys) all = absurd all
 none_alone : (tests : List ListTest) (ids : List TestId) → tests ≡ [] → AllZip IsIdOf tests ids → ids ≡ []
 none_alone tests ids none all = nothing_beside IsIdOf ids (subst (λ ts. AllZip IsIdOf ts ids) none all)
 
-no_run : (with_run : Bool) (side : Evaluation) (changes : List RowChange) → GivesOneRun side
+no_run : (with_run : Bool) (side : Evaluation) (changes : List RowChange) → (with_run ≡ true → GivesOneRun side)
     → AreRunChangesIf with_run side side changes → changes ≡ []
 no_run false side changes one none = none
 no_run true side changes one are =
-    alike_none are.before are.after changes (one.alike are.before are.after are.are_before are.are_after) are.are_changes
+    alike_none are.before are.after changes ((one refl).alike are.before are.after are.are_before are.are_after)
+    are.are_changes
 
 -- nothing changes from a side to itself
 pub nothing_changes : (request : DiffRequest) (side : Evaluation) (diff : Diff) → request.with_origins ≡ false
-    → request.from.mode ≡ request.to.mode → NamesOnce (tests_of side) → GivesOneRun side
+    → request.from.mode ≡ request.to.mode → NamesOnce (tests_of side) → (request.with_run ≡ true → GivesOneRun side)
     → IsDiffOf request side side diff → diff_status diff ≡ 0
 nothing_changes request side diff plain modes once one is =
     let asked = request.compared.asked in

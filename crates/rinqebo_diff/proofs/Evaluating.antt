@@ -1,5 +1,6 @@
 -- What a side that is loaded is compared by, by what its files mean.
-use Rattle.std.proofs.Common.{◌≡◌, ℕ, Bor, List, [], false, IfOk, Result, string_bytes, subst}
+use Rattle.std.proofs.Common.{◌≡◌, ℕ, Bool, Bor, List, [], false, IfOk, Result, map, string_bytes, subst}
+use Rattle.std.specs.List.{AllZip}
 use Rattle.filter_engine.specs.Compiling.{names_of}
 use Rattle.filter_engine.specs.Engine.{Filter}
 use Rattle.filter_language.specs.Filtersets.{marks_view}
@@ -7,24 +8,33 @@ use Rattle.nextest_inheritance.specs.Parents.{parents_in}
 use Rattle.nextest_inheritance.specs.View.{borrowed_view}
 use Rattle.nextest_grounds.specs.Layers.{keys_view}
 use Rattle.nextest_lists.specs.Lists.{ListTest}
+use Rattle.nextest_lists.specs.ListView.{listed_view}
+use Rattle.nextest_lists.specs.declared.list.ListedBinary.{ListedBinary}
 use Rattle.nextest_load.specs.Config.{ConfigModel, config_parents}
 use Rattle.nextest_profiles.specs.Meaning.{profile_meaning}
 use Rattle.nextest_profiles.specs.Profiles.{IsChainAndDefault}
 use Rattle.nextest_tables.specs.FileTexts.{names_in, IsIn}
 use Rattle.platform_language.specs.Expressions.{Spec, spec_view}
+use Rattle.rinqebo_changes.specs.Changes.{is_change}
+use Rattle.rinqebo_changes.specs.declared.change.TestChanges.{TestChanges}
+use Rattle.rinqebo_changes.specs.declared.diff.BinaryTests.{BinaryTests}
 use Rattle.rinqebo_changes.specs.declared.diff.Diff.{Diff}
 use Rattle.rinqebo_files.specs.declared.files.Gathered.{Gathered}
 use Rattle.rinqebo_files.specs.declared.layers.Layer.{Layer}
 use Rattle.rinqebo_load.specs.Sessions.{readings}
+use Rattle.rinqebo_report.specs.declared.origin.Source.{Source}
 use Rattle.rinqebo_report.specs.declared.report.Entry.{Entry}
+use Rattle.rinqebo_report.specs.declared.report.TestRows.{TestRows}
 use Rattle.rinqebo_rules.specs.Trees.{trees_of}
 use Rattle.rinqebo_run.specs.Listed.{IsProfileOn}
 use Rattle.rinqebo_run.specs.ListedBy.{read_by}
 use Rattle.rinqebo_run.specs.ShownConfig.{AreShown}
-use Rattle.rinqebo_sides.specs.Matched.{AreMatched}
+use Rattle.rinqebo_sides.specs.Matched.{pair_view, AreMatched}
 use Rattle.rinqebo_sides.specs.declared.matched.Matched.{Matched}
+use Rattle.rinqebo_sides.specs.declared.matched.Pair.{Pair}
 use Rattle.rinqebo_run.proofs.Listing.{given_means}
-use Rattle.rinqebo_diff.specs.Differences.{Differs}
+use Rattle.rinqebo_diff.specs.Compared.{AreCompared}
+use Rattle.rinqebo_diff.specs.Differences.{Differs, IsCountOf}
 use Rattle.rinqebo_diff.specs.Evaluated.{IsEvaluated, evaluation_of, IsDiffOfLoaded}
 use Rattle.rinqebo_diff.specs.Loaded.{IsLoadedSide}
 use Rattle.rinqebo_diff.specs.Sides.{IsEvaluationOf}
@@ -78,6 +88,21 @@ pub matched_as : {E : Type 0} (result : Result Matched E) (a b c d : List ListTe
     → IfOk result (AreMatched a c) → IfOk result (AreMatched b d)
 matched_as result a b c d one two are =
     subst (λ ts. IfOk result (AreMatched b ts)) two (subst (λ ts. IfOk result (AreMatched ts c)) one are)
+
+-- tests are compared between the same sources, in the same pairs, by other names
+pub compared_as : {left right : ListTest → TestRows → Type 0} {with_origins with_runs : Bool} (a b c d : List Source)
+    (ps qs : List Pair) (changed : List TestChanges) → a ≡ b → c ≡ d → ps ≡ qs
+    → AreCompared left right (is_change a c with_origins) with_runs (map pair_view ps) changed
+    → AreCompared left right (is_change b d with_origins) with_runs (map pair_view qs) changed
+compared_as {left} {right} {with_origins} {with_runs} a b c d ps qs changed one two three are =
+    subst (λ us. AreCompared left right (is_change b d with_origins) with_runs (map pair_view us) changed) three
+    (subst (λ ss. AreCompared left right (is_change b ss with_origins) with_runs (map pair_view ps) changed) two
+    (subst (λ ss. AreCompared left right (is_change ss c with_origins) with_runs (map pair_view ps) changed) one are))
+
+-- binaries are counted by another name
+pub counted_as : (a b : List ListedBinary) (counts : List BinaryTests) → a ≡ b
+    → AllZip IsCountOf (map listed_view a) counts → AllZip IsCountOf (map listed_view b) counts
+counted_as a b counts same all = subst (λ bs. AllZip IsCountOf (map listed_view bs) counts) same all
 
 -- leaves are shown in the same layers and of the same profiles by other names
 pub shown_of : (files layers : List Layer) (names chain : List (Bor (List ℕ))) (entries : List Entry) → files ≡ layers

@@ -13,8 +13,8 @@ use Rattle.rinqebo_run.specs.LookedUp.{IsFailureOn}
 use Rattle.rinqebo_run.specs.Statuses.{failure_status}
 use Rattle.rinqebo_diff.specs.Differences.{Differs, diff_status, HasResult}
 use Rattle.rinqebo_diff.specs.Failing.{SideFails, FailsAt, DiffFails, IsRefusedSide, LacksItsProfile, HasCause}
-use Rattle.rinqebo_diff.specs.Statuses.{diff_failure_status, HasFailureStatus, TellsDiffFailure, ReportsRefusal}
-use Rattle.rinqebo_diff.specs.Written.{IsRendered, TellsDiff}
+use Rattle.rinqebo_diff.specs.Statuses.{diff_failure_status, HasFailureStatus, ReportsDiffFailure, ReportsRefusal}
+use Rattle.rinqebo_diff.specs.Written.{IsRendered, ReportsDiff}
 use Rattle.rinqebo_diff.specs.declared.loaded.DiffFailure.{DiffFailure}
 use Rattle.rinqebo_diff.specs.declared.loaded.DiffFailure.TheVariants as failures
 use Rattle.rinqebo_diff.specs.declared.loaded.SideName.TheVariants as names
@@ -23,23 +23,23 @@ use Rattle.rinqebo_diff.specs.declared.request.DiffSide.{DiffSide}
 
 -- what holds of a failure holds of it where it is handed on
 pub handed_on : {A E : Type 0} (P : E → Type 0) (r : Result A E) (failure : E)
-    → IsErrAnd r (λ told. told ≡ failure) → P failure → IfErr r P
+    → IsErrAnd r (λ other. other ≡ failure) → P failure → IfErr r P
 handed_on P (Ok a) failure same is = tt
-handed_on P (Err told) failure same is = subst P (sym same) is
+handed_on P (Err other) failure same is = subst P (sym same) is
 
 -- what all commands begin with fails
 pub begins_not : {A : Type 0} (side : DiffSide) (gathered : Gathered) (r : Result A Failure) (failure : Failure)
-    → IsErrAnd r (λ told. told ≡ failure) → IsBeginningFailure failure → IfErr r (SideFails side gathered)
+    → IsErrAnd r (λ other. other ≡ failure) → IsBeginningFailure failure → IfErr r (SideFails side gathered)
 begins_not side gathered r failure same is = handed_on (SideFails side gathered) r failure same (inl is)
 
 -- memory runs out
 pub side_wants : {A : Type 0} (side : DiffSide) (gathered : Gathered) (r : Result A Failure)
-    → IsErrAnd r (λ told. told ≡ causes.Memory) → IfErr r (SideFails side gathered)
+    → IsErrAnd r (λ other. other ≡ causes.Memory) → IfErr r (SideFails side gathered)
 side_wants side gathered r same = handed_on (SideFails side gathered) r causes.Memory same (inl tt)
 
 -- a session has no result
 pub session_fails : {A : Type 0} (side : DiffSide) (gathered : Gathered) (session : Session) (r : Result A Failure)
-    (failure : Failure) → IsErrAnd r (λ told. told ≡ failure) → IsSessionOf side.request gathered session
+    (failure : Failure) → IsErrAnd r (λ other. other ≡ failure) → IsSessionOf side.request gathered session
     → IsFailureOn session side.profile.now failure → IfErr r (SideFails side gathered)
 session_fails side gathered session r failure same begun cause =
     handed_on (SideFails side gathered) r failure same
@@ -61,20 +61,20 @@ as_right request from to (failures.Side names.To failure) fails = fails.1
 as_right request from to failures.Memory fails = tt
 
 pub left_fails : {A : Type 0} (request : DiffRequest) (from to : Gathered) (r : Result A DiffFailure)
-    (failure : DiffFailure) → IsErrAnd r (λ told. told ≡ failure) → FailsAt names.From request.from from failure
+    (failure : DiffFailure) → IsErrAnd r (λ other. other ≡ failure) → FailsAt names.From request.from from failure
     → IfErr r (DiffFails request from to)
 left_fails request from to r failure same fails =
     handed_on (DiffFails request from to) r failure same (as_left request from to failure fails)
 
 pub right_fails : {A : Type 0} (request : DiffRequest) (from to : Gathered) (r : Result A DiffFailure)
-    (failure : DiffFailure) → IsErrAnd r (λ told. told ≡ failure) → FailsAt names.To request.to to failure
+    (failure : DiffFailure) → IsErrAnd r (λ other. other ≡ failure) → FailsAt names.To request.to to failure
     → IfErr r (DiffFails request from to)
 right_fails request from to r failure same fails =
     handed_on (DiffFails request from to) r failure same (as_right request from to failure fails)
 
 -- a diff has no result for want of memory
 pub diff_wants : {A : Type 0} (request : DiffRequest) (from to : Gathered) (r : Result A DiffFailure)
-    → IsErrAnd r (λ told. told ≡ failures.Memory) → IfErr r (DiffFails request from to)
+    → IsErrAnd r (λ other. other ≡ failures.Memory) → IfErr r (DiffFails request from to)
 diff_wants request from to r same = handed_on (DiffFails request from to) r failures.Memory same tt
 
 -- a failure of status 3 is that files are refused
@@ -186,20 +186,20 @@ answer_same diff n low (inl same) = same
 answer_same diff n low (inr (inl five)) = absurd (omega arith)
 answer_same diff n low (inr (inr six)) = absurd (omega arith)
 
-answer_told : {X : Type 0} (n : ℕ) → n ≤ 1 → (n ≡ 5) ⊎ (n ≡ 6) ⊎ X → X
-answer_told n low (inl five) = absurd (omega arith)
-answer_told n low (inr (inl six)) = absurd (omega arith)
-answer_told n low (inr (inr told)) = told
+answer_reported : {X : Type 0} (n : ℕ) → n ≤ 1 → (n ≡ 5) ⊎ (n ≡ 6) ⊎ X → X
+answer_reported n low (inl five) = absurd (omega arith)
+answer_reported n low (inr (inl six)) = absurd (omega arith)
+answer_reported n low (inr (inr reported)) = reported
 
 -- a result
 pub has_result : (request : DiffRequest) (from to : Gathered) (diff : Diff) (n : ℕ) (old new : Option (List ℕ))
     → Differs request from to diff → (n ≡ diff_status diff) ⊎ (n ≡ 5) ⊎ (n ≡ 6)
-    → (n ≡ 5) ⊎ (n ≡ 6) ⊎ TellsDiff request diff old new → n ≤ 1 → HasResult request from to n old new
+    → (n ≡ 5) ⊎ (n ≡ 6) ⊎ ReportsDiff request diff old new → n ≤ 1 → HasResult request from to n old new
 has_result request from to diff n old new differs status page low = record {
   diff = diff;
   differs = differs;
   is_status = answer_same diff n low status;
-  told = answer_told n low page;
+  page = answer_reported n low page;
 }
 
 pub answer_quiet : {A B : Type 0} (diff : Diff) (n : ℕ) → (n ≡ diff_status diff) ⊎ (n ≡ 6) ⊎ A
@@ -220,19 +220,19 @@ answer_cause request from to diff n (inr (inr six)) =
 
 pub failure_quiet : (request : DiffRequest) (from to : Gathered) (failure : DiffFailure) (n : ℕ) (old new : Option (List ℕ))
     → DiffFails request from to failure
-    → (n ≡ 6) ⊎ (new ≡ old) ⊎ TellsDiffFailure request failure n old new
+    → (n ≡ 6) ⊎ (new ≡ old) ⊎ ReportsDiffFailure request failure n old new
     → (n ≤ 1) ⊎ (n ≡ 6) ⊎ (new ≡ old) ⊎ ReportsRefusal request from to n old new
 failure_quiet request from to failure n old new fails (inl six) = inr (inl six)
 failure_quiet request from to failure n old new fails (inr (inl quiet)) = inr (inr (inl quiet))
-failure_quiet request from to failure n old new fails (inr (inr tells)) =
-    inr (inr (inr (record { failure = failure; fails = fails; tells = tells })))
+failure_quiet request from to failure n old new fails (inr (inr document)) =
+    inr (inr (inr (record { failure = failure; fails = fails; document = document })))
 
 -- a text of a diff is written
-pub told_page : (request : DiffRequest) (diff : Diff) (text written : List ℕ) (n : ℕ) (old new : Option (List ℕ))
+pub page_reported : (request : DiffRequest) (diff : Diff) (text written : List ℕ) (n : ℕ) (old new : Option (List ℕ))
     → IsRendered request diff text → written ≡ text → (n ≡ 6) ⊎ Appends old new written
-    → (n ≡ 5) ⊎ (n ≡ 6) ⊎ TellsDiff request diff old new
-told_page request diff text written n old new is same (inl six) = inr (inl six)
-told_page request diff text written n old new is same (inr appended) =
+    → (n ≡ 5) ⊎ (n ≡ 6) ⊎ ReportsDiff request diff old new
+page_reported request diff text written n old new is same (inl six) = inr (inl six)
+page_reported request diff text written n old new is same (inr appended) =
     inr (inr (record { text = text; is_text = is; appended = subst (Appends old new) same appended }))
 
 -- a status of a result is none of those of a refusal

@@ -1,6 +1,8 @@
 -- What changes for tests between swapped sides.
 use Rattle.std.proofs.Common.{◌≡◌, ◌∙◌, Bool, List, [], ◌∷◌, Option, None, Some, map, refl, sym, ap, subst}
 use Rattle.std.specs.List.{AllZip, filter_map}
+use Rattle.std.specs.Vec.{with_items}
+use Rattle.std.proofs.lemmas.List.{length-map, with_items_is}
 use Rattle.nextest_elements.specs.declared.run_mode.NextestRunMode.{NextestRunMode}
 use Rattle.nextest_lists.specs.Lists.{ListTest}
 use Rattle.rinqebo_changes.specs.Changes.{changed_rows, is_change, rows_in}
@@ -61,10 +63,14 @@ module _ (left right : ListTest → TestRows → Type 0) (test other : SideRow �
   }
   one_swapped pair (Some changed) by =
       let before = by.before in
+      let rows = map swapped changed.rows.items in
       let back : TestChanges = record {
         test = record { binary = before.binary; name = before.name; platform = before.platform };
-        rows = record changed.rows { items = map swapped changed.rows.items };
-      } in record {
+        rows = with_items changed.rows rows;
+      } in
+      let written : back.rows.items ≡ rows =
+      with_items_is changed.rows rows (length-map changed.rows.items swapped ∙ sym changed.rows.ok.0) in
+      record {
         found = Some back;
         are = record {
           before = by.after;
@@ -73,11 +79,11 @@ module _ (left right : ListTest → TestRows → Type 0) (test other : SideRow �
           right_reports = by.left_reports;
           verdict = record {
             test = refl;
-            rows = ap (map swapped) by.verdict.rows ∙ sym (swap (rows_in runs before) (rows_in runs by.after));
-            some = λ none. by.verdict.some (nothing_mapped changed.rows.items none);
+            rows = written ∙ ap (map swapped) by.verdict.rows ∙ sym (swap (rows_in runs before) (rows_in runs by.after));
+            some = λ none. by.verdict.some (nothing_mapped changed.rows.items (sym written ∙ none));
           };
         };
-        swaps = record { rows = refl };
+        swaps = record { rows = written };
       }
 
   -- what changes for tests, from the other side

@@ -1,13 +1,13 @@
 -- Which settings of tests are compared.
-use Rattle.std.specs.Prelude.{◌≡◌, Bool, true}
+use Rattle.std.specs.Prelude.{◌≡◌, Bool, false, true}
 use Rattle.nextest_settings.specs.Settings.{settings}
 use Rattle.rinqebo_request.specs.declared.request.RequestedSettings.{RequestedSettings}
 use Rattle.rinqebo_request.specs.declared.request.RequestedSettings.TheVariants as asks
 
--- settings are named, whatever decides them
-abbrev pub AreNamed : RequestedSettings → Type 0
-AreNamed asks.Decided = ⊥
-AreNamed (asks.These runs named) = Unit {0}
+-- whether settings are named, whatever decides them
+abbrev pub are_named : RequestedSettings → Bool
+are_named asks.Decided = false
+are_named (asks.These runs named) = true
 
 -- all settings are named, in order, and it is named whether tests run
 abbrev pub AreAll : RequestedSettings → Type 0

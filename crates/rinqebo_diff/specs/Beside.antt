@@ -9,7 +9,7 @@ use Rattle.rinqebo_sides.specs.declared.matched.Matched.{Matched}
 
 -- The binaries of a list, and how many tests each has, and the names of matched tests that one list
 -- has alone.
-pub record IsBeside (matched : Matched) (binaries : List Listed) (beside : Beside) : Type 0 where
-  pub binaries : AllZip IsCountOf binaries beside.binaries.items
+pub record IsBeside (matched : Matched) (listed : List Listed) (beside : Beside) : Type 0 where
+  pub binaries : AllZip IsCountOf listed beside.binaries.items
   pub removed : AllZip IsIdOf (map list_test_view matched.removed.items) beside.removed.items
   pub added : AllZip IsIdOf (map list_test_view matched.added.items) beside.added.items

@@ -19,7 +19,7 @@ use Rattle.rinqebo_diff.specs.Compared.{AreCompared, ReportsBy}
 use Rattle.rinqebo_sides.specs.Matched.{TestPair, ArePairs, is_in}
 use Rattle.rinqebo_diff.specs.RunChanges.{AreRunChangesIf}
 use Rattle.rinqebo_diff.specs.Sides.{Evaluation, IsEvaluationOf, IsSideOf}
-use Rattle.rinqebo_diff.specs.Written.{IsRendered, TellsDiff}
+use Rattle.rinqebo_diff.specs.Written.{IsRendered, ReportsDiff}
 use Rattle.rinqebo_diff.specs.declared.request.DiffRequest.{DiffRequest}
 
 -- a side reports rows of a test: whether it runs, and the settings that are requested, as its
@@ -88,4 +88,4 @@ pub record HasResult (request : DiffRequest) (from to : Gathered) (status : ℕ)
   pub diff : Diff
   pub differs : Differs request from to diff
   pub is_status : status ≡ diff_status diff
-  pub told : TellsDiff request diff before after
+  pub page : ReportsDiff request diff before after

@@ -19,21 +19,21 @@ diff_failure_status failures.Memory = 5
 abbrev pub HasFailureStatus : DiffFailure → ℕ → Type 0
 HasFailureStatus failure n = (n ≡ diff_failure_status failure) ⊎ (n ≡ 5) ⊎ (n ≡ 6)
 
--- a writer was given the document of why a side has no result
-abbrev pub TellsDiffFailure : DiffRequest → DiffFailure → ℕ → Option (List ℕ) → Option (List ℕ)
+-- a writer received the document of why a side has no result
+abbrev pub ReportsDiffFailure : DiffRequest → DiffFailure → ℕ → Option (List ℕ) → Option (List ℕ)
     → Type 0
-TellsDiffFailure request (failures.Side names.From failure) status old new =
+ReportsDiffFailure request (failures.Side names.From failure) status old new =
     ReportsFailure failure request.from.request status old new
-TellsDiffFailure request (failures.Side names.To failure) status old new =
+ReportsDiffFailure request (failures.Side names.To failure) status old new =
     ReportsFailure failure request.to.request status old new
-TellsDiffFailure request failures.Memory status old new = ⊥
+ReportsDiffFailure request failures.Memory status old new = ⊥
 
--- A writer was given the document of why a request has no result.
+-- A writer received the document of why a request has no result.
 pub record ReportsRefusal (request : DiffRequest) (from to : Gathered) (status : ℕ)
     (old new : Option (List ℕ)) : Type 0 where
   pub failure : DiffFailure
   pub fails : DiffFails request from to failure
-  pub tells : TellsDiffFailure request failure status old new
+  pub document : ReportsDiffFailure request failure status old new
 
 -- The requests of both sides are for JSON.
 pub record AreForJson (request : DiffRequest) : Type 0 where

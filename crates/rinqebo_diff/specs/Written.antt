@@ -21,8 +21,8 @@ IsRenderedAs Markdown request diff text = IsMarkdownText diff request.lists_all 
 abbrev pub IsRendered : DiffRequest → Diff → List ℕ → Type 0
 IsRendered request = IsRenderedAs request.format request
 
--- A writer gets a diff in the format of a request.
-pub record TellsDiff (request : DiffRequest) (diff : Diff) (before after : Option (List ℕ))
+-- A writer received a diff in the format of a request.
+pub record ReportsDiff (request : DiffRequest) (diff : Diff) (before after : Option (List ℕ))
     : Type 0 where
   pub text : List ℕ
   pub is_text : IsRendered request diff text

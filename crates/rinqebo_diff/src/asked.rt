@@ -1,7 +1,7 @@
 //! Which settings of tests are compared.
-ghost use Rattle.std.specs.Prelude.{◌≡◌, IfOk};
+ghost use Rattle.std.specs.Prelude.{◌≡◌, IfOk, true};
 ghost use Rattle.rinqebo_request.specs.declared.request.RequestedSettings.TheVariants.{These};
-ghost use Rattle.rinqebo_diff.specs.Asked.{compares_runs, AreAll, AreNamed};
+ghost use Rattle.rinqebo_diff.specs.Asked.{are_named, compares_runs, AreAll};
 
 use nextest_config::Setting;
 use rinqebo_request::RequestedSettings;
@@ -11,7 +11,7 @@ use std::alloc::{AllocError, Global};
 #[derive(Drop)]
 pub struct ComparedSettings {
     asked: RequestedSettings,
-    ghost named: { AreNamed asked },
+    ghost named: { are_named asked ≡ true },
 }
 
 impl ComparedSettings {

@@ -1,5 +1,5 @@
 //! Laws of what changes between two sides, as contracts.
-ghost use Rattle.std.specs.Prelude.{◌≡◌, Bool, false, List};
+ghost use Rattle.std.specs.Prelude.{◌≡◌, Bool, false, true, List};
 ghost use Rattle.nextest_elements.specs.declared.run_mode.NextestRunMode.{NextestRunMode as Mode};
 ghost use Rattle.rinqebo_changes.specs.Changes.{is_change};
 ghost use Rattle.rinqebo_changes.specs.declared.change.TestChanges.{TestChanges as Changed};
@@ -17,8 +17,8 @@ ghost use Rattle.rinqebo_diff.specs.SwappedSides.{HaveSwapped};
 ghost use Rattle.rinqebo_diff.specs.declared.request.DiffRequest.{DiffRequest as Requested};
 
 /// No test changes between a side and itself, and none is on one side alone: by the same session,
-/// profile and mode each test has the same values. Where a side gives to the whole run the same each
-/// time, nothing changes at all, and the exit status is 0.
+/// profile and mode each test has the same values. Where the whole run is not compared, or the side
+/// gives it the same each time, nothing changes at all, and the exit status is 0.
 pub fn law_equal_sides()
     ensures tests { (side : Evaluation) (mode : Mode) (asked : Asked) (files others : List File)
         (pairs : List TestPair) (changed : List Changed) → NamesOnce (tests_of side)
@@ -28,8 +28,8 @@ pub fn law_equal_sides()
         → NoTestChanges (tests_of side) changed }
     ensures whole { (request : Requested) (side : Evaluation) (diff : Comparison)
         → request.with_origins ≡ false → request.from.mode ≡ request.to.mode
-        → NamesOnce (tests_of side) → GivesOneRun side → IsDiffOf request side side diff
-        → diff_status diff ≡ 0 }
+        → NamesOnce (tests_of side) → (request.with_run ≡ true → GivesOneRun side)
+        → IsDiffOf request side side diff → diff_status diff ≡ 0 }
 {}
 
 /// Between swapped sides the same settings of the same tests change, each with its two sides

@@ -3,8 +3,8 @@ ghost use Rattle.std.specs.Prelude.{◌≡◌, ◌⊎◌, ◌≤◌, IfErr, IfOk
 ghost use Rattle.std.specs.Io.KnownBytes.{Appends};
 ghost use Rattle.rinqebo_diff.specs.Differences.{diff_status, HasResult, Differs, IsPageOf};
 ghost use Rattle.rinqebo_diff.specs.Failing.{DiffFails, HasCause};
-ghost use Rattle.rinqebo_diff.specs.Statuses.{AreForJson, HasFailureStatus, TellsDiffFailure, ReportsRefusal};
-ghost use Rattle.rinqebo_diff.specs.Written.{TellsDiff};
+ghost use Rattle.rinqebo_diff.specs.Statuses.{AreForJson, HasFailureStatus, ReportsDiffFailure, ReportsRefusal};
+ghost use Rattle.rinqebo_diff.specs.Written.{ReportsDiff};
 ghost use Rattle.rinqebo_report.specs.declared.format.Format.TheVariants as formats;
 ghost use Rattle.rinqebo_run.specs.Refused.{ReportsFailure};
 ghost use Rattle.rinqebo_run.specs.Statuses.{failure_status};
@@ -120,10 +120,10 @@ fn refuse_diff<O: Write, E: Write>(
 ) -> u8
     ensures status { HasFailureStatus failure.now result }
     ensures quiet { (result ≡ 6) ⊎ (O.contents out.new ≡ O.contents out.old)
-        ⊎ TellsDiffFailure request.now failure.now result
+        ⊎ ReportsDiffFailure request.now failure.now result
         (O.contents out.old) (O.contents out.new) }
     ensures document { AreForJson request.now → (result ≡ 3) ⊎ (result ≡ 4)
-        → TellsDiffFailure request.now failure.now result
+        → ReportsDiffFailure request.now failure.now result
         (O.contents out.old) (O.contents out.new) }
 {
     match failure {
@@ -180,7 +180,7 @@ fn print_answer<O: Write, E: Write>(
     ensures status { (result ≡ diff_status answer.now.diff) ⊎ (result ≡ 5) ⊎ (result ≡ 6) }
     ensures quiet { (result ≡ diff_status answer.now.diff) ⊎ (result ≡ 6)
         ⊎ (O.contents out.new ≡ O.contents out.old) }
-    ensures page { (result ≡ 5) ⊎ (result ≡ 6) ⊎ TellsDiff request.now answer.now.diff
+    ensures page { (result ≡ 5) ⊎ (result ≡ 6) ⊎ ReportsDiff request.now answer.now.diff
         (O.contents out.old) (O.contents out.new) }
 {
     let Ok(notes) = notes_of(alloc, request, &answer.report) else {

@@ -275,7 +275,7 @@ fn diff_by<P: Progress>(
 }
 
 /// What a side is compared by: a profile of its configuration.
-fn evaluated<'c>(
+fn evaluated_side<'c>(
     alloc: Global,
     loaded: &'c Loaded<'_>,
     name: &'c str,
@@ -300,7 +300,7 @@ pub fn diff_of<P: Progress>(
     requires to { IsIn (names_in to.now.config.config.profiles) request.now.to.profile.now }
     ensures { IfOk result (IsDiffOfLoaded request.now from.now to.now) }
 {
-    let left = evaluated(alloc, &*from, request.from.profile)?;
-    let right = evaluated(alloc, &*to, request.to.profile)?;
+    let left = evaluated_side(alloc, &*from, request.from.profile)?;
+    let right = evaluated_side(alloc, &*to, request.to.profile)?;
     diff_by(alloc, request, from, to, &left, &right, progress)
 }

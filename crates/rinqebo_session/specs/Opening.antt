@@ -1,5 +1,5 @@
 -- Profiles of a session.
-use Rattle.std.specs.Prelude.{◌≡◌, ℕ, List, Option, Some, map, option_map, string_bytes, Result, Ok, Err, MatchResult}
+use Rattle.std.specs.Prelude.{◌≡◌, ℕ, List, Option, None, Some, map, option_map, string_bytes, Result, Ok, Err, MatchResult}
 use Rattle.std.specs.Str.{IsUtf8}
 use Rattle.nextest_config.specs.ConfigView.{configured_in}
 use Rattle.nextest_config.specs.ProfileError.{ReportsMissing}
@@ -46,11 +46,12 @@ directories_in loaded = option_map (λ target. record {
   target = string_bytes target;
 }) loaded.target_directory
 
--- A text is that of the objects of a profile, among the profiles of its configuration.
+-- A text is that of the objects of a profile, among the profiles of its configuration. There is no
+-- list of tests.
 pub record IsObjectsText (loaded : Loaded) (facts : ProfileFacts) (text : List ℕ) : Type 0 where
   pub value : Data
   pub are : AreObjectsOf facts (names_in loaded.config.config.profiles)
-      (warnings_view loaded.warnings) (directories_in loaded) value
+      (warnings_view loaded.warnings) (directories_in loaded) None value
   pub written : text ≡ compact_text value
 
 -- A profile of a configuration is open: it is the one of the name, by its chain, on the platforms

@@ -1,6 +1,5 @@
 -- Rows of leaves, one after another.
 use Rattle.std.proofs.Common.{◌≡◌, ◌∙◌, ℕ, ◌+◌, ◌<◌, ◌≤◌, ◌||◌, Bool, true, false, cond, not, List, [], ◌∷◌, ◌++◌, filter, length, map, take, get_or, ap, sym, subst, string_bytes}
-use Rattle.std.proofs.lemmas.Grind.{take_at_read}
 use Rattle.std.proofs.lemmas.List.{append-nil, map-id, take_all}
 use Rattle.std.proofs.lemmas.List.Elements.{filter-append}
 use Rattle.std.proofs.lemmas.List.Folds.{list_any-append, list_any_at}
@@ -8,7 +7,7 @@ use Rattle.std.specs.List.{AllZip, list_any}
 use Rattle.rinqebo_report.specs.declared.report.Entry.{Entry}
 use Rattle.rinqebo_report.specs.declared.report.SettingRow.{SettingRow}
 use Rattle.rinqebo_sides.specs.RunRows.{is_of_run, is_of_tests, IsEntryRow, AddsEntry}
-use Rattle.rinqebo_sides.proofs.Zips.{zip_behind}
+use Rattle.rinqebo_sides.proofs.Zips.{taken, zip_behind}
 
 -- one more leaf
 pub entries_more : (done : List Entry) (entry : Entry) (old new : List SettingRow)
@@ -48,8 +47,7 @@ some_passes p xs i x d lt is has b =
 pub none_more : {X : Type 0} (p : X → Bool) (xs : List X) (i : ℕ) (x d : X) → i < length xs → x ≡ get_or xs i d
     → list_any p (take i xs) ≡ false → p x ≡ false → list_any p (take (i + 1) xs) ≡ false
 none_more p xs i x d lt is none fails =
-    ap (list_any p) ((take_at_read xs i d lt).1 ∙ ap (λ y. take i xs ++ y ∷ []) (sym is))
-    ∙ list_any-append p (take i xs) (x ∷ []) ∙ (λ j. none j || (fails j || false))
+    ap (list_any p) (taken xs i x d lt is) ∙ list_any-append p (take i xs) (x ∷ []) ∙ (λ j. none j || (fails j || false))
 
 -- none of all passes
 pub none_passes : {X : Type 0} (p : X → Bool) (xs : List X) (i : ℕ) → length xs ≤ i → list_any p (take i xs) ≡ false

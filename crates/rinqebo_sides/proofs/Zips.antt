@@ -1,16 +1,8 @@
 -- Lists whose elements belong to each other, one by one.
 use Rattle.std.proofs.Common.{◌≡◌, ℕ, ◌<◌, ◌+◌, ◌∙◌, List, [], ◌∷◌, ◌++◌, length, map, take, get_or, sym, ap, subst}
 use Rattle.std.specs.List.{AllZip}
-use Rattle.std.proofs.lemmas.Grind.{take_at_read}
-use Rattle.std.proofs.lemmas.List.{map-append}
-
--- one more beside one more
-pub zip_push : {A B : Type 0} (R : A → B → Type 0) (xs : List A) (ys : List B) (x : A) (y : B)
-    → AllZip R xs ys → R x y → AllZip R (xs ++ x ∷ []) (ys ++ y ∷ [])
-zip_push R [] [] x y all r = (r, tt)
-zip_push R [] (z ∷ zs) x y all r = absurd all
-zip_push R (z ∷ zs) [] x y all r = absurd all
-zip_push R (z ∷ zs) (w ∷ ws) x y all r = (all.0, zip_push R zs ws x y all.1 r)
+use Rattle.std.proofs.lemmas.List.{map-append, take_more}
+use Rattle.std.proofs.lemmas.Slice.Zip.{all_zipped_more}
 
 -- more beside more
 pub zip_behind : {A B : Type 0} (R : A → B → Type 0) (xs us : List A) (ys vs : List B) → AllZip R xs ys → AllZip R us vs
@@ -20,29 +12,27 @@ zip_behind R [] us (y ∷ ys) vs one two = absurd one
 zip_behind R (x ∷ xs) us [] vs one two = absurd one
 zip_behind R (x ∷ xs) us (y ∷ ys) vs one two = (one.0, zip_behind R xs us ys vs one.1 two)
 
+-- one more of a list
+pub taken : {X : Type 0} (xs : List X) (i : ℕ) (x d : X) → i < length xs → x ≡ get_or xs i d
+    → take (i + 1) xs ≡ take i xs ++ x ∷ []
+taken xs i x d lt is = take_more xs i d lt ∙ ap (λ y. take i xs ++ y ∷ []) (sym is)
+
 -- what is made of one more of a list
-pub taken_more : {X Y : Type 0} (f : X → Y) (xs : List X) (i : ℕ) (x : X) → i < length xs → x ≡ get_or xs i x
+pub taken_read : {X Y : Type 0} (f : X → Y) (xs : List X) (i : ℕ) (x d : X) → i < length xs → x ≡ get_or xs i d
     → map f (take (i + 1) xs) ≡ map f (take i xs) ++ f x ∷ []
-taken_more f xs i x lt is =
-    ap (map f) ((take_at_read xs i x lt).1 ∙ ap (λ y. take i xs ++ y ∷ []) (sym is)) ∙ map-append f (take i xs) (x ∷ [])
+taken_read f xs i x d lt is = ap (map f) (taken xs i x d lt is) ∙ map-append f (take i xs) (x ∷ [])
 
 -- one more beside what is made of one more
-pub zip_more : {X A B : Type 0} (f : X → A) (R : A → B → Type 0) (xs : List X) (i : ℕ) (x : X) → i < length xs
-    → x ≡ get_or xs i x → (ys : List B) (y : B) (zs : List B) → AllZip R (map f (take i xs)) ys → R (f x) y
+pub zip_more : {X A B : Type 0} (f : X → A) (R : A → B → Type 0) (xs : List X) (i : ℕ) (x d : X) → i < length xs
+    → x ≡ get_or xs i d → (ys : List B) (y : B) (zs : List B) → AllZip R (map f (take i xs)) ys → R (f x) y
     → zs ≡ ys ++ y ∷ [] → AllZip R (map f (take (i + 1) xs)) zs
-zip_more f R xs i x lt is ys y zs all r then =
-    subst (λ ws. AllZip R (map f (take (i + 1) xs)) ws) (sym then)
-    (subst (λ ws. AllZip R ws (ys ++ y ∷ [])) (sym (taken_more f xs i x lt is))
-    (zip_push R (map f (take i xs)) ys (f x) y all r))
+zip_more f R xs i x d lt is ys y zs all r then =
+    subst (AllZip R (map f (take (i + 1) xs))) (sym then)
+    (subst (λ ws. AllZip R ws (ys ++ y ∷ [])) (sym (taken_read f xs i x d lt is))
+    (all_zipped_more R (map f (take i xs)) ys (f x) y all r))
 
 -- one more of a list is taken
 pub taken_one : {X : Type 0} (xs : List X) (i : ℕ) (x d : X) → i < length xs → x ≡ get_or xs i d → (old new : List X)
     → old ≡ take i xs → new ≡ old ++ x ∷ [] → new ≡ take (i + 1) xs
 taken_one xs i x d lt is old new before then =
-    then ∙ ap (λ ys. ys ++ x ∷ []) before ∙ ap (λ y. take i xs ++ y ∷ []) is ∙ sym (take_at_read xs i d lt).1
-
--- what is made of one more of a list, as it is read
-pub taken_read : {X Y : Type 0} (f : X → Y) (xs : List X) (i : ℕ) (x d : X) → i < length xs → x ≡ get_or xs i d
-    → map f (take (i + 1) xs) ≡ map f (take i xs) ++ f x ∷ []
-taken_read f xs i x d lt is =
-    ap (map f) ((take_at_read xs i d lt).1 ∙ ap (λ y. take i xs ++ y ∷ []) (sym is)) ∙ map-append f (take i xs) (x ∷ [])
+    then ∙ ap (λ ys. ys ++ x ∷ []) before ∙ sym (taken xs i x d lt is)

@@ -6,7 +6,7 @@ use Rattle.nextest_profiles.specs.Meaning.{profile_meaning}
 use Rattle.rinqebo_diff.specs.Compared.{ReportsBy}
 use Rattle.rinqebo_sides.specs.Matched.{pair_view}
 use Rattle.rinqebo_diff.proofs.Comparing.{compared_more, compared_none, moved_bases}
-use Rattle.rinqebo_sides.proofs.Zips.{taken_more}
+use Rattle.rinqebo_sides.proofs.Zips.{taken_read}
 use Rattle.rinqebo_diff.proofs.compared.compared.Goals as goal
 
 pub loop-pair-init : goal.loop-pair-init
@@ -22,15 +22,14 @@ loop-pair-preserved g c =
     let inv = c.loop-pair.invariant in
     let pairs = c.args.pairs.now in
     let i = c.loop-pair.pair-index in
-    let pair = c.pair-item.result in
     let from = c.args.from.now in
     let to = c.args.to.now in
     record {
-      from_same = c.in_ok-found.ensures.same_from ∙ inv.from_same;
-      to_same = c.in_ok-found.ensures.same_to ∙ inv.to_same;
+      from_same = c.compared_pair-found.ensures.same_from ∙ inv.from_same;
+      to_same = c.compared_pair-found.ensures.same_to ∙ inv.to_same;
       count = omega (arith, inv.count);
-      compared = compared_more (map pair_view (take i pairs)) (map pair_view (take (i + 1) pairs)) (pair_view pair) _
-          c.in_ok-found.found _ (taken_more pair_view pairs i pair c.loop-pair-test.true c.pair-item.is) inv.compared
+      compared = compared_more (map pair_view (take i pairs)) (map pair_view (take (i + 1) pairs)) _ _
+          c.in_ok-found.found _ (taken_read pair_view pairs i _ _ c.loop-pair-test.true refl) inv.compared
           (moved_bases
           (λ o. ReportsBy filter_holds o (profile_meaning (marks_view names_of) from.profile.now) from.mode from.asked.now)
           (λ o. ReportsBy filter_holds o (profile_meaning (marks_view names_of) to.profile.now) to.mode to.asked.now)

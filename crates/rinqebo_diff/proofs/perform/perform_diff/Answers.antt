@@ -43,5 +43,5 @@ pub returns-in-Err-clause-refusal : goal.returns-in-Err-clause-refusal
 returns-in-Err-clause-refusal g c json ends = record {
   failure = c.in-Err.failure;
   fails = c.in-Err.ensures.err;
-  tells = c.refuse_diff.ensures.document json ends;
+  document = c.refuse_diff.ensures.document json ends;
 }

@@ -19,17 +19,17 @@ returns g c =
     let to = c.args.to.now.session in
     let left = c.args.left.now in
     let right = c.args.right.now in
-    let Told : RequestedSettings → RequestedSettings → Bool → Basis → Basis → Type 0 = λ one two runs a b. IfOk c.compared.result
+    let Compared : RequestedSettings → RequestedSettings → Bool → Basis → Basis → Type 0 = λ one two runs a b. IfOk c.compared.result
     (λ changed. AreCompared
     (ReportsBy filter_holds a (profile_meaning (marks_view names_of) left.profile) request.from.mode one)
     (ReportsBy filter_holds b (profile_meaning (marks_view names_of) right.profile) request.to.mode two)
     (is_change c.args.sources.from.now c.args.sources.to.now request.with_origins) runs
     (map pair_view c.args.pairs.now) changed.items) in
     let asked = request.compared.asked in
-    subst (Told asked asked _ _)
+    subst (Compared asked asked _ _)
     (basis_here to c.new-to_origins.result _ (borrowed_view right.chain.items) c.new-to_origins.ensures c.deref-4.ensures.value)
-    (subst (λ a. Told asked asked _ a _)
+    (subst (λ a. Compared asked asked _ a _)
     (basis_here from c.new-from_origins.result _ (borrowed_view left.chain.items) c.new-from_origins.ensures c.deref.ensures.value)
-    (subst (λ runs. Told asked asked runs _ _) c.with_runs.ensures
-    (subst (λ one. Told one asked _ _ _) c.asked.ensures
-    (subst (λ two. Told _ two _ _ _) c.asked-2.ensures c.compared.ensures))))
+    (subst (λ runs. Compared asked asked runs _ _) c.with_runs.ensures
+    (subst (λ one. Compared one asked _ _ _) c.asked.ensures
+    (subst (λ two. Compared _ two _ _ _) c.asked-2.ensures c.compared.ensures))))

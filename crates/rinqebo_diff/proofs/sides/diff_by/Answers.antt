@@ -4,6 +4,7 @@ use Rattle.std.specs.List.{AllZip}
 use Rattle.rinqebo_sides.specs.Matched.{pair_view}
 use Rattle.rinqebo_diff.specs.Differences.{IsIdOf}
 use Rattle.rinqebo_diff.specs.Evaluated.{evaluation_of}
+use Rattle.rinqebo_diff.proofs.Evaluating.{compared_as, counted_as}
 use Rattle.rinqebo_diff.proofs.sides.diff_by.Goals as goal
 
 pub returns : goal.returns
@@ -18,9 +19,10 @@ returns g c =
       to = c.in_ok-to_side.ensures;
       pairs = map pair_view matched.pairs.items;
       are_pairs = are.pairs;
-      changed = c.in_ok-changed.ensures;
+      changed = compared_as _ _ _ _ _ _ _ c.deref.ensures.value c.deref-2.ensures.value c.deref-3.ensures.value
+          c.in_ok-changed.ensures;
       compared = sym (length-map matched.pairs.items pair_view);
-      binaries = c.in_ok-beside_of.ensures.binaries;
+      binaries = counted_as _ _ _ c.deref-4.ensures.value c.in_ok-beside_of.ensures.binaries;
       removed = subst (λ tests. AllZip IsIdOf tests c.in_ok-beside_of.field-0.removed.items) are.removed c.in_ok-beside_of.ensures.removed;
       added = subst (λ tests. AllZip IsIdOf tests c.in_ok-beside_of.field-0.added.items) are.added c.in_ok-beside_of.ensures.added;
       run = c.in_ok-run.ensures;

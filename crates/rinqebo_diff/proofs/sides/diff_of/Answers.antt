@@ -3,11 +3,11 @@ use Rattle.rinqebo_diff.specs.Differences.{IsDiffOf}
 use Rattle.rinqebo_diff.specs.Evaluated.{evaluation_of, IsDiffOfLoaded}
 use Rattle.rinqebo_diff.proofs.sides.diff_of.Goals as goal
 
-pub evaluated-requires : goal.evaluated-requires
-evaluated-requires g c = c.requires.from
+pub evaluated_side-requires : goal.evaluated_side-requires
+evaluated_side-requires g c = c.requires.from
 
-pub evaluated-requires-in_ok-left : goal.evaluated-requires-in_ok-left
-evaluated-requires-in_ok-left g c = c.requires.to
+pub evaluated_side-requires-in_ok-left : goal.evaluated_side-requires-in_ok-left
+evaluated_side-requires-in_ok-left g c = c.requires.to
 
 pub returns : goal.returns
 returns g c =

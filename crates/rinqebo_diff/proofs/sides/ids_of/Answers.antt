@@ -1,3 +1,4 @@
+use Rattle.std.proofs.Common.{refl}
 use Rattle.nextest_lists.specs.ListView.{list_test_view}
 use Rattle.rinqebo_diff.specs.Differences.{IsIdOf}
 use Rattle.rinqebo_sides.proofs.Zips.{zip_more}
@@ -5,6 +6,6 @@ use Rattle.rinqebo_diff.proofs.sides.ids_of.Goals as goal
 
 pub loop-test-preserved : goal.loop-test-preserved
 loop-test-preserved c =
-    zip_more list_test_view IsIdOf c.args.tests.now c.loop-test.test-index c.test-item.result c.loop-test-test.true
-    c.test-item.is c.loop-test.ids.items c.in_ok-id_of.field-0 _ c.loop-test.invariant c.in_ok-id_of.ensures
+    zip_more list_test_view IsIdOf c.args.tests.now c.loop-test.test-index _ _ c.loop-test-test.true refl
+    c.loop-test.ids.items c.in_ok-id_of.field-0 _ c.loop-test.invariant c.in_ok-id_of.ensures
     c.in_ok-push.ensures.items

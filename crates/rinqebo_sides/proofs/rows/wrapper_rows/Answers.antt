@@ -1,16 +1,16 @@
 use Rattle.std.proofs.Common.{subst, sym}
 use Rattle.std.proofs.lemmas.Iterator.Adapters.{YieldsList-from_vec}
 use Rattle.std.proofs.lemmas.Iterator.Consumers.{YieldsList-end}
+use Rattle.std.proofs.lemmas.Slice.Zip.{all_zipped_more}
 use Rattle.std.specs.List.{AllZip}
 use Rattle.rinqebo_sides.specs.RunRows.{IsWrapperRow}
 use Rattle.rinqebo_sides.proofs.RunRows.{all_yielded}
-use Rattle.rinqebo_sides.proofs.Zips.{zip_push}
 use Rattle.rinqebo_sides.proofs.rows.wrapper_rows.Goals as goal
 
 pub loop-wrapper-preserved : goal.loop-wrapper-preserved
 loop-wrapper-preserved c =
     subst (AllZip IsWrapperRow _) (sym c.in_ok-push.ensures.items)
-    (zip_push IsWrapperRow c.loop-wrapper.yielded c.loop-wrapper.rows.items c.in-Some.wrapper
+    (all_zipped_more IsWrapperRow c.loop-wrapper.yielded c.loop-wrapper.rows.items c.in-Some.wrapper
     c.in_ok-wrapper_row.field-0 c.loop-wrapper.invariant c.in_ok-wrapper_row.ensures)
 
 pub returns : goal.returns

@@ -1,4 +1,4 @@
-use Rattle.rinqebo_diff.proofs.sides.evaluated.Goals as goal
+use Rattle.rinqebo_diff.proofs.sides.evaluated_side.Goals as goal
 
 pub profile_on-requires : goal.profile_on-requires
 profile_on-requires c = c.requires
