@@ -2,7 +2,7 @@
 use Rattle.std.specs.Prelude.{◌≡◌, ℕ, List, Option, None, Some, map, option_map, string_bytes, Result, Ok, Err, MatchResult}
 use Rattle.std.specs.Str.{IsUtf8}
 use Rattle.nextest_config.specs.ConfigView.{configured_in}
-use Rattle.nextest_config.specs.ProfileError.{ReportsMissing}
+use Rattle.nextest_config.specs.ProfileError.{TellsMissing}
 use Rattle.nextest_config.specs.declared.profile_error.ProfileError.{ProfileError}
 use Rattle.nextest_config.specs.declared.profile_error.ProfileError.TheVariants as errors
 use Rattle.nextest_elements.specs.declared.test_group.TestGroupConfig.{TestGroupConfig}
@@ -76,7 +76,7 @@ abbrev pub IsNotOpened : Loaded → Name → OpenFailure → Type 0
 IsNotOpened loaded name opens.NotLoaded = ⊥
 IsNotOpened loaded name opens.NotText = ⊥
 IsNotOpened loaded name (opens.NotFound missing) =
-    ReportsMissing (names_in loaded.config.config.profiles) name missing
+    TellsMissing (names_in loaded.config.config.profiles) name missing
 IsNotOpened loaded name opens.Memory = Unit {0}
 
 -- a fact of what was loaded, where something was
@@ -95,7 +95,7 @@ abbrev pub IsOpenFailure : Session → Name → OpenFailure → Type 0
 IsOpenFailure session name opens.NotLoaded = IsEmpty session.outcome
 IsOpenFailure session name opens.NotText = ¬ IsUtf8 name
 IsOpenFailure session name (opens.NotFound missing) = IfLoaded session.outcome
-    (λ loaded. ReportsMissing (names_in loaded.config.config.profiles) name missing)
+    (λ loaded. TellsMissing (names_in loaded.config.config.profiles) name missing)
 IsOpenFailure session name opens.Memory = Unit {0}
 
 -- A profile of a name is opened in a session, or it is not for this reason.
