@@ -9,6 +9,7 @@ use Rattle.rinqebo_changes.specs.Changes.{changed_rows, rows_in, IsChangedTest}
 use Rattle.rinqebo_changes.specs.declared.change.SideRow.{SideRow}
 use Rattle.rinqebo_changes.specs.declared.change.TestChanges.{TestChanges}
 use Rattle.rinqebo_report.specs.declared.report.TestRows.{TestRows}
+use Rattle.rinqebo_request.specs.declared.request.RequestedSettings.{RequestedSettings}
 use Rattle.rinqebo_rules.specs.TestOrigins.{Basis}
 use Rattle.rinqebo_diff.specs.Compared.{AreCompared, IsComparedBy}
 use Rattle.rinqebo_sides.specs.Matched.{TestPair}
@@ -37,16 +38,27 @@ pub compared_none : {left right : ListTest → TestRows → Type 0} {changes : S
 compared_none changed none = record { results = []; each = tt; kept = none }
 
 -- what changes for a pair, by the rows that each side reports
-pub compared_by : {left right : ListTest → TestRows → Type 0} {changes : SideRow → SideRow → Bool} {E : Type 0}
+pub compared_by : (left right : ListTest → TestRows → Type 0) (changes : SideRow → SideRow → Bool) {E : Type 0}
     (with_runs : Bool) (pair : TestPair) (before after : TestRows) (result : Result (Option TestChanges) E)
     → left pair.from before → right pair.to after
     → IfOk result (λ found. MatchOption found
     (changed_rows changes (rows_in with_runs before) (rows_in with_runs after) ≡ [])
     (IsChangedTest changes with_runs before after))
     → IfOk result (IsComparedBy left right changes with_runs pair)
-compared_by with_runs pair before after (Ok found) l r verdict =
+compared_by left right changes with_runs pair before after (Ok found) l r verdict =
     record { before = before; after = after; left_reports = l; right_reports = r; verdict = verdict }
-compared_by with_runs pair before after (Err e) l r verdict = tt
+compared_by left right changes with_runs pair before after (Err e) l r verdict = tt
+
+-- what is said of settings and of where origins are looked up is said of them by other names
+pub renamed : (P : RequestedSettings → RequestedSettings → Bool → Basis → Basis → Type 0)
+    (one two asked : RequestedSettings) (runs with_runs : Bool) (a b c d : Basis) → one ≡ asked → two ≡ asked
+    → runs ≡ with_runs → a ≡ b → c ≡ d → P one two runs a c → P asked asked with_runs b d
+renamed P one two asked runs with_runs a b c d is_one is_two is_runs is_left is_right is =
+    subst (P asked asked with_runs b) is_right
+    (subst (λ left. P asked asked with_runs left c) is_left
+    (subst (λ with. P asked asked with a c) is_runs
+    (subst (λ other. P asked other runs a c) is_two
+    (subst (λ other. P other two runs a c) is_one is))))
 
 -- origins are looked up in the same by another name
 pub moved_bases : {changes : SideRow → SideRow → Bool} {with_runs : Bool} {pair : TestPair}

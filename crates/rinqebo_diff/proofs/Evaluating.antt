@@ -24,6 +24,7 @@ use Rattle.rinqebo_files.specs.declared.layers.Layer.{Layer}
 use Rattle.rinqebo_load.specs.Sessions.{readings}
 use Rattle.rinqebo_report.specs.declared.origin.Source.{Source}
 use Rattle.rinqebo_report.specs.declared.report.Entry.{Entry}
+use Rattle.rinqebo_report.specs.declared.report.TestId.{TestId}
 use Rattle.rinqebo_report.specs.declared.report.TestRows.{TestRows}
 use Rattle.rinqebo_rules.specs.Trees.{trees_of}
 use Rattle.rinqebo_run.specs.Listed.{IsProfileOn}
@@ -34,7 +35,7 @@ use Rattle.rinqebo_sides.specs.declared.matched.Matched.{Matched}
 use Rattle.rinqebo_sides.specs.declared.matched.Pair.{Pair}
 use Rattle.rinqebo_run.proofs.Listing.{given_means}
 use Rattle.rinqebo_diff.specs.Compared.{AreCompared}
-use Rattle.rinqebo_diff.specs.Differences.{Differs, IsCountOf}
+use Rattle.rinqebo_diff.specs.Differences.{Differs, IsCountOf, IsIdOf}
 use Rattle.rinqebo_diff.specs.Evaluated.{IsEvaluated, evaluation_of, IsDiffOfLoaded}
 use Rattle.rinqebo_diff.specs.Loaded.{IsLoadedSide}
 use Rattle.rinqebo_diff.specs.Sides.{IsEvaluationOf}
@@ -90,11 +91,11 @@ matched_as result a b c d one two are =
     subst (λ ts. IfOk result (AreMatched b ts)) two (subst (λ ts. IfOk result (AreMatched ts c)) one are)
 
 -- tests are compared between the same sources, in the same pairs, by other names
-pub compared_as : {left right : ListTest → TestRows → Type 0} {with_origins with_runs : Bool} (a b c d : List Source)
-    (ps qs : List Pair) (changed : List TestChanges) → a ≡ b → c ≡ d → ps ≡ qs
+pub compared_as : {left right : ListTest → TestRows → Type 0} {with_runs : Bool} (with_origins : Bool)
+    (a b c d : List Source) (ps qs : List Pair) (changed : List TestChanges) → a ≡ b → c ≡ d → ps ≡ qs
     → AreCompared left right (is_change a c with_origins) with_runs (map pair_view ps) changed
     → AreCompared left right (is_change b d with_origins) with_runs (map pair_view qs) changed
-compared_as {left} {right} {with_origins} {with_runs} a b c d ps qs changed one two three are =
+compared_as {left} {right} {with_runs} with_origins a b c d ps qs changed one two three are =
     subst (λ us. AreCompared left right (is_change b d with_origins) with_runs (map pair_view us) changed) three
     (subst (λ ss. AreCompared left right (is_change b ss with_origins) with_runs (map pair_view ps) changed) two
     (subst (λ ss. AreCompared left right (is_change ss c with_origins) with_runs (map pair_view ps) changed) one are))
@@ -103,6 +104,10 @@ compared_as {left} {right} {with_origins} {with_runs} a b c d ps qs changed one 
 pub counted_as : (a b : List ListedBinary) (counts : List BinaryTests) → a ≡ b
     → AllZip IsCountOf (map listed_view a) counts → AllZip IsCountOf (map listed_view b) counts
 counted_as a b counts same all = subst (λ bs. AllZip IsCountOf (map listed_view bs) counts) same all
+
+-- tests that one list has alone are named by another name
+pub alone_as : (a b : List ListTest) (ids : List TestId) → a ≡ b → AllZip IsIdOf a ids → AllZip IsIdOf b ids
+alone_as a b ids same all = subst (λ ts. AllZip IsIdOf ts ids) same all
 
 -- leaves are shown in the same layers and of the same profiles by other names
 pub shown_of : (files layers : List Layer) (names chain : List (Bor (List ℕ))) (entries : List Entry) → files ≡ layers

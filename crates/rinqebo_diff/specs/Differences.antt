@@ -1,5 +1,5 @@
 -- What changes from one side to another.
-use Rattle.std.specs.Prelude.{◌≡◌, ℕ, ◌&&◌, ◌==◌, not, Bool, List, [], Option, length, filter, string_bytes, if◌then◌else◌}
+use Rattle.std.specs.Prelude.{◌≡◌, ℕ, not, List, Option, length, filter, string_bytes, if◌then◌else◌}
 use Rattle.std.specs.List.{AllZip}
 use Rattle.nextest_elements.specs.declared.run_mode.NextestRunMode.{NextestRunMode}
 use Rattle.nextest_lists.specs.Lists.{Listed, ListTest, list_tests}

@@ -1,5 +1,5 @@
 //! What changes between two sides that are loaded.
-ghost use Rattle.std.specs.Prelude.{◌≡◌, IfOk, map};
+ghost use Rattle.std.specs.Prelude.{IfOk, map};
 ghost use Rattle.std.specs.List.{AllZip};
 ghost use Rattle.nextest_lists.specs.Lists.{list_tests};
 ghost use Rattle.nextest_lists.specs.ListView.{list_test_view, list_view, listed_view};

@@ -25,8 +25,8 @@ loop-pair-preserved g c =
     let from = c.args.from.now in
     let to = c.args.to.now in
     record {
-      from_same = c.compared_pair-found.ensures.same_from ∙ inv.from_same;
-      to_same = c.compared_pair-found.ensures.same_to ∙ inv.to_same;
+      from_same = c.compared_pair.ensures.same_from ∙ inv.from_same;
+      to_same = c.compared_pair.ensures.same_to ∙ inv.to_same;
       count = omega (arith, inv.count);
       compared = compared_more (map pair_view (take i pairs)) (map pair_view (take (i + 1) pairs)) _ _
           c.in_ok-found.found _ (taken_read pair_view pairs i _ _ c.loop-pair-test.true refl) inv.compared

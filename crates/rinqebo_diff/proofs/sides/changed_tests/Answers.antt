@@ -1,4 +1,4 @@
-use Rattle.std.proofs.Common.{Bool, IfOk, map, subst}
+use Rattle.std.proofs.Common.{◌∙◌, Bool, IfOk, ap, map}
 use Rattle.filter_engine.specs.Compiling.{names_of}
 use Rattle.filter_engine.specs.Engine.{filter_holds}
 use Rattle.filter_language.specs.Filtersets.{marks_view}
@@ -8,8 +8,11 @@ use Rattle.rinqebo_changes.specs.Changes.{is_change}
 use Rattle.rinqebo_request.specs.declared.request.RequestedSettings.{RequestedSettings}
 use Rattle.rinqebo_rules.specs.TestOrigins.{Basis}
 use Rattle.rinqebo_run.proofs.Listing.{basis_here}
+use Rattle.rinqebo_run.specs.ListedBy.{basis_of}
 use Rattle.rinqebo_sides.specs.Matched.{pair_view}
+use Rattle.rinqebo_diff.specs.Asked.{compares_runs}
 use Rattle.rinqebo_diff.specs.Compared.{AreCompared, ReportsBy}
+use Rattle.rinqebo_diff.proofs.Comparing.{renamed}
 use Rattle.rinqebo_diff.proofs.sides.changed_tests.Goals as goal
 
 pub returns : goal.returns
@@ -26,10 +29,11 @@ returns g c =
     (is_change c.args.sources.from.now c.args.sources.to.now request.with_origins) runs
     (map pair_view c.args.pairs.now) changed.items) in
     let asked = request.compared.asked in
-    subst (Compared asked asked _ _)
-    (basis_here to c.new-to_origins.result _ (borrowed_view right.chain.items) c.new-to_origins.ensures c.deref-4.ensures.value)
-    (subst (λ a. Compared asked asked _ a _)
-    (basis_here from c.new-from_origins.result _ (borrowed_view left.chain.items) c.new-from_origins.ensures c.deref.ensures.value)
-    (subst (λ runs. Compared asked asked runs _ _) c.with_runs.ensures
-    (subst (λ one. Compared one asked _ _ _) c.asked.ensures
-    (subst (λ two. Compared _ two _ _ _) c.asked-2.ensures c.compared.ensures))))
+    renamed Compared c.asked.result.now c.asked-2.result.now asked c.with_runs.result (compares_runs asked)
+    c.new-from_origins.result (basis_of from (borrowed_view left.chain.items)) c.new-to_origins.result
+    (basis_of to (borrowed_view right.chain.items)) c.asked.ensures c.asked-2.ensures c.with_runs.ensures
+    (basis_here from c.new-from_origins.result _ (borrowed_view c.deref-2.result.now) c.new-from_origins.ensures
+    c.deref.ensures.value ∙ ap (λ names. basis_of from (borrowed_view names)) c.deref-2.ensures.value)
+    (basis_here to c.new-to_origins.result _ (borrowed_view c.deref-4.result.now) c.new-to_origins.ensures
+    c.deref-3.ensures.value ∙ ap (λ names. basis_of to (borrowed_view names)) c.deref-4.ensures.value)
+    c.compared.ensures

@@ -6,8 +6,8 @@ use Rattle.rinqebo_diff.proofs.sides.diff_of.Goals as goal
 pub evaluated_side-requires : goal.evaluated_side-requires
 evaluated_side-requires g c = c.requires.from
 
-pub evaluated_side-requires-in_ok-left : goal.evaluated_side-requires-in_ok-left
-evaluated_side-requires-in_ok-left g c = c.requires.to
+pub evaluated_side-requires-2 : goal.evaluated_side-requires-2
+evaluated_side-requires-2 g c = c.requires.to
 
 pub returns : goal.returns
 returns g c =

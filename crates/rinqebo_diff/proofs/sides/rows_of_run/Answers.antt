@@ -1,4 +1,3 @@
-use Rattle.std.proofs.Common.{[]}
 use Rattle.std.proofs.lemmas.Result.{IfOk-weaker}
 use Rattle.rinqebo_diff.proofs.Evaluating.{shown_of}
 use Rattle.rinqebo_sides.specs.RunRows.{AreRunRows}
