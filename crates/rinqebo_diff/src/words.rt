@@ -13,7 +13,7 @@ use rinqebo_request::words::{
 };
 use rinqebo_request::{
     ConfigFile, EngineOptions, Environment, FileOptions, ListFile, ParseStop, ProfileSource,
-    Question, Request, RequestedSettings, set,
+    Question, Request, RequestedSettings, ToolFile, set,
 };
 use std::alloc::{AllocError, Global};
 
@@ -113,27 +113,41 @@ fn left_options<'a>(
     })
 }
 
+/// The files of tools of the right side: those of the left side, if none is named anew.
+fn right_tools<'a>(
+    alloc: Global,
+    matches: &ArgMatches<'a>,
+    left: Vec<ToolFile<'a>>,
+) -> Result<Vec<ToolFile<'a>>, ParseStop> {
+    if let Some(values) = matches.get_strs("to-tool-config-file") {
+        return tool_files(alloc, values);
+    }
+    Ok(left)
+}
+
 /// The files of the right side: those of the left side, but for what is named anew.
 fn right_files<'a>(
     alloc: Global,
     matches: &ArgMatches<'a>,
     left: FileOptions<'a>,
 ) -> Result<FileOptions<'a>, ParseStop> {
+    let FileOptions {
+        root,
+        config_file,
+        organisation_config_file,
+        tools,
+    } = left;
     let config_file = match matches.get_str("to-config-file") {
         Some(path) => ConfigFile::Named(path),
-        None => left.config_file,
-    };
-    let tools = match matches.get_strs("to-tool-config-file") {
-        Some(values) => tool_files(alloc, values)?,
-        None => left.tools,
+        None => config_file,
     };
     Ok(FileOptions {
-        root: matches.get_str("to-root").or(left.root),
+        root: matches.get_str("to-root").or(root),
         config_file,
         organisation_config_file: matches
             .get_str("to-organisation-config-file")
-            .or(left.organisation_config_file),
-        tools,
+            .or(organisation_config_file),
+        tools: right_tools(alloc, matches, tools)?,
     })
 }
 
@@ -161,26 +175,34 @@ fn right_options<'a>(
     matches: &ArgMatches<'a>,
     left: SideOptions<'a>,
 ) -> Result<SideOptions<'a>, ParseStop> {
-    let profile = matches.get_str("to-profile");
-    let profile_source = match profile {
-        Some(_) => ProfileSource::CommandLine,
-        None => left.profile_source,
-    };
-    let mode = match matches.get_str("to-mode") {
-        Some(word) => mode_of(word),
-        None => left.mode,
-    };
-    let list = match matches.get_str("to-list") {
-        Some(path) => ListFile::at(path),
-        None => left.list,
-    };
-    Ok(SideOptions {
-        profile: profile.unwrap_or(left.profile),
+    let SideOptions {
+        profile,
         profile_source,
         mode,
         list,
-        files: right_files(alloc, matches, left.files)?,
-        engines: right_engines(matches, left.engines),
+        files,
+        engines,
+    } = left;
+    let to_profile = matches.get_str("to-profile");
+    let profile_source = match to_profile {
+        Some(_) => ProfileSource::CommandLine,
+        None => profile_source,
+    };
+    let mode = match matches.get_str("to-mode") {
+        Some(word) => mode_of(word),
+        None => mode,
+    };
+    let list = match matches.get_str("to-list") {
+        Some(path) => ListFile::at(path),
+        None => list,
+    };
+    Ok(SideOptions {
+        profile: to_profile.unwrap_or(profile),
+        profile_source,
+        mode,
+        list,
+        files: right_files(alloc, matches, files)?,
+        engines: right_engines(matches, engines),
     })
 }
 

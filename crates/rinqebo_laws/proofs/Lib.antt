@@ -1,0 +1,15 @@
+pub mod Lists
+pub mod Files
+pub mod Places
+pub mod Origins
+pub mod Texts
+pub mod Keys
+pub mod Deciding
+pub mod Rows
+pub mod Why
+pub mod Runs
+pub mod Listed
+pub mod Profiles
+pub mod ProfileRules
+pub mod Agreement
+pub mod WhyAgreement
