@@ -1,5 +1,5 @@
 -- What callers receive of comparisons.
-use Rattle.std.proofs.Common.{◌≡◌, ◌∙◌, ◌⊎◌, ◌<◌, ◌≤◌, ◌++◌, inl, inr, ℕ, Bool, Global, List, Option, None, Some, ap, arith, drop, length, refl, String, string_bytes, subst, sym, take}
+use Rattle.std.proofs.Common.{◌≡◌, ◌∙◌, ◌⊎◌, ◌<◌, ◌≤◌, ◌++◌, inl, inr, ℕ, [], Bool, Global, List, Option, None, Some, ap, arith, drop, length, refl, String, string_bytes, subst, sym, take}
 use Rattle.std.proofs.Math.Seq.{take-append_seam}
 use Rattle.std.proofs.lemmas.Bool.{cases_lt}
 use Rattle.rinqebo_compare.specs.Comparisons.{EndsFor, EndsUnderstood, IsCompared, IsDiffFor, counts_origins, side_number}
@@ -8,7 +8,6 @@ use Rattle.rinqebo_diff.specs.declared.loaded.SideName.TheVariants as names
 use Rattle.rinqebo_resolve.specs.Endings.{IsReported, IsSilent, ending_status, ending_text}
 use Rattle.rinqebo_resolve.specs.declared.ending.Ending.{Ending}
 use Rattle.rinqebo_resolve.specs.declared.ending.Ending.TheVariants as ends
-use Rattle.rinqebo_resolve.proofs.Reporting.{silent_text}
 use Rattle.rinqebo_session.specs.declared.status.TheConstants.{DONE}
 
 -- what a comparison ends with whose status is the first one
@@ -67,6 +66,26 @@ pub reported_document : (from to : List ℕ) (origins : ℕ) (old new : List ℕ
     → (side ≡ 0) × IsDiffFor from to (counts_origins origins) (take needed new)
 reported_document from to origins old new needed side status r =
     document_in from to origins old new needed side status r (cases_lt (length old) (length (ending_text r.ending)))
+
+-- an ending with a status beside which nothing is told has no text
+silent_text : (ending : Ending) → IsSilent (ending_status ending) → ending_text ending ≡ []
+silent_text (ends.Answered text) (inl is) = absurd (omega arith)
+silent_text (ends.Answered text) (inr (inl is)) = absurd (omega arith)
+silent_text (ends.Answered text) (inr (inr is)) = absurd (omega arith)
+silent_text (ends.Refused text) (inl is) = absurd (omega arith)
+silent_text (ends.Refused text) (inr (inl is)) = absurd (omega arith)
+silent_text (ends.Refused text) (inr (inr is)) = absurd (omega arith)
+silent_text (ends.NoProfile text) (inl is) = absurd (omega arith)
+silent_text (ends.NoProfile text) (inr (inl is)) = absurd (omega arith)
+silent_text (ends.NoProfile text) (inr (inr is)) = absurd (omega arith)
+silent_text (ends.NoEngines reason) (inl is) = absurd (omega arith)
+silent_text (ends.NoEngines reason) (inr (inl is)) = absurd (omega arith)
+silent_text (ends.NoEngines reason) (inr (inr is)) = absurd (omega arith)
+silent_text (ends.NotUnderstood reason) (inl is) = absurd (omega arith)
+silent_text (ends.NotUnderstood reason) (inr (inl is)) = absurd (omega arith)
+silent_text (ends.NotUnderstood reason) (inr (inr is)) = absurd (omega arith)
+silent_text ends.NotText is = refl
+silent_text ends.Memory is = refl
 
 -- where the status says that the caller receives nothing, the buffer is as it was
 kept_in : (ending : Ending) (old new : List ℕ) (needed status : ℕ) → IsReported ending old new needed status
