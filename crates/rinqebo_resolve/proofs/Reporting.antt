@@ -157,7 +157,7 @@ reported_answer request old new needed status r =
     answer_in request old new needed status r (cases_lt (length old) (length (ending_text r.ending)))
 
 -- an ending with a status beside which nothing is told has no text
-pub silent_text : (ending : Ending) → IsSilent (ending_status ending) → ending_text ending ≡ []
+silent_text : (ending : Ending) → IsSilent (ending_status ending) → ending_text ending ≡ []
 silent_text (ends.Answered text) (inl is) = absurd (omega arith)
 silent_text (ends.Answered text) (inr (inl is)) = absurd (omega arith)
 silent_text (ends.Answered text) (inr (inr is)) = absurd (omega arith)
