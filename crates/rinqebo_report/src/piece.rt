@@ -1,7 +1,8 @@
 //! Pieces of a page, and how they are painted.
 ghost use Rattle.std.specs.Prelude.{◌≡◌, [], ◌∷◌, ◌++◌, OnOk, map, flat_map, replicate, string_bytes};
+ghost use Rattle.std.specs.List.{list_all};
 ghost use Rattle.std.specs.Str.{chars};
-ghost use Rattle.rinqebo_report.specs.Pieces.{shown_char, shown_text, escape_of, style_code, painted_text, painted, page_text, ending};
+ghost use Rattle.rinqebo_report.specs.Pieces.{is_printable_byte, shown_char, shown_text, escape_of, style_code, painted_text, painted, page_text, ending};
 ghost use Rattle.rinqebo_report.specs.PieceView.{piece_view};
 
 use std::alloc::AllocError;
@@ -77,14 +78,36 @@ pub(crate) fn add_char(out: &mut String, c: char) -> Result<(), AllocError>
     }
 }
 
-/// Writes a text, in which control characters are spelled as escapes.
-fn add_shown(out: &mut String, text: &str) -> Result<(), AllocError>
+/// Whether each byte of a text is a printable character of ASCII.
+fn is_printable(text: &str) -> bool
+    ensures { result ≡ list_all is_printable_byte text.now }
+{
+    text.as_bytes()
+        .iter()
+        .all(|byte| matches!(*byte, b' '..=b'~'))
+}
+
+/// Writes a text character by character. Control characters are spelled as escapes.
+fn add_spelled(out: &mut String, text: &str) -> Result<(), AllocError>
     ensures { OnOk result (string_bytes out.new ≡ string_bytes out.old ++ shown_text text.now) }
 {
     for c in text.chars() {
         add_char(out, c)?;
     }
     Ok(())
+}
+
+/// Writes a text, in which control characters are spelled as escapes. Most texts have none, and are
+/// written as they are.
+#[tactic(auto, using(crate::proofs::Printable::shown_as_is))]
+fn add_shown(out: &mut String, text: &str) -> Result<(), AllocError>
+    ensures { OnOk result (string_bytes out.new ≡ string_bytes out.old ++ shown_text text.now) }
+{
+    if is_printable(text) {
+        out.push_str(text)
+    } else {
+        add_spelled(out, text)
+    }
 }
 
 /// Writes a text in its style.
