@@ -31,7 +31,7 @@ fn is_same_kind(kind: &ConfigSourceKind, other: &ConfigSourceKind) -> bool
 }
 
 /// Whether two sources are the same: of one kind, at one path.
-fn is_same_source(source: &ConfigSource, other: &ConfigSource) -> bool
+pub(crate) fn is_same_source(source: &ConfigSource, other: &ConfigSource) -> bool
     ensures { IsTrue result ↔ (source_view source.now ≡ source_view other.now) }
 {
     is_same_kind(source.kind(), other.kind())

@@ -1,18 +1,19 @@
 //! The page of a list. The program writes it test after test, as it resolves them.
-ghost use Rattle.std.specs.Prelude.{◌≡◌, ◌<◌, ◌^◌, [], IfErr, IfOk, OnOk, length, map, string_bytes};
+ghost use Rattle.std.specs.Prelude.{◌≡◌, ◌<◌, ◌^◌, ◌++◌, ◌∷◌, [], IfErr, IfOk, List, OnOk, length, map, string_bytes};
 ghost use Rattle.std.specs.Io.KnownBytes.{Appends};
 ghost use Rattle.std.specs.List.{AllZip};
 ghost use Rattle.filter_language.specs.Filtersets.{marks_view};
 ghost use Rattle.nextest_engines.specs.Engines.{test_view};
 ghost use Rattle.filter_engine.specs.Compiling.{names_of};
-ghost use Rattle.filter_engine.specs.Engine.{filter_holds};
+ghost use Rattle.filter_engine.specs.Engine.{Filter, filter_holds};
 ghost use Rattle.nextest_inheritance.specs.View.{borrowed_view};
 ghost use Rattle.nextest_profiles.specs.Meaning.{profile_meaning};
+ghost use Rattle.nextest_settings.specs.Deciding.{QueryContext};
 ghost use Rattle.nextest_settings.specs.Queries.{query_in};
 ghost use Rattle.nextest_tables.specs.FileTexts.{names_in, IsIn};
 ghost use Rattle.nextest_lists.specs.ListView.{list_test_view, list_view};
 ghost use Rattle.nextest_lists.specs.Lists.{all_tests, list_tests};
-ghost use Rattle.rinqebo_rules.specs.Unused.{AreUnusedIn};
+ghost use Rattle.rinqebo_rules.specs.Unused.{AreUnusedIn, AreUsedIn};
 ghost use Rattle.rinqebo_report.specs.Headers.{list_head_runs};
 ghost use Rattle.rinqebo_report.specs.Pages.{list_end_runs};
 ghost use Rattle.rinqebo_report.specs.Pieces.{page_text};
@@ -29,14 +30,14 @@ use crate::list_origins::unused_origins;
 use crate::list_scripts::scripts_of_list;
 use filter_engine::{NextestFilters, NextestTally};
 use nextest_config::NextestRunMode;
-use nextest_lists::{ListedTest, queries_of};
+use nextest_lists::ListedTest;
 use platform_language::TargetSpecs;
 use rinqebo_load::{Config, Session, chain_of_profile};
 use rinqebo_report::{
     Asked, ListScripts, Origin, Paper, Report, render_list_end, render_list_head, render_listed,
 };
 use rinqebo_request::RequestedSettings;
-use rinqebo_rules::{Lister, Origins, Progress, UnusedRules, unused_rules};
+use rinqebo_rules::{Lister, Origins, Progress, UnusedRules, UsedRules};
 use std::alloc::{AllocError, Global};
 use std::io::Write;
 
@@ -102,26 +103,32 @@ pub fn write_last<W: Write>(text: &str, out: &mut W) -> Result<(), ListFault>
 }
 
 impl<'c> ListPage<'c, '_> {
-    /// Resolves a test, and returns its lines.
+    /// Resolves a test, and returns its lines, and which rules hold for some of the tests with it.
     fn test_text(
         &self,
         alloc: Global,
         asking: &TestLister<'_, 'c>,
         test: &ListedTest<'_>,
+        used: UsedRules,
         tally: &mut NextestTally,
         origins: &mut Origins<'_, '_, 'c>,
-    ) -> Result<String, AllocError>
+    ) -> Result<(String, UsedRules), AllocError>
         ensures same { origins.new ≡ origins.old }
         ensures shown { let profile = profile_meaning (marks_view names_of)
             asking.now.profile.now in
-            IfOk result (λ text. ShowsTest origins.old
+            IfOk result (λ next. ShowsTest origins.old
             (query_in filter_holds profile (test_view test.now.query)) asking.now.mode profile
             asking.now.asked.now (list_test_view test.now) self.now.head.now self.now.paper
-            (string_bytes text)) }
+            (string_bytes next.0)) }
+        ensures used { (tests : List (QueryContext Filter))
+            → let profile = profile_meaning (marks_view names_of) asking.now.profile.now in
+            let query = query_in filter_holds profile (test_view test.now.query) in
+            AreUsedIn tests asking.now.mode profile used
+            → IfOk result (λ next. AreUsedIn (tests ++ query ∷ []) asking.now.mode profile next.1) }
     {
-        let rows = asking.rows_of(alloc, test, tally, origins)?;
+        let (rows, used) = asking.next_test(alloc, test, used, tally, origins)?;
         let text = render_listed(alloc, self.head, self.paper, &rows)?;
-        Ok(text)
+        Ok((text, used))
     }
 
     /// Writes the tests one after another, and returns the rules of the profile that hold for none
@@ -150,13 +157,14 @@ impl<'c> ListPage<'c, '_> {
             (O.contents out.old) (O.contents out.new)) }
     {
         let mut tally = NextestTally::new();
+        let mut used = asking.before_tests(alloc)?;
         for (place, test) in listed.iter().enumerate() {
-            let text = self.test_text(alloc, asking, test, &mut tally, origins)?;
+            let (text, next) = self.test_text(alloc, asking, test, used, &mut tally, origins)?;
             write_text(text.as_str(), out)?;
+            used = next;
             progress.asked(place + 1, listed.len());
         }
-        let queries = queries_of(alloc, listed)?;
-        let unused = unused_rules(alloc, asking.profile, &queries, &mut tally)?;
+        let unused = used.unused(alloc, asking.profile)?;
         Ok(unused)
     }
 
