@@ -1,10 +1,23 @@
 -- Rules that are marked by whether they hold for some tests.
-use Rattle.std.proofs.Common.{◌≡◌, ◌∙◌, ◌<◌, ◌++◌, ◌∷◌, [], ◌||◌, ℕ, List, Bool, true, false, Some, ap, length, map, slice_get, unwrap_or, refl, sym}
+use Rattle.std.proofs.Common.{◌≡◌, ◌∙◌, ◌<◌, ◌++◌, ◌∷◌, [], ◌||◌, ◌+◌, ℕ, zero, suc, List, Bool, arith, get_or, take, true, false, Some, ap, length, map, slice_get, unwrap_or, refl, sym}
 use Rattle.std.proofs.lemmas.List.Folds.{list_any-append}
 use Rattle.std.proofs.lemmas.Option.{slice_get-map}
 use Rattle.nextest_settings.specs.Deciding.{QueryContext, rule_holds}
 use Rattle.nextest_settings.specs.Platforms.{EvaluatedRule}
 use Rattle.rinqebo_rules.specs.Unused.{is_used}
+
+-- what is made of one element more
+pub map_more : {A B : Type 0} (f : A → B) (xs : List A) (i : ℕ) (x d : A) → i < length xs → x ≡ get_or xs i d
+    → map f (take i xs) ++ f x ∷ [] ≡ map f (take (i + 1) xs)
+map_more f [] i x d below is = absurd (omega arith)
+map_more f (y ∷ xs) zero x d below is = let e : x ≡ y = cc in ap (λ z. f z ∷ []) e
+map_more f (y ∷ xs) (suc i) x d below is = ap (λ rest. f y ∷ rest) (map_more f xs i x d (omega arith) is)
+
+-- what is made in three steps
+pub twice : {A B C D : Type 0} (h : C → D) (g : B → C) (f : A → B) (xs : List A)
+    → map (λ x. h (g (f x))) xs ≡ map h (map g (map f xs))
+twice h g f [] = refl
+twice h g f (x ∷ xs) = ap (λ rest. h (g (f x)) ∷ rest) (twice h g f xs)
 
 or_false : (b : Bool) → (b || false) ≡ b
 or_false true = refl

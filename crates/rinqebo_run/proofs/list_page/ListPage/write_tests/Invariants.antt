@@ -1,4 +1,4 @@
-use Rattle.std.proofs.Common.{◌≡◌, List, take}
+use Rattle.std.proofs.Common.{◌≡◌, List, map, take}
 use Rattle.std.specs.Io.KnownBytes.{Appends}
 use Rattle.std.specs.List.{AllZip}
 use Rattle.filter_language.specs.Filtersets.{marks_view}
@@ -8,6 +8,7 @@ use Rattle.filter_engine.specs.Engine.{filter_holds}
 use Rattle.nextest_profiles.specs.Meaning.{profile_meaning}
 use Rattle.nextest_settings.specs.Queries.{query_in}
 use Rattle.rinqebo_rules.specs.Rows.{IsTestReported}
+use Rattle.rinqebo_rules.specs.Unused.{AreUsedIn}
 use Rattle.rinqebo_report.specs.declared.report.TestRows.{TestRows}
 use Rattle.rinqebo_run.specs.Begun.{tests_text}
 use Rattle.rinqebo_run.proofs.list_page.ListPage.write_tests.Given as goal
@@ -25,4 +26,6 @@ invariant-loop-place g l =
           (list_test_view test)) listed rows;
       page : Appends (g.O.Write.contents l.initial.out) (g.O.Write.contents l.out)
           (tests_text l.self.head.now l.self.paper rows);
+      marked : AreUsedIn (map (λ test. query_in filter_holds profile (list_test_view test).test) listed) l.asking.mode
+          profile l.used;
     }

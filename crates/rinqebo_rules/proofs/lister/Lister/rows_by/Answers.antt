@@ -9,17 +9,16 @@ use Rattle.rinqebo_rules.specs.Settings.{reported_settings}
 use Rattle.rinqebo_rules.specs.TestOrigins.{wrapping_at, wrapping_id}
 use Rattle.rinqebo_rules.proofs.RowsMore.{reported_alike, wrapping_alike}
 use Rattle.rinqebo_rules.proofs.Selected.{reported_run}
-use Rattle.rinqebo_rules.proofs.lister.Lister.rows_of.Goals as goal
+use Rattle.rinqebo_rules.proofs.lister.Lister.rows_by.Goals as goal
 
 pub returns-clause-told : goal.returns-clause-told
-returns-clause-told g c =
+returns-clause-told g c = λ are.
     let self = c.args.self.now in
     let profile = profile_meaning g.F.Filters.meaning self.profile.now in
     let test = c.args.test.now in
     let query = query_in g.F.Filters.holds profile (test_view test.query) in
     let runs = c.runs_if-runs.ensures ∙ ap (λ s. runs_if s test.ignored) c.is_selected.ensures in
-    let settings = c.settings_with_source_for-settings.result in
-    let are = c.settings_with_source_for-settings.ensures.settings in
+    let settings = c.args.settings.now in
     let rows = c.in_ok-rows_of.field-0.items in
     record {
       binary = c.in_ok-from_str.ensures.ok;
