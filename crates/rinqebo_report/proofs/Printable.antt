@@ -1,7 +1,8 @@
 -- Texts that are shown as they are.
-use Rattle.std.proofs.Common.{◌≡◌, ◌<◌, ◌++◌, ◌∷◌, [], ◌∙◌, ℕ, zero, suc, List, true, false, flat_map, get_or, ap, ap₂, refl, sym, arith}
+use Rattle.std.proofs.Common.{◌≡◌, ◌<◌, ◌≤◌, ◌++◌, ◌∷◌, [], ◌∙◌, ℕ, zero, suc, List, true, false, codes, flat_map, get_or, replicate, take, ap, ap₂, refl, sym, arith}
 use Rattle.std.proofs.lemmas.Bool.{and_parts}
 use Rattle.std.proofs.lemmas.Bool.Decides.{nat_tests}
+use Rattle.std.proofs.lemmas.List.{take-replicate}
 use Rattle.std.proofs.lemmas.Str.{chars-IsAscii, encode_ascii}
 use Rattle.std.specs.Char.{is_control}
 use Rattle.std.specs.List.{list_all}
@@ -34,3 +35,13 @@ are_ascii (b ∷ bs) h (suc i) =
 pub shown_as_is : (text : List ℕ) → list_all is_printable_byte text ≡ true → text ≡ shown_text text
 shown_as_is text h =
     each_as_is text h ∙ ap (flat_map shown_char) (sym (chars-IsAscii text (are_ascii text h)))
+
+blanks_shown : (n : ℕ) → replicate n 32 ≡ flat_map shown_char (replicate n 32)
+blanks_shown zero = refl
+blanks_shown (suc n) = ap₂ (λ xs ys. xs ++ ys) (one_as_is 32 refl) (blanks_shown n)
+
+-- the first blanks of a text of blanks are shown as so many blanks
+pub blanks_are : (n : ℕ) → n ≤ 64
+    → take n (codes "                                                                ")
+    ≡ flat_map shown_char (replicate n 32)
+blanks_are n below = take-replicate n 64 32 below ∙ blanks_shown n

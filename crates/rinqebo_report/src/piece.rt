@@ -1,5 +1,5 @@
 //! Pieces of a page, and how they are painted.
-ghost use Rattle.std.specs.Prelude.{◌≡◌, [], ◌∷◌, ◌++◌, OnOk, map, flat_map, replicate, string_bytes};
+ghost use Rattle.std.specs.Prelude.{◌≡◌, [], ◌∷◌, ◌++◌, IfSome, OnOk, map, flat_map, replicate, string_bytes};
 ghost use Rattle.std.specs.List.{list_all};
 ghost use Rattle.std.specs.Str.{chars};
 ghost use Rattle.rinqebo_report.specs.Pieces.{is_printable_byte, shown_char, shown_text, escape_of, style_code, painted_text, painted, page_text, ending};
@@ -125,8 +125,8 @@ fn add_text(out: &mut String, colour: Colour, style: Style, text: &str) -> Resul
     out.push_str("\u{1b}[0m")
 }
 
-/// Writes a character so many times.
-fn add_repeated(out: &mut String, c: char, count: usize) -> Result<(), AllocError>
+/// Writes a character so many times, one by one.
+fn add_each(out: &mut String, c: char, count: usize) -> Result<(), AllocError>
     ensures { OnOk result (string_bytes out.new
         ≡ string_bytes out.old ++ flat_map shown_char (replicate count c)) }
 {
@@ -134,6 +134,30 @@ fn add_repeated(out: &mut String, c: char, count: usize) -> Result<(), AllocErro
         add_char(out, c)?;
     }
     Ok(())
+}
+
+/// Some blanks: more than most rows have between their parts.
+const BLANKS: &str = "                                                                ";
+
+/// So many blanks, if there are as many.
+#[tactic(auto, using(crate::proofs::Printable::blanks_are))]
+fn blanks(count: usize) -> Option<&'static str>
+    ensures { IfSome result (λ text. text.now ≡ flat_map shown_char (replicate count 32)) }
+{
+    BLANKS.get(..count)
+}
+
+/// Writes a character so many times. Blanks are written at once.
+fn add_repeated(out: &mut String, c: char, count: usize) -> Result<(), AllocError>
+    ensures { OnOk result (string_bytes out.new
+        ≡ string_bytes out.old ++ flat_map shown_char (replicate count c)) }
+{
+    if c == ' '
+        && let Some(text) = blanks(count)
+    {
+        return out.push_str(text);
+    }
+    add_each(out, c, count)
 }
 
 /// Writes a piece.
