@@ -110,33 +110,33 @@ impl<'l, 'c, F: Filters, S: Specs> Lister<'l, 'c, F, S> {
         UsedRules::new(alloc, self.profile, self.mode)
     }
 
-    /// Returns whether a test runs, its settings, and which rules hold for some of the tests with
-    /// this one.
+    /// Returns whether a test runs, and its settings, and adds the test to those for which rules
+    /// hold.
     pub fn next_test(
         &self,
         alloc: Global,
         test: &ListedTest<'_>,
-        used: UsedRules,
+        used: &mut UsedRules,
         tally: &mut F::Tally,
         origins: &mut Origins<'_, '_, 'c>,
-    ) -> Result<(TestRows, UsedRules), AllocError>
+    ) -> Result<TestRows, AllocError>
         ensures same { origins.new ≡ origins.old }
         ensures told { let profile = profile_meaning F.meaning self.now.profile.now in
-            IfOk result (λ next. IsTestReported origins.old
+            IfOk result (IsTestReported origins.old
             (query_in F.holds profile (test_view test.now.query))
-            self.now.mode profile self.now.asked.now (list_test_view test.now) next.0) }
+            self.now.mode profile self.now.asked.now (list_test_view test.now)) }
         ensures used { (tests : List (QueryContext F.Meaning))
             → let profile = profile_meaning F.meaning self.now.profile.now in
             let query = query_in F.holds profile (test_view test.now.query) in
-            AreUsedIn tests self.now.mode profile used
-            → IfOk result (λ next. AreUsedIn (tests ++ query ∷ []) self.now.mode profile next.1) }
+            AreUsedIn tests self.now.mode profile used.old
+            → IfOk result (λ _. AreUsedIn (tests ++ query ∷ []) self.now.mode profile used.new) }
     {
         let settings = self
             .profile
             .settings_with_source_for(self.mode, &test.query, tally);
+        used.add(alloc, self.profile, &test.query, &settings, tally)?;
         let rows = self.rows_by(alloc, test, &settings, tally, origins)?;
-        let used = used.after(alloc, self.profile, &test.query, &settings, tally)?;
-        Ok((rows, used))
+        Ok(rows)
     }
 
     /// Returns the rows of tests, one test after another, and the rules of the profile that hold
@@ -159,9 +159,7 @@ impl<'l, 'c, F: Filters, S: Specs> Lister<'l, 'c, F, S> {
         let mut tests = Vec::new(alloc);
         let mut used = self.before_tests(alloc)?;
         for test in listed {
-            let (rows, next) = self.next_test(alloc, test, used, tally, origins)?;
-            tests.push(rows)?;
-            used = next;
+            tests.push(self.next_test(alloc, test, &mut used, tally, origins)?)?;
             progress.asked(tests.len(), listed.len());
         }
         let unused = used.unused(alloc, self.profile)?;

@@ -1,5 +1,5 @@
 //! The rules of a profile that hold for none of the tests of a list.
-ghost use Rattle.std.specs.Prelude.{◌≡◌, ◌++◌, ◌∷◌, [], ◌+◌, ◌<◌, ◌^◌, IfOk, List, false, length, map, replicate, slice_get, unwrap_or};
+ghost use Rattle.std.specs.Prelude.{◌≡◌, ◌++◌, ◌∷◌, [], ◌+◌, ◌<◌, ◌^◌, IfOk, OnOk, List, false, length, map, replicate, slice_get, unwrap_or};
 ghost use Rattle.std.specs.List.{AllZip};
 ghost use Rattle.nextest_engines.specs.Engines.{test_view};
 ghost use Rattle.nextest_profiles.specs.Meaning.{profile_meaning};
@@ -62,7 +62,8 @@ fn is_marked(used: &[bool], number: usize) -> bool
 fn overrides_after<F: Filters, S: Specs>(
     alloc: Global,
     rules: &[EvaluatedOverride<'_, F, S>],
-    used: &UsedRules,
+    used: &[bool],
+    written: &[Option<Setting>],
     passed: &[usize],
     query: &TestQuery<'_>,
     cx: &EvalContext<'_, F::Expr>,
@@ -71,17 +72,17 @@ fn overrides_after<F: Filters, S: Specs>(
     ensures { (mode : NextestRunMode)
         → let query = test_query_by F.Filters cx.now.default_filter.now query.now in
         let rules = map (meant_override F.meaning) rules.now in
-        AllZip (IsWritten mode) rules used.now.written.items
+        AllZip (IsWritten mode) rules written.now
         → AllZip (IsPassed query mode rules) all_settings passed.now
         → (tests : List (QueryContext F.Meaning))
-        → used.now.overrides.items ≡ map (is_used tests) rules
+        → used.now ≡ map (is_used tests) rules
         → IfOk result (λ after. after.items ≡ map (is_used (tests ++ query ∷ [])) rules) }
 {
     let mut after = Vec::new(alloc);
     for (number, rule) in rules.iter().enumerate() {
-        let written = used.written.get(number).copied().flatten();
-        let is_used = is_marked(&used.overrides, number)
-            || (!is_ruled_out(written, number, passed)
+        let setting = written.get(number).copied().flatten();
+        let is_used = is_marked(used, number)
+            || (!is_ruled_out(setting, number, passed)
                 && override_holds(rule, number, query, cx, tally));
         after.push(is_used)?;
     }
@@ -172,29 +173,31 @@ impl UsedRules {
         })
     }
 
-    /// The rules of a profile after one more test, to which it gives some settings.
-    pub(crate) fn after<'c, F: Filters, S: Specs>(
-        self,
+    /// Adds a test, to which a profile gives some settings.
+    pub(crate) fn add<'c, F: Filters, S: Specs>(
+        &mut self,
         alloc: Global,
         profile: &EvaluatableProfile<'c, F, S>,
         query: &TestQuery<'_>,
         settings: &SourcedSettings<'c, F, S>,
         tally: &mut F::Tally,
-    ) -> Result<UsedRules, AllocError>
+    ) -> Result<(), AllocError>
         ensures { (tests : List (QueryContext F.Meaning)) (mode : NextestRunMode)
             → let profile = profile_meaning F.meaning profile.now in
             let query = query_in F.holds profile (test_view query.now) in
             AreSettingsOf F.meaning query mode profile settings.now
-            → AreUsedIn tests mode profile self
-            → IfOk result (AreUsedIn (tests ++ query ∷ []) mode profile) }
+            → AreUsedIn tests mode profile self.old
+            → OnOk result (AreUsedIn (tests ++ query ∷ []) mode profile self.new) }
     {
         let rules = profile.rules();
+        let first = rules.overrides.len();
         let cx = profile.filterset_ecx();
         let passed = passed_in(alloc, &rules.overrides, settings)?;
         let overrides = overrides_after(
             alloc,
             &rules.overrides,
-            &self,
+            &self.overrides,
+            &self.written,
             &passed,
             query,
             &cx,
@@ -203,17 +206,15 @@ impl UsedRules {
         let script_rules = script_rules_after(
             alloc,
             &rules.script_rules,
-            rules.overrides.len(),
+            first,
             &self.script_rules,
             query,
             &cx,
             tally,
         )?;
-        Ok(UsedRules {
-            overrides,
-            script_rules,
-            written: self.written,
-        })
+        self.overrides = overrides;
+        self.script_rules = script_rules;
+        Ok(())
     }
 
     /// The ids of the rules of a profile that hold for none of the tests.

@@ -103,32 +103,32 @@ pub fn write_last<W: Write>(text: &str, out: &mut W) -> Result<(), ListFault>
 }
 
 impl<'c> ListPage<'c, '_> {
-    /// Resolves a test, and returns its lines, and which rules hold for some of the tests with it.
+    /// Resolves a test, and returns its lines. Adds it to the tests for which rules hold.
     fn test_text(
         &self,
         alloc: Global,
         asking: &TestLister<'_, 'c>,
         test: &ListedTest<'_>,
-        used: UsedRules,
+        used: &mut UsedRules,
         tally: &mut NextestTally,
         origins: &mut Origins<'_, '_, 'c>,
-    ) -> Result<(String, UsedRules), AllocError>
+    ) -> Result<String, AllocError>
         ensures same { origins.new ≡ origins.old }
         ensures shown { let profile = profile_meaning (marks_view names_of)
             asking.now.profile.now in
-            IfOk result (λ next. ShowsTest origins.old
+            IfOk result (λ text. ShowsTest origins.old
             (query_in filter_holds profile (test_view test.now.query)) asking.now.mode profile
             asking.now.asked.now (list_test_view test.now) self.now.head.now self.now.paper
-            (string_bytes next.0)) }
+            (string_bytes text)) }
         ensures used { (tests : List (QueryContext Filter))
             → let profile = profile_meaning (marks_view names_of) asking.now.profile.now in
             let query = query_in filter_holds profile (test_view test.now.query) in
-            AreUsedIn tests asking.now.mode profile used
-            → IfOk result (λ next. AreUsedIn (tests ++ query ∷ []) asking.now.mode profile next.1) }
+            AreUsedIn tests asking.now.mode profile used.old
+            → IfOk result (λ _. AreUsedIn (tests ++ query ∷ []) asking.now.mode profile used.new) }
     {
-        let (rows, used) = asking.next_test(alloc, test, used, tally, origins)?;
+        let rows = asking.next_test(alloc, test, used, tally, origins)?;
         let text = render_listed(alloc, self.head, self.paper, &rows)?;
-        Ok((text, used))
+        Ok(text)
     }
 
     /// Writes the tests one after another, and returns the rules of the profile that hold for none
@@ -159,9 +159,8 @@ impl<'c> ListPage<'c, '_> {
         let mut tally = NextestTally::new();
         let mut used = asking.before_tests(alloc)?;
         for (place, test) in listed.iter().enumerate() {
-            let (text, next) = self.test_text(alloc, asking, test, used, &mut tally, origins)?;
+            let text = self.test_text(alloc, asking, test, &mut used, &mut tally, origins)?;
             write_text(text.as_str(), out)?;
-            used = next;
             progress.asked(place + 1, listed.len());
         }
         let unused = used.unused(alloc, asking.profile)?;

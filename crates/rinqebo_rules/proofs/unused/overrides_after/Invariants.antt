@@ -15,7 +15,7 @@ invariant-loop-number g l =
     let F = g.F.Filters in
     let rules = map (meant_override F.meaning) l.rules in
     let query = test_query_by F l.cx.default_filter.now l.query.now in
-    (mode : NextestRunMode) → AllZip (IsWritten mode) rules l.used.now.written.items
+    (mode : NextestRunMode) → AllZip (IsWritten mode) rules l.written
     → AllZip (IsPassed query mode rules) settings l.passed
-    → (tests : List (QueryContext F.Meaning)) → l.used.now.overrides.items ≡ map (is_used tests) rules
+    → (tests : List (QueryContext F.Meaning)) → l.used ≡ map (is_used tests) rules
     → l.after.items ≡ map (is_used (tests ++ query ∷ [])) (take l.number rules)

@@ -23,7 +23,7 @@ loop-test-preserved g c =
           self.asked.now (list_test_view test)) c.args.origins.now c.loop-test.origins before.same c.args.listed.now
           c.loop-test.test-index _ _ c.loop-test-test.true refl _ _ _ before.told c.in_ok-next_test.ensures.told
           c.in_ok-push.ensures.items;
-      marked = subst (λ tests. AreUsedIn tests self.mode profile c.in_ok-next_test.field-0.1)
+      marked = subst (λ tests. AreUsedIn tests self.mode profile c.next_test.new.used)
           (map_more (λ test. query_in F.holds profile (list_test_view test).test) c.args.listed.now
           c.loop-test.test-index _ _ c.loop-test-test.true refl) (c.in_ok-next_test.ensures.used _ before.marked);
     }

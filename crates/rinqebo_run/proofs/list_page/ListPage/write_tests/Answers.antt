@@ -22,7 +22,7 @@ loop-place-preserved g c =
     let profile = profile_meaning (marks_view names_of) asking.profile.now in
     let listed = c.args.listed.now in
     let before = c.loop-place.invariant in
-    let shows = c.in_ok-test_text.ensures.shown in
+    let shows = c.in_ok-text.ensures.shown in
     record {
       same = c.test_text.ensures.same ∙ before.same;
       rows = before.rows ++ shows.rows ∷ [];
@@ -33,10 +33,10 @@ loop-place-preserved g c =
       page = one_more c.args.self.now.head.now c.args.self.now.paper before.rows (before.rows ++ shows.rows ∷ [])
           shows.rows c.as_str.result.now _ _ _ refl (c.as_str.ensures.value ∙ shows.shown) before.page
           c.in_ok-write_text.ensures.ok;
-      marked = subst (λ tests. AreUsedIn tests asking.mode profile c.in_ok-test_text.field-0.1)
+      marked = subst (λ tests. AreUsedIn tests asking.mode profile c.test_text.new.used)
           (map_more (λ test. query_in filter_holds profile (list_test_view test).test) listed c.loop-place.place _ _
           c.loop-place-test.true c.index-listed-place.is)
-          (c.in_ok-test_text.ensures.used _ before.marked);
+          (c.in_ok-text.ensures.used _ before.marked);
     }
 
 pub returns-clause-tests : goal.returns-clause-tests
@@ -56,12 +56,12 @@ returns-clause-tests g c =
       page = before.page;
     }
 
-pub returns-in_err-test_text-clause-err : goal.returns-in_err-test_text-clause-err
-returns-in_err-test_text-clause-err g c =
+pub returns-in_err-text-clause-err : goal.returns-in_err-text-clause-err
+returns-in_err-text-clause-err g c =
     let asking = c.args.asking.now in
     let self = c.args.self.now in
     let before = c.loop-place.invariant in
-    passed_stop _ c.from_residual-in_err-test_text.result faults.Memory c.from_residual-in_err-test_text.ensures.1
+    passed_stop _ c.from_residual-in_err-text.result faults.Memory c.from_residual-in_err-text.ensures.1
     (inl (first_so_far c.args.origins.now asking.mode (profile_meaning (marks_view names_of) asking.profile.now) asking.asked.now
     self.head.now self.paper c.args.listed.now c.loop-place.place before.rows _ _ before.told before.page))
 
