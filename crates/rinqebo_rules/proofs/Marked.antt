@@ -38,3 +38,14 @@ module _ {M W : Type 0} (tests : List (QueryContext M)) (query : QueryContext M)
   mark_of marks rules n rule are stands =
       ap (λ ms. unwrap_or (slice_get ms n) false) are
       ∙ ap (λ found. unwrap_or found false) (slice_get-map (is_used tests) rules n ∙ ap _ stands)
+
+  -- the marks of the rules so far, and of one more
+  pub marks_more : (rules : List (EvaluatedRule M W)) (n : ℕ) (rule d : EvaluatedRule M W) → n < length rules
+      → rule ≡ get_or rules n d → (after new : List Bool) (mark : Bool)
+      → after ≡ map (is_used (tests ++ query ∷ [])) (take n rules)
+      → mark ≡ (is_used tests rule || rule_holds query rule) → new ≡ after ++ mark ∷ []
+      → new ≡ map (is_used (tests ++ query ∷ [])) (take (n + 1) rules)
+  marks_more rules n rule d below is after new mark so_far marked more =
+      more ∙ ap (λ ms. ms ++ mark ∷ []) so_far
+      ∙ ap (λ b. map (is_used (tests ++ query ∷ [])) (take n rules) ++ b ∷ []) (marked ∙ sym (used_more rule))
+      ∙ map_more (is_used (tests ++ query ∷ [])) rules n rule d below is

@@ -1,19 +1,9 @@
-use Rattle.std.proofs.Common.{◌≡◌, ◌∙◌, ◌++◌, ◌∷◌, [], ap, map, subst, sym}
+use Rattle.std.proofs.Common.{◌≡◌, ◌++◌, ◌∷◌, [], map, subst}
 use Rattle.std.proofs.lemmas.List.{take_all}
-use Rattle.std.proofs.lemmas.Option.{slice_get-get_or}
 use Rattle.nextest_settings.specs.Engines.{test_query_by}
 use Rattle.nextest_settings.specs.View.{meant_override}
-use Rattle.rinqebo_rules.proofs.Marked.{mark_more}
 use Rattle.rinqebo_rules.specs.Unused.{is_used}
 use Rattle.rinqebo_rules.proofs.unused.overrides_after.Goals as goal
-
--- A mark that is there stays. Else the override is ruled out and does not hold, or it is evaluated.
-pub loop-number-preserved : goal.loop-number-preserved
-loop-number-preserved g c = λ mode written passed tests are.
-    let F = g.F.Filters in
-    let rules = map (meant_override F.meaning) c.args.rules.now in
-    let query = test_query_by F c.args.cx.now.default_filter.now c.args.query.now in
-    mark_more tests query rules c.loop-number.number _ (c.loop-number.invariant mode written passed tests are) ?
 
 pub returns : goal.returns
 returns g c = λ mode written passed tests are.
