@@ -44,10 +44,9 @@ pub struct PathSpans<'a> {
 }
 
 impl<'a> Model for PathSpans<'a> {
-    ghost Value = { List ℕ };
-
     ghost use Rattle.std.specs.Prelude.{option_map};
-    ghost use Rattle.toml.specs.View.{view};
+
+    ghost Value = { List ℕ };
 
     ghost view = { λ spans. spans.text.now };
 
