@@ -45,13 +45,14 @@ pub struct PathSpans<'a> {
 
 impl<'a> Model for PathSpans<'a> {
     ghost use Rattle.std.specs.Prelude.{option_map};
+    ghost use Rattle.toml.specs.View.{view as value_view};
 
     ghost Value = { List ℕ };
 
     ghost view = { λ spans. spans.text.now };
 
     ghost invariant = { λ spans. IsKept spans.text.now spans.lines spans.items.items
-        (option_map view spans.root) spans.places };
+        (option_map value_view spans.root) spans.places };
 }
 
 impl<'a> PathSpans<'a> {
