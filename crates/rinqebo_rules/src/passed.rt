@@ -41,6 +41,7 @@ fn before_id<F: Filters, S: Specs>(rules: &[EvaluatedOverride<'_, F, S>], id: &O
 
 /// How many of the first overrides do not decide a setting of a test: those before the one that
 /// does, or all.
+#[tactic(auto, using(crate::proofs::Passing::passed_before, crate::proofs::Passing::passed_all))]
 fn passed_for<'c, F: Filters, S: Specs>(
     rules: &[EvaluatedOverride<'c, F, S>],
     settings: &SourcedSettings<'c, F, S>,
