@@ -145,7 +145,7 @@ enum rinqebo_text {
 // profile says for a whole run, the test groups in the order of RINQEBO_GROUP, the setup scripts in the order in which
 // they run, the wrapper scripts in the order of RINQEBO_WRAPPER, and the warnings of the load. docs/LIBRARY.md lists
 // their members. The document of a whole run has such an object as its member "objects", with programs as files write
-// them.
+// them, and with the tests of the list that enable each setup script.
 uint32_t rinqebo_profile_text(const struct rinqebo_profile *profile, uint32_t kind, size_t index, uint8_t *out,
                               size_t out_len, size_t *needed);
 

@@ -37,8 +37,8 @@ pub use document::{
 };
 pub use error::Error;
 pub use objects::{
-    Command, FinalStatusLevel, GlobalTimeout, JunitFile, MaxFail, Objects, RelativeTo, RunSettings, ScriptReport,
-    ScriptTimeout, SetupScript, StatusLevel, TargetRunner, TestThreads, Warning, WrapperScript,
+    Command, FinalStatusLevel, GlobalTimeout, JunitFile, ListTest, MaxFail, Objects, RelativeTo, RunSettings,
+    ScriptReport, ScriptTimeout, SetupScript, StatusLevel, TargetRunner, TestThreads, Warning, WrapperScript,
 };
 use room::Room;
 pub use run::{resolve, resolve_json, RunRequest};

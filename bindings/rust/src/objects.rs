@@ -147,7 +147,16 @@ pub struct ScriptReport {
     pub store_failure_output: bool,
 }
 
-/// A script that runs once, before the tests that want it.
+/// A test of a list, by its binary and its name.
+#[derive(Clone, Debug, PartialEq, Eq, Serialize, Deserialize)]
+#[serde(rename_all = "kebab-case")]
+#[non_exhaustive]
+pub struct ListTest {
+    pub binary_id: String,
+    pub name: String,
+}
+
+/// A script that runs once, before the tests that enable it.
 #[derive(Clone, Debug, PartialEq, Eq, Serialize, Deserialize)]
 #[serde(rename_all = "kebab-case")]
 #[non_exhaustive]
@@ -159,6 +168,8 @@ pub struct SetupScript {
     pub capture_stdout: bool,
     pub capture_stderr: bool,
     pub junit: ScriptReport,
+    /// The tests of the list that enable it, in the order of the list. A session has no list, and `None` here.
+    pub tests: Option<Vec<ListTest>>,
 }
 
 /// What a wrapper makes of the runner of a target.

@@ -4,7 +4,7 @@ use rinqebo::{Backoff, Config, Display, Error, Group, GroupThreads, Machine, Mod
 use rinqebo::{resolve, resolve_json, Document, Level, OriginKind, RunRequest, SourceKind};
 use rinqebo::{version, version_number, VERSION, VERSION_NUMBER};
 use rinqebo::{File, ReadOutcome, Refusal, ToolFile};
-use rinqebo::{FinalStatusLevel, Finding, MaxFail, Objects, RelativeTo, StatusLevel, TargetRunner};
+use rinqebo::{FinalStatusLevel, Finding, ListTest, MaxFail, Objects, RelativeTo, StatusLevel, TargetRunner};
 use serde_json::json;
 use std::sync::{Arc, Mutex};
 use std::time::Duration;
@@ -721,9 +721,53 @@ fn a_run_has_the_objects_of_its_profile() {
         for target in [None, Some("/t".to_owned())] {
             sources.target_directory = target;
             let request = RunRequest { sources: &sources, profile, mode: Mode::Test, list: &list };
-            assert_eq!(resolve(&request).unwrap().objects, objects);
+            let mut listed = resolve(&request).unwrap().objects;
+            // No rule names a setup script. A session has no list.
+            for script in &mut listed.setup_scripts {
+                assert_eq!(script.tests.take(), Some(Vec::new()));
+            }
+            assert_eq!(listed, objects);
         }
     }
+}
+
+const SETUP: &str = r#"
+experimental = ["setup-scripts"]
+[scripts.setup.seed]
+command = "seed"
+[scripts.setup.idle]
+command = "idle"
+[scripts.setup.warm]
+command = "warm"
+[[profile.default.scripts]]
+filter = "test(/^db::/) or binary_id(api::smoke)"
+setup = ["seed"]
+[[profile.ci.scripts]]
+filter = "test(adds)"
+setup = ["warm", "seed"]
+[[profile.ci.scripts]]
+platform = "cfg(windows)"
+setup = ["idle"]
+"#;
+
+#[test]
+fn a_run_has_the_tests_that_enable_a_setup_script() {
+    let list = example("list.json");
+    let sources = Sources::of_file("/w", SETUP, TRIPLE);
+    let enabling = |profile: &str| -> Vec<(String, Vec<String>)> {
+        let request = RunRequest { sources: &sources, profile, mode: Mode::Test, list: &list };
+        let scripts = resolve(&request).unwrap().objects.setup_scripts.into_iter();
+        let named = |test: &ListTest| format!("{} {}", test.binary_id, test.name);
+        scripts.map(|script| (script.id, script.tests.unwrap().iter().map(named).collect())).collect()
+    };
+    let of = |id: &str, tests: &[&str]| (id.to_owned(), tests.iter().map(|&test| test.to_owned()).collect::<Vec<_>>());
+    let smoke = ["api db::opens", "api::smoke smoke::fast", "api::smoke smoke::whole"];
+    assert_eq!(enabling("default"), [of("seed", &smoke), of("idle", &[]), of("warm", &[])]);
+    let seed = [smoke.as_slice(), &["core adds"]].concat();
+    assert_eq!(enabling("ci"), [of("seed", &seed), of("idle", &[]), of("warm", &["core adds"])]);
+    let config = Config::load(&sources).unwrap();
+    let scripts = config.profile("ci").unwrap().setup_scripts().unwrap();
+    assert!(scripts.iter().all(|script| script.tests.is_none()));
 }
 
 #[test]
@@ -734,6 +778,7 @@ fn objects_are_written_as_they_are_read() {
     assert_eq!(written["run"]["test-threads"], json!(-2));
     assert_eq!(written["groups"][1], json!({"name": "net", "max-threads": "num-cpus"}));
     assert_eq!(written["setup-scripts"][0]["slow-timeout"]["period"], json!("90s"));
+    assert_eq!(written["setup-scripts"][0]["tests"], json!(null));
 }
 
 #[test]

@@ -1,7 +1,6 @@
 -- Which names have what is asked.
 use Rattle.std.proofs.Common.{◌≡◌, ◌≤◌, ◌<◌, ◌↔◌, ◌||◌, ℕ, Bool, true, false, List, [], ◌∷◌, ◌++◌, Option, None, Some, Ok, Err, is_some, IsTrue, Decides, le-leb, leb-true, lt-ltb, ltb-true, arith, refl, ◌∙◌, ap}
 use Rattle.std.specs.Prelude.{chars, IsSomeAnd, IsSome, nat_lt}
-use Rattle.std.specs.Str.{bytes_eq}
 use Rattle.std.specs.Str.Iter.{HasSubslice}
 use Rattle.std.proofs.lemmas.Bool.Decides.{same_from_decides}
 use Rattle.std.proofs.lemmas.Slice.Eq.{bytes_eq-Decides}
@@ -10,7 +9,7 @@ use Rattle.regex_hir.specs.Re.{Re}
 use Rattle.regex_syntax.specs.Brackets.{Nested}
 use Rattle.regex_syntax.specs.Grammar.{Names, read}
 use Rattle.regex_syntax.specs.Verdict.{default_config}
-use Rattle.filter_matchers.specs.GlobDecisions.{writes_glob, glob_takes}
+use Rattle.filter_matchers.specs.GlobDecisions.{writes_glob}
 use Rattle.filter_matchers.specs.GlobSizes.{glob_size}
 use Rattle.filter_matchers.specs.Globs.{IsGlob}
 use Rattle.filter_matchers.specs.Matches.{NameQuestion, equal, contains, glob, regex, Matches}
@@ -20,6 +19,7 @@ use Rattle.filter_matchers.proofs.GlobDecisions.{writes_glob_decides, glob_takes
 use Rattle.filter_language.proofs.PartsOfTexts.{after_is, after_own}
 use Rattle.filter_language.specs.Texts.{after_prefix}
 use Rattle.filter_language.specs.declared.matchers.PatternFault.TheVariants.{Malformed, TooLarge}
+use Rattle.filter_engine.specs.Truth.{HasRegexMatch}
 use Rattle.filter_engine.specs.Names.{nests_within, if_small, regex_question, glob_question, has_part, found_in, asks}
 
 -- A regex nests within the bound, and what does is a regex.
@@ -133,9 +133,17 @@ regex_decides : (text name : List ℕ)
 unfolding RegexMatches
 regex_decides text name = match_decides (read default_config (chars text)) name
 
+-- The engine's answers are those of the relations.
+pub regex_found : (text name : List ℕ)
+    → Decides (found_in (read default_config (chars text)) name) (HasRegexMatch text name)
+regex_found text name = match_decides (read default_config (chars text)) name
+
+pub asks_decides : (q : NameQuestion) (name : List ℕ) → Decides (asks q name) (Matches q name)
+asks_decides (equal text) name = bytes_eq-Decides name text
+asks_decides (contains text) name = part_decides text name
+asks_decides (glob text) name = glob_takes_decides text name
+asks_decides (regex text) name = regex_decides text name
+
 -- What a matcher answers is whether the name has what is asked.
 pub asks_is : (q : NameQuestion) (name : List ℕ) (b : Bool) → IsTrue b ↔ Matches q name → b ≡ asks q name
-asks_is (equal text) name b h = same_from_decides b (bytes_eq name text) h (bytes_eq-Decides name text)
-asks_is (contains text) name b h = same_from_decides b (has_part text name) h (part_decides text name)
-asks_is (glob text) name b h = same_from_decides b (glob_takes text name) h (glob_takes_decides text name)
-asks_is (regex text) name b h = same_from_decides b _ h (regex_decides text name)
+asks_is q name b h = same_from_decides b (asks q name) h (asks_decides q name)

@@ -2,3 +2,4 @@ pub mod Asks
 pub mod Members
 pub mod Sought
 pub mod Readings
+pub mod Truths

@@ -13,6 +13,7 @@ use Rattle.filter_packages.specs.Graph.{Graph, IsMemberNamed, IsMatched, IsDepen
 use Rattle.filter_packages.specs.GraphView.{has_member}
 use Rattle.filter_packages.proofs.Reaching.{reaches_through}
 use Rattle.filter_engine.specs.Members.{reaches, name_has, is_named, is_dependency, is_dependent}
+use Rattle.filter_engine.specs.Truth.{IsMemberWith, IsInDeps, IsInRdeps}
 
 both : (a b : Bool) → (a && b) ≡ true → (a ≡ true) × (b ≡ true)
 both true b e = (refl, e)
@@ -168,3 +169,28 @@ dependents_are graph accepts set h =
     fun_ext (λ name. same_from_decides (has_member set name) (is_dependent graph accepts name) (h name)
     (joined_decides graph accepts name (λ a b. reaches graph.edges b a) (λ a b. Reaches graph.edges b a)
     (λ a b. is_reached graph.edges b a) (λ a b r. reached_is graph.edges r)))
+
+-- The same for names that have something.
+module _ (graph : Graph) (accepts : List ℕ → Bool) (P : List ℕ → Type 0)
+    (same : (name : List ℕ) → Decides (accepts name) (P name)) where
+  met : (place : ℕ) → IsMatched graph accepts place → IsMemberWith graph P place
+  met place (name, is, so) = (name, is, (same name).0 so)
+
+  matched : (place : ℕ) → IsMemberWith graph P place → IsMatched graph accepts place
+  matched place (name, is, so) = (name, is, (same name).1 so)
+
+  pub dependency_decides : (name : List ℕ) → Decides (is_dependency graph accepts name) (IsInDeps graph P name)
+  dependency_decides name =
+      let it = joined_decides graph accepts name (λ a b. reaches graph.edges a b) (λ a b. Reaches graph.edges a b)
+      (λ a b. is_reached graph.edges a b) (λ a b r. reached_is graph.edges r) in (
+        λ e. (let at = it.0 e in (at.0, at.1, met at.0 at.2, at.3, at.4)),
+        λ at. it.1 (at.0, at.1, matched at.0 at.2, at.3, at.4),
+      )
+
+  pub dependent_decides : (name : List ℕ) → Decides (is_dependent graph accepts name) (IsInRdeps graph P name)
+  dependent_decides name =
+      let it = joined_decides graph accepts name (λ a b. reaches graph.edges b a) (λ a b. Reaches graph.edges b a)
+      (λ a b. is_reached graph.edges b a) (λ a b r. reached_is graph.edges r) in (
+        λ e. (let at = it.0 e in (at.0, at.1, met at.0 at.2, at.3, at.4)),
+        λ at. it.1 (at.0, at.1, matched at.0 at.2, at.3, at.4),
+      )

@@ -5,3 +5,4 @@ pub mod Engine
 pub mod Open
 pub mod Refusals
 pub mod Decided
+pub mod Truth

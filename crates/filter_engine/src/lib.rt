@@ -8,6 +8,7 @@
 
 mod compiling;
 mod engine;
+mod laws;
 mod names;
 
 pub use compiling::FieldMatcher;
@@ -16,4 +17,7 @@ pub use filter_language::{
     Ban, FaultKind, Field, Filterset, FiltersetFault, ParseFault, PatternFault, Span,
 };
 pub use filter_packages::{MetadataFault, PackageGraph};
+pub use laws::{
+    law_deps, law_equality, law_filters, law_glob, law_predicates, law_regex, law_substring,
+};
 pub use names::NamePattern;

@@ -25,3 +25,4 @@ pub mod PredicatesSpelled
 pub mod MarksRead
 pub mod MarksSpelled
 pub mod Writings
+pub mod FirstFaults

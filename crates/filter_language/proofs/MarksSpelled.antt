@@ -227,7 +227,7 @@ next_spelled_if {L} compiler knows kind shape place found true e =
     wanted_next compiler knows kind shape place found (it.1 ∙ ap Ok same)
 next_spelled_if compiler knows kind shape place found false e = joining_next compiler knows kind shape place found e
 
-next_spelled : {L : Type 0} (compiler : Compiler L) (knows : Bool) (kind : FiltersetKind) (shape : Shape)
+pub next_spelled : {L : Type 0} (compiler : Compiler L) (knows : Bool) (kind : FiltersetKind) (shape : Shape)
     (place : List ℕ) (found : MarkRead L) → next_in compiler knows kind shape place ≡ Ok (Some found)
     → IsNext compiler knows kind shape.wants shape (skipped place) found
 unfolding next_in

@@ -20,4 +20,5 @@ pub mod Predicates
 pub mod Filters
 pub mod Messages
 pub mod Writing
+pub mod FirstFault
 pub mod Decided

@@ -1,10 +1,13 @@
 //! Laws of what filters say.
-ghost use Rattle.std.specs.Prelude.{◌≡◌, ◌≤◌, ◌↔◌, ℕ, Bool, Ok, Some, List};
+ghost use Rattle.std.specs.Prelude.{◌≡◌, ◌≤◌, ◌↔◌, ℕ, Bool, Ok, Err, Some, List};
 ghost use Rattle.nextest_engines.specs.declared.queries.FiltersetKind.{FiltersetKind};
+ghost use Rattle.filter_language.specs.declared.fault.FiltersetFault.{FiltersetFault};
 ghost use Rattle.filter_language.specs.Formula.{Formula};
 ghost use Rattle.filter_language.specs.Grammar.{Mark, Spells, nesting};
+ghost use Rattle.filter_language.specs.Nesting.{Shape, start_shape};
 ghost use Rattle.filter_language.specs.Predicates.{Compiler};
-ghost use Rattle.filter_language.specs.Filters.{filter_in};
+ghost use Rattle.filter_language.specs.Filters.{MarkRead, filter_in};
+ghost use Rattle.filter_language.specs.FirstFault.{ReadsTo, IsFirstFault, IsWellBegun};
 ghost use Rattle.filter_language.specs.Writing.{Writes, WritesFilter, IsFilter};
 ghost use Rattle.filter_language.specs.Reading.{read};
 ghost use Rattle.filter_language.specs.Values.{value, Subject, answer};
@@ -35,6 +38,21 @@ pub fn law_one_filter<E: Matchers>()
         → Writes compiler text marks → Writes compiler text more → marks ≡ more }
     ensures filter { (compiler : Compiler E.Meaning) (text : List ℕ) (f g : Formula E.Meaning)
         → WritesFilter compiler text f → WritesFilter compiler text g → f ≡ g }
+{}
+
+/// The fault of a text is its first one, from left to right: what is wrong with the first mark that
+/// can't be read, or, if the whole text can be read, with the first mark that is not allowed in a
+/// filter of the kind. The marks before it are those that the text writes there, and they are the
+/// beginning of a filter.
+pub fn law_first_fault<E: Matchers>()
+    ensures first { (compiler : Compiler E.Meaning) (knows_packages : Bool) (kind : FiltersetKind)
+        (text : List ℕ) (fault : FiltersetFault)
+        → (filter_in compiler knows_packages kind text ≡ Err fault)
+        ↔ IsFirstFault compiler knows_packages kind text fault }
+    ensures before { (compiler : Compiler E.Meaning) (knows_packages : Bool) (kind : FiltersetKind)
+        (text : List ℕ) (marks : List (MarkRead E.Meaning)) (last : Shape) (end : List ℕ)
+        → ReadsTo compiler knows_packages kind start_shape text marks last end
+        → IsWellBegun compiler text marks end }
 {}
 
 /// What marks say is the value of the filter that they spell.

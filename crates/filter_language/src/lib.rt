@@ -37,8 +37,8 @@ mod words;
 pub use fault::{Ban, FaultKind, FiltersetFault, ParseFault, Span};
 pub use filterset::Filterset;
 pub use laws::{
-    law_binaries, law_decided, law_grammar, law_marks, law_one_filter, law_opposites, law_texts,
-    law_values,
+    law_binaries, law_decided, law_first_fault, law_grammar, law_marks, law_one_filter,
+    law_opposites, law_texts, law_values,
 };
 pub use matchers::{Matchers, PatternFault};
 pub use words::{Field, Sign};

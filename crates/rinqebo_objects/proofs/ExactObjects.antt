@@ -8,6 +8,7 @@ use Rattle.nextest_elements.specs.declared.max_fail.MaxFail.TheVariants as limit
 use Rattle.nextest_elements.specs.declared.test_group.TestGroupConfig.{TestGroupConfig}
 use Rattle.nextest_elements.specs.declared.test_threads.TestThreads.{TestThreads}
 use Rattle.nextest_elements.specs.declared.test_threads.TestThreads.TheVariants as threads
+use Rattle.nextest_engines.specs.Engines.{Test}
 use Rattle.nextest_scripts.specs.ScriptTexts.{CommandText, SetupScriptText, WrapperScriptText}
 use Rattle.nextest_scripts.specs.declared.setup_timeout.SetupScriptSlowTimeout.{SetupScriptSlowTimeout}
 use Rattle.nextest_settings.specs.Profile.{ProfileFacts}
@@ -15,11 +16,12 @@ use Rattle.nextest_sources.specs.Sources.{Source}
 use Rattle.nextest_sources.specs.Warnings.{Warning, unknown_keys, reserved_profiles, deprecated_scripts, empty_sections}
 use Rattle.nextest_tables.specs.Written.{Name}
 use Rattle.rinqebo_codes.specs.declared.code.Code.{Code}
+use Rattle.rinqebo_objects.specs.Enabling.{Enabling, enabling_data, test_data}
 use Rattle.rinqebo_objects.specs.Objects.{objects_data, run_data, with_bounds, with_names, with_output}
 use Rattle.rinqebo_objects.specs.Scripts.{Directories, command_data, group_data, setup_script_data, wrapper_script_data, variables_data}
 use Rattle.rinqebo_objects.specs.Values.{global_timeout_data, leak_data, max_fail_data, optional_data, report_data, slow_data, threads_data}
 use Rattle.rinqebo_objects.specs.WarningObjects.{warning_data, warning_of, warnings_data}
-use Rattle.rinqebo_objects.specs.declared.run.RunValues.{RunValues}
+use Rattle.rinqebo_objects.specs.declared.run.RunSettings.{RunSettings}
 use Rattle.rinqebo_report.proofs.Exact.{IsExact, AreExact, exact_text, exact_null, exact_truth, exact_list, no_more, and_member, exact_object, exact_put, exact_puts}
 use Rattle.rinqebo_report.specs.Documents.{count_data, list_data}
 use Rattle.serde_json.specs.Data.{Data, null, number, string, no_members, Members, depth}
@@ -73,13 +75,22 @@ command ds c =
     exact_object 1 (and_member _ (exact_list 0 string (exact_text 0) c.args)
     (and_member _ (variables 0 c.env) (and_member _ (exact_text 1 _) (and_member _ (exact_text 1 _) (no_more 1)))))
 
-setup : (ds : Option Directories) (e : List ℕ × SetupScriptText) → IsExact 3 (setup_script_data ds e)
-setup ds e =
+listed : (t : Test) → IsExact 1 (test_data t)
+listed t = exact_object 0 (and_member _ (exact_text 0 _) (and_member _ (exact_text 0 _) (no_more 0)))
+
+enabling : (en : Option Enabling) (id : Name) → IsExact 2 (enabling_data en id)
+enabling None id = exact_null 2
+enabling (Some tests) id = exact_list 1 test_data listed (tests id)
+
+setup : (ds : Option Directories) (en : Option Enabling) (e : Name × SetupScriptText)
+    → IsExact 3 (setup_script_data ds en e)
+setup ds en e =
     let junit = exact_object 1 (and_member _ (exact_truth 1 _) (and_member _ (exact_truth 1 _) (no_more 1))) in
     exact_object 2 (and_member _ (exact_truth 2 _) (and_member _ (exact_truth 2 _)
     (and_member _ (command ds e.1.command) (and_member _ (exact_text 2 _)
     (and_member _ junit (and_member _ (optional 2 leak_data (leak 1) e.1.leak_timeout)
-    (and_member _ (optional 2 slow_data (slow 1) e.1.slow_timeout) (no_more 2))))))))
+    (and_member _ (optional 2 slow_data (slow 1) e.1.slow_timeout)
+    (and_member _ (enabling en e.0) (no_more 2)))))))))
 
 wrapper : (ds : Option Directories) (e : List ℕ × WrapperScriptText) → IsExact 3 (wrapper_script_data ds e)
 wrapper ds e =
@@ -92,7 +103,7 @@ group n e =
     (optional n (λ (config : TestGroupConfig). threads_data config.max_threads) (λ config. threads_are n config.max_threads) e.1)
     (and_member _ (exact_text n _) (no_more n)))
 
-named : (n : ℕ) {ms : Members} (run : RunValues) (profiles : List Name) → AreExact (n + 1) ms
+named : (n : ℕ) {ms : Members} (run : RunSettings) (profiles : List Name) → AreExact (n + 1) ms
     → AreExact (n + 1) (with_names run profiles ms)
 named n run profiles h =
     exact_put (codes "run-extra-args") _ _ (texts n (map string_bytes run.run_extra_args.now))
@@ -100,20 +111,20 @@ named n run profiles h =
     (exact_put (codes "profile") _ _ (exact_text (n + 1) _)
     (exact_put (codes "inherits") _ _ (optional (n + 1) string (exact_text (n + 1)) _) h)))
 
-shown : (n : ℕ) {ms : Members} (run : RunValues) → AreExact (n + 1) ms → AreExact (n + 1) (with_output run ms)
+shown : (n : ℕ) {ms : Members} (run : RunSettings) → AreExact (n + 1) ms → AreExact (n + 1) (with_output run ms)
 shown n run h =
     exact_put (codes "store-dir") _ _ (exact_text (n + 1) _)
     (exact_put (codes "status-level") _ _ (exact_text (n + 1) _)
     (exact_put (codes "junit") _ _ (optional (n + 1) report_data (report n) run.junit)
     (exact_put (codes "final-status-level") _ _ (exact_text (n + 1) _) h)))
 
-bounded : (n : ℕ) {ms : Members} (run : RunValues) → AreExact (n + 1) ms → AreExact (n + 1) (with_bounds run ms)
+bounded : (n : ℕ) {ms : Members} (run : RunSettings) → AreExact (n + 1) ms → AreExact (n + 1) (with_bounds run ms)
 bounded n run h =
     exact_put (codes "test-threads") _ _ (threads_are (n + 1) run.test_threads)
     (exact_put (codes "max-fail") _ _ (limit (n + 1) run.max_fail)
     (exact_put (codes "global-timeout") _ _ (timeout n run.global_timeout run.benchmark_timeout) h))
 
-run_is : (run : RunValues) (profiles : List Name) → IsExact 4 (run_data run profiles)
+run_is : (run : RunSettings) (profiles : List Name) → IsExact 4 (run_data run profiles)
 run_is run profiles = exact_object 3 (bounded 2 run (shown 2 run (named 2 run profiles (no_more 3))))
 
 warned : (code : Code) (source : Source) (names : List (List ℕ)) (profile times : Data) → IsExact 2 profile
@@ -129,24 +140,26 @@ warning (deprecated_scripts source) = warned _ source [] null null (exact_null 2
 warning (empty_sections source profile times) =
     warned _ source [] (string profile) (count_data times) (exact_text 2 profile) (count 2 times)
 
-objects : (facts : ProfileFacts) (run : RunValues) (profiles : List Name) (ws : List Warning) (ds : Option Directories)
-    → IsExact 5 (objects_data facts run profiles ws ds)
-objects facts run profiles ws ds =
+objects : (facts : ProfileFacts) (run : RunSettings) (profiles : List Name) (ws : List Warning) (ds : Option Directories)
+    (en : Option Enabling) → IsExact 5 (objects_data facts run profiles ws ds en)
+objects facts run profiles ws ds en =
     exact_object 4 (and_member _ (exact_list 3 warning_data warning ws)
     (and_member _ (exact_list 3 group_data (group 2) facts.groups)
     (and_member _ (run_is run profiles)
-    (and_member _ (exact_list 3 (setup_script_data ds) (setup ds) facts.scripts.setup)
+    (and_member _ (exact_list 3 (setup_script_data ds en) (setup ds en) facts.scripts.setup)
     (and_member _ (exact_list 3 (wrapper_script_data ds) (wrapper ds) facts.scripts.wrapper) (no_more 4))))))
 
 within : (d : Data) → IsExact 5 d → depth d ≤ 8
 within d h = omega (arith, h.nests)
 
-pub objects_nest : (facts : ProfileFacts) (run : RunValues) (profiles : List Name) (ws : List Warning)
-    (ds : Option Directories) (value : Data) → value ≡ objects_data facts run profiles ws ds → depth value ≤ 8
-objects_nest facts run profiles ws ds value same =
-    subst (λ (d : Data). depth d ≤ 8) (sym same) (within _ (objects facts run profiles ws ds))
+pub objects_nest : (facts : ProfileFacts) (run : RunSettings) (profiles : List Name) (ws : List Warning)
+    (ds : Option Directories) (en : Option Enabling) (value : Data) → value ≡ objects_data facts run profiles ws ds en
+    → depth value ≤ 8
+objects_nest facts run profiles ws ds en value same =
+    subst (λ (d : Data). depth d ≤ 8) (sym same) (within _ (objects facts run profiles ws ds en))
 
-pub objects_are_whole : (facts : ProfileFacts) (run : RunValues) (profiles : List Name) (ws : List Warning)
-    (ds : Option Directories) (value : Data) → value ≡ objects_data facts run profiles ws ds → has_float value ≡ false
-objects_are_whole facts run profiles ws ds value same =
-    subst (λ (d : Data). has_float d ≡ false) (sym same) (objects facts run profiles ws ds).whole
+pub objects_are_whole : (facts : ProfileFacts) (run : RunSettings) (profiles : List Name) (ws : List Warning)
+    (ds : Option Directories) (en : Option Enabling) (value : Data) → value ≡ objects_data facts run profiles ws ds en
+    → has_float value ≡ false
+objects_are_whole facts run profiles ws ds en value same =
+    subst (λ (d : Data). has_float d ≡ false) (sym same) (objects facts run profiles ws ds en).whole

@@ -1,1 +1,2 @@
 pub mod ExactObjects
+pub mod Gathered

@@ -1,4 +1,5 @@
 pub mod Values
+pub mod Enabling
 pub mod Scripts
 pub mod Objects
 pub mod WarningObjects

@@ -8,15 +8,16 @@ use Rattle.nextest_settings.specs.Settings.{global_timeout_in}
 use Rattle.nextest_settings.specs.Values.{nearest}
 use Rattle.nextest_sources.specs.Warnings.{Warning}
 use Rattle.nextest_tables.specs.Written.{Name}
+use Rattle.rinqebo_objects.specs.Enabling.{Enabling}
 use Rattle.rinqebo_objects.specs.Scripts.{Directories, group_data, setup_script_data, wrapper_script_data}
 use Rattle.rinqebo_objects.specs.Values.{global_timeout_data, max_fail_data, optional_data, report_data, threads_data}
 use Rattle.rinqebo_objects.specs.WarningObjects.{warnings_data}
-use Rattle.rinqebo_objects.specs.declared.run.RunValues.{RunValues}
+use Rattle.rinqebo_objects.specs.declared.run.RunSettings.{RunSettings}
 use Rattle.rinqebo_report.specs.Documents.{list_data}
 use Rattle.serde_json.specs.Data.{Data, string, object, Members, no_members, member, put}
 
 -- Values are those that a profile has for a whole run.
-pub record IsRunOf (facts : ProfileFacts) (run : RunValues) : Type 0 where
+pub record IsRunOf (facts : ProfileFacts) (run : RunSettings) : Type 0 where
   pub profile : run.profile.now ≡ facts.name
   pub inherits : option_map (λ parent. parent.now) run.inherits ≡ facts.parent
   pub test_threads : nearest (λ f. f.test_threads) facts.fields ≡ Some run.test_threads
@@ -32,7 +33,7 @@ pub record IsRunOf (facts : ProfileFacts) (run : RunValues) : Type 0 where
       nearest (λ f. f.run_extra_args) facts.fields ≡ Some (map string_bytes run.run_extra_args.now)
 
 -- members, with what bounds a run
-abbrev pub with_bounds : RunValues → Members → Members
+abbrev pub with_bounds : RunSettings → Members → Members
 with_bounds run members =
     put (codes "test-threads") (threads_data run.test_threads)
     (put (codes "max-fail") (max_fail_data run.max_fail)
@@ -40,7 +41,7 @@ with_bounds run members =
     members))
 
 -- members, with what a run shows and stores
-abbrev pub with_output : RunValues → Members → Members
+abbrev pub with_output : RunSettings → Members → Members
 with_output run members =
     put (codes "store-dir") (string run.store_dir.now)
     (put (codes "status-level") (string (status_level_text run.status_level))
@@ -49,7 +50,7 @@ with_output run members =
     members)))
 
 -- members, with the names of profiles, and the arguments of tests where no rule says so
-abbrev pub with_names : RunValues → List Name → Members → Members
+abbrev pub with_names : RunSettings → List Name → Members → Members
 with_names run profiles members =
     put (codes "run-extra-args") (list_data string (map string_bytes run.run_extra_args.now))
     (put (codes "profiles") (list_data string profiles)
@@ -58,24 +59,26 @@ with_names run profiles members =
     members)))
 
 -- what a profile says for a whole run, among profiles of these names
-abbrev pub run_data : RunValues → List Name → Data
+abbrev pub run_data : RunSettings → List Name → Data
 run_data run profiles =
     object (with_bounds run (with_output run (with_names run profiles no_members)))
 
 -- the objects of a profile, with the values that it has for a whole run
-abbrev pub objects_data : ProfileFacts → RunValues → List Name → List Warning → Option Directories
-    → Data
-objects_data facts run profiles warnings directories =
+abbrev pub objects_data : ProfileFacts → RunSettings → List Name → List Warning → Option Directories
+    → Option Enabling → Data
+objects_data facts run profiles warnings directories enabling =
     object (member (codes "findings") (warnings_data warnings)
     (member (codes "groups") (list_data group_data facts.groups)
     (member (codes "run") (run_data run profiles)
-    (member (codes "setup-scripts") (list_data (setup_script_data directories) facts.scripts.setup)
+    (member (codes "setup-scripts")
+    (list_data (setup_script_data directories enabling) facts.scripts.setup)
     (member (codes "wrappers") (list_data (wrapper_script_data directories) facts.scripts.wrapper)
     no_members)))))
 
--- A value is the objects of a profile, among profiles of these names, with the warnings of the load.
+-- A value is the objects of a profile, among profiles of these names, with the warnings of the load
+-- and with the tests of a list that enable each setup script.
 pub record AreObjectsOf (facts : ProfileFacts) (profiles : List Name) (warnings : List Warning)
-    (directories : Option Directories) (value : Data) : Type 0 where
-  pub run : RunValues
+    (directories : Option Directories) (enabling : Option Enabling) (value : Data) : Type 0 where
+  pub run : RunSettings
   pub is_run : IsRunOf facts run
-  pub same : value ≡ objects_data facts run profiles warnings directories
+  pub same : value ≡ objects_data facts run profiles warnings directories enabling

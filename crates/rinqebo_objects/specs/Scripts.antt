@@ -9,6 +9,7 @@ use Rattle.nextest_scripts.specs.declared.setup_script.SetupScriptJunitConfig.{S
 use Rattle.nextest_scripts.specs.declared.wrapper_script.WrapperScriptTargetRunner.{WrapperScriptTargetRunner}
 use Rattle.nextest_scripts.specs.declared.wrapper_script.WrapperScriptTargetRunner.TheVariants as runners
 use Rattle.nextest_tables.specs.Written.{Name}
+use Rattle.rinqebo_objects.specs.Enabling.{Enabling, enabling_data}
 use Rattle.rinqebo_objects.specs.Values.{leak_data, optional_data, slow_data, threads_data}
 use Rattle.rinqebo_objects.specs.declared.scripts.Directories.{Directories as Directories'}
 use Rattle.rinqebo_report.specs.Documents.{list_data}
@@ -59,9 +60,9 @@ stored_data stored =
     object (member (codes "store-failure-output") (boolean stored.store_failure_output)
     (member (codes "store-success-output") (boolean stored.store_success_output) no_members))
 
--- a setup script
-abbrev pub setup_script_data : Option Directories → List ℕ × SetupScriptText → Data
-setup_script_data directories entry =
+-- a setup script, with the tests of a list that enable it
+abbrev pub setup_script_data : Option Directories → Option Enabling → Name × SetupScriptText → Data
+setup_script_data directories enabling entry =
     object (member (codes "capture-stderr") (boolean entry.1.capture_stderr)
     (member (codes "capture-stdout") (boolean entry.1.capture_stdout)
     (member (codes "command") (command_data directories entry.1.command)
@@ -69,7 +70,8 @@ setup_script_data directories entry =
     (member (codes "junit") (stored_data entry.1.junit)
     (member (codes "leak-timeout") (optional_data leak_data entry.1.leak_timeout)
     (member (codes "slow-timeout") (optional_data slow_data entry.1.slow_timeout)
-    no_members)))))))
+    (member (codes "tests") (enabling_data enabling entry.0)
+    no_members))))))))
 
 -- the word for what a wrapper makes of a target runner
 abbrev pub runner_word : WrapperScriptTargetRunner → List ℕ

@@ -1,17 +1,20 @@
 //! The objects of a profile that a runner needs.
-ghost use Rattle.std.specs.Prelude.{◌≡◌, IfOk, map, string_bytes};
+ghost use Rattle.std.specs.Prelude.{◌≡◌, IfOk, None, map, option_map, string_bytes};
 ghost use Rattle.serde_json.specs.Data.{Data};
 ghost use Rattle.serde_json.specs.View.{view};
 ghost use Rattle.serde_json.specs.Written.{compact_text};
+ghost use Rattle.nextest_engines.specs.Engines.{test_view};
+ghost use Rattle.nextest_profiles.specs.Meaning.{profile_meaning};
 ghost use Rattle.nextest_sources.specs.WarningsView.{warnings_view};
+ghost use Rattle.rinqebo_objects.specs.Enabling.{enabling_in};
 ghost use Rattle.rinqebo_objects.specs.Objects.{AreObjectsOf, objects_data};
 ghost use Rattle.rinqebo_objects.specs.Scripts.{directories_view};
 
 use crate::groups::groups_json;
-use crate::run::{RunValues, run_json};
+use crate::run::{RunSettings, run_json};
 use crate::scripts::{Directories, setup_scripts_json, wrapper_scripts_json};
 use crate::warnings::warnings_json;
-use nextest_engines::{Filters, Specs};
+use nextest_engines::{Filters, Specs, TestQuery};
 use nextest_profiles::EvaluatableProfile;
 use nextest_sources::DefaultConfigWarnings;
 use rinqebo_report::ExactValue;
@@ -33,20 +36,31 @@ pub struct Surroundings<'a> {
 fn objects_with<F: Filters, S: Specs>(
     alloc: Global,
     profile: &EvaluatableProfile<'_, F, S>,
-    run: &RunValues<'_>,
+    run: &RunSettings<'_>,
     around: Surroundings<'_>,
+    tests: Option<&[TestQuery<'_>]>,
+    tally: &mut F::Tally,
 ) -> Result<Value, AllocError>
     ensures { let profiles = map string_bytes around.entry.profiles.now in
         let warnings = warnings_view around.entry.warnings.now in
         let directories = directories_view around.entry.directories in
+        let listed = option_map (λ tests. map test_view tests.now) tests.entry in
+        let enabling = enabling_in F.holds (profile_meaning F.meaning profile.now) listed in
         IfOk result (λ value. view value
-        ≡ objects_data profile.now.facts run.now profiles warnings directories) }
+        ≡ objects_data profile.now.facts run.now profiles warnings directories enabling) }
 {
     let scripts = profile.script_config();
     let findings = warnings_json(alloc, around.warnings)?;
     let groups = groups_json(alloc, profile.test_group_config())?;
     let run = run_json(alloc, run, around.profiles)?;
-    let setup = setup_scripts_json(alloc, around.directories, &scripts.setup)?;
+    let setup = setup_scripts_json(
+        alloc,
+        around.directories,
+        profile,
+        &scripts.setup,
+        tests,
+        tally,
+    )?;
     let wrappers = wrapper_scripts_json(alloc, around.directories, &scripts.wrapper)?;
     json!(in alloc; {
         "run": run,
@@ -58,37 +72,43 @@ fn objects_with<F: Filters, S: Specs>(
 }
 
 /// The objects of a profile: an object with the members `run`, `groups`, `setup-scripts`, `wrappers`
-/// and `findings`. Where the directories are given, programs are joined to them.
+/// and `findings`. Where the directories are given, programs are joined to them. Where the tests of
+/// a list are given, each setup script has those of them that enable it.
 pub fn objects_json<F: Filters, S: Specs>(
     alloc: Global,
     profile: &EvaluatableProfile<'_, F, S>,
     around: Surroundings<'_>,
+    tests: Option<&[TestQuery<'_>]>,
+    tally: &mut F::Tally,
 ) -> Result<ExactValue, AllocError>
     ensures { let profiles = map string_bytes around.entry.profiles.now in
         let warnings = warnings_view around.entry.warnings.now in
         let directories = directories_view around.entry.directories in
+        let listed = option_map (λ tests. map test_view tests.now) tests.entry in
+        let enabling = enabling_in F.holds (profile_meaning F.meaning profile.now) listed in
         IfOk result (λ objects. AreObjectsOf profile.now.facts profiles warnings directories
-        (view objects.value)) }
+        enabling (view objects.value)) }
 {
-    let run = RunValues::of(alloc, profile)?;
-    let value = objects_with(alloc, profile, &run, around)?;
+    let run = RunSettings::of(alloc, profile)?;
+    let value = objects_with(alloc, profile, &run, around, tests, tally)?;
     Ok(ExactValue { value })
 }
 
-/// The objects of a profile as a text without spaces.
+/// The objects of a profile without a list of tests, as a text without spaces.
 pub fn objects_text<F: Filters, S: Specs>(
     alloc: Global,
     profile: &EvaluatableProfile<'_, F, S>,
     around: Surroundings<'_>,
+    tally: &mut F::Tally,
 ) -> Result<String, AllocError>
     ensures { let profiles = map string_bytes around.entry.profiles.now in
         let warnings = warnings_view around.entry.warnings.now in
         let directories = directories_view around.entry.directories in
         IfOk result (λ text. (value : Data)
-        × AreObjectsOf profile.now.facts profiles warnings directories value
+        × AreObjectsOf profile.now.facts profiles warnings directories None value
         × (string_bytes text ≡ compact_text value)) }
 {
-    let objects = objects_json(alloc, profile, around)?;
+    let objects = objects_json(alloc, profile, around, None, tally)?;
     let text = objects.text(alloc)?;
     Ok(text)
 }

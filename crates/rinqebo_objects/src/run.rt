@@ -16,7 +16,7 @@ use std::alloc::{AllocError, Global};
 
 /// The values that a profile has for a whole run.
 #[derive(Drop)]
-pub struct RunValues<'p> {
+pub struct RunSettings<'p> {
     /// The name of the profile.
     pub profile: &'p str,
     /// The profile that it inherits from, as it writes it.
@@ -41,16 +41,16 @@ pub struct RunValues<'p> {
     pub run_extra_args: &'p [String],
 }
 
-impl<'p> RunValues<'p> {
+impl<'p> RunSettings<'p> {
     /// The values of a profile.
     pub fn of<F: Filters, S: Specs>(
         alloc: Global,
         profile: &'p EvaluatableProfile<'p, F, S>,
-    ) -> Result<RunValues<'p>, AllocError>
+    ) -> Result<RunSettings<'p>, AllocError>
         ensures { IfOk result (IsRunOf profile.now.facts) }
     {
         let junit = profile.junit(alloc)?;
-        Ok(RunValues {
+        Ok(RunSettings {
             profile: profile.name(),
             inherits: profile.inherits(),
             test_threads: profile.test_threads(),
@@ -81,7 +81,7 @@ fn optional_text_json(alloc: Global, text: Option<&str>) -> Result<Value, AllocE
 fn put_bounds(
     members: &mut Map<String, Value>,
     alloc: Global,
-    run: &RunValues<'_>,
+    run: &RunSettings<'_>,
 ) -> Result<(), AllocError>
     ensures { OnOk result (members_view members.new.entries
         ≡ with_bounds run.now (members_view members.old.entries)) }
@@ -98,7 +98,7 @@ fn put_bounds(
 fn put_output(
     members: &mut Map<String, Value>,
     alloc: Global,
-    run: &RunValues<'_>,
+    run: &RunSettings<'_>,
 ) -> Result<(), AllocError>
     ensures { OnOk result (members_view members.new.entries
         ≡ with_output run.now (members_view members.old.entries)) }
@@ -117,7 +117,7 @@ fn put_output(
 fn put_names(
     members: &mut Map<String, Value>,
     alloc: Global,
-    run: &RunValues<'_>,
+    run: &RunSettings<'_>,
     profiles: &[String],
 ) -> Result<(), AllocError>
     ensures { OnOk result (members_view members.new.entries
@@ -136,7 +136,7 @@ fn put_names(
 /// What a profile says for a whole run, among profiles of these names.
 pub(crate) fn run_json(
     alloc: Global,
-    run: &RunValues<'_>,
+    run: &RunSettings<'_>,
     profiles: &[String],
 ) -> Result<Value, AllocError>
     ensures { IfOk result (λ value. view value

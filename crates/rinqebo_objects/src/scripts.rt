@@ -1,14 +1,20 @@
 //! Scripts and their commands as JSON.
-ghost use Rattle.std.specs.Prelude.{◌≡◌, IfOk, map, string_bytes};
+ghost use Rattle.std.specs.Prelude.{◌≡◌, IfOk, map, option_map, string_bytes};
 ghost use Rattle.serde_json.specs.View.{view};
+ghost use Rattle.nextest_engines.specs.Engines.{test_view};
+ghost use Rattle.nextest_profiles.specs.Meaning.{profile_meaning};
 ghost use Rattle.nextest_scripts.specs.EnvMap.{env_view};
 ghost use Rattle.nextest_scripts.specs.ScriptId.{script_text};
 ghost use Rattle.nextest_scripts.specs.ScriptTexts.{command_view, setup_script_view, wrapper_script_view};
+ghost use Rattle.rinqebo_objects.specs.Enabling.{enabling_in};
 ghost use Rattle.rinqebo_objects.specs.Scripts.{command_data, directories_view, program_in, relative_word, runner_word, setup_script_data, stored_data, variables_data, wrapper_script_data};
 ghost use Rattle.rinqebo_report.specs.Documents.{list_data};
 
+use crate::enabling::optional_tests_json;
 use crate::values::{names_json, optional_leak_json, optional_slow_json};
 use indexmap::IndexMap;
+use nextest_engines::{Filters, Specs, TestQuery};
+use nextest_profiles::EvaluatableProfile;
 use nextest_scripts::{
     ScriptCommand, ScriptCommandEnvMap, ScriptCommandRelativeTo, ScriptId, SetupScriptConfig,
     SetupScriptJunitConfig, WrapperScriptConfig, WrapperScriptTargetRunner,
@@ -106,16 +112,23 @@ fn stored_json(alloc: Global, stored: SetupScriptJunitConfig) -> Result<Value, A
     })
 }
 
-/// A setup script.
-fn setup_script_json(
+/// A setup script of a profile, with the tests of a list that enable it.
+fn setup_script_json<F: Filters, S: Specs>(
     alloc: Global,
     directories: Option<Directories<'_>>,
+    profile: &EvaluatableProfile<'_, F, S>,
     id: &ScriptId,
     script: &SetupScriptConfig,
+    tests: Option<&[TestQuery<'_>]>,
+    tally: &mut F::Tally,
 ) -> Result<Value, AllocError>
-    ensures { IfOk result (λ value. view value ≡ setup_script_data (directories_view directories.entry)
+    ensures { let directories = directories_view directories.entry in
+        let listed = option_map (λ tests. map test_view tests.now) tests.entry in
+        let enabling = enabling_in F.holds (profile_meaning F.meaning profile.now) listed in
+        IfOk result (λ value. view value ≡ setup_script_data directories enabling
         (script_text id.now, setup_script_view script.now)) }
 {
+    let tests = optional_tests_json(alloc, profile, id, tests, tally)?;
     let command = command_json(alloc, directories, &script.command)?;
     let slow_timeout = optional_slow_json(alloc, script.slow_timeout)?;
     let leak_timeout = optional_leak_json(alloc, script.leak_timeout)?;
@@ -127,23 +140,31 @@ fn setup_script_json(
         "leak-timeout": leak_timeout,
         "capture-stdout": script.capture_stdout,
         "capture-stderr": script.capture_stderr,
-        "junit": junit
+        "junit": junit,
+        "tests": tests
     })
 }
 
-/// Setup scripts, in the order in which they run.
-pub(crate) fn setup_scripts_json(
+/// Setup scripts, in the order in which they run, with the tests of a list that enable each in a
+/// profile.
+pub(crate) fn setup_scripts_json<F: Filters, S: Specs>(
     alloc: Global,
     directories: Option<Directories<'_>>,
+    profile: &EvaluatableProfile<'_, F, S>,
     scripts: &IndexMap<ScriptId, SetupScriptConfig>,
+    tests: Option<&[TestQuery<'_>]>,
+    tally: &mut F::Tally,
 ) -> Result<Value, AllocError>
-    ensures { IfOk result (λ value. view value
-        ≡ list_data (setup_script_data (directories_view directories.entry))
+    ensures { let directories = directories_view directories.entry in
+        let listed = option_map (λ tests. map test_view tests.now) tests.entry in
+        let enabling = enabling_in F.holds (profile_meaning F.meaning profile.now) listed in
+        IfOk result (λ value. view value ≡ list_data (setup_script_data directories enabling)
         (map (λ e. (script_text e.0, setup_script_view e.1)) scripts.now.entries)) }
 {
     let mut list = Vec::new(alloc);
     for (id, script) in scripts.iter() {
-        list.push(setup_script_json(alloc, directories, id, script)?)?;
+        let entry = setup_script_json(alloc, directories, profile, id, script, tests, tally)?;
+        list.push(entry)?;
     }
     Ok(Value::Array(list))
 }

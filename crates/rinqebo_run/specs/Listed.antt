@@ -10,13 +10,14 @@ use Rattle.nextest_load.specs.Config.{ScriptTables, config_parents}
 use Rattle.nextest_load.specs.Scripts.{AreScriptsOf}
 use Rattle.nextest_profiles.specs.Profiles.{IsChainAndDefault}
 use Rattle.nextest_settings.specs.Deciding.{QueryContext}
-use Rattle.nextest_settings.specs.Profile.{Configured, EvaluatableModel, ProfileFacts, profile_of, profile_on}
+use Rattle.nextest_settings.specs.Profile.{Configured, EvaluatableModel, profile_of, profile_on}
 use Rattle.nextest_settings.specs.Queries.{query_in}
 use Rattle.nextest_sources.specs.Inputs.{sources_in}
 use Rattle.nextest_sources.specs.Warnings.{Warning}
 use Rattle.nextest_tables.specs.FileTexts.{names_in, IsIn}
 use Rattle.nextest_tables.specs.Written.{Name}
 use Rattle.rinqebo_files.specs.declared.layers.Layer.{Layer}
+use Rattle.rinqebo_objects.specs.Enabling.{enabling_in}
 use Rattle.rinqebo_objects.specs.Objects.{AreObjectsOf}
 use Rattle.rinqebo_rules.specs.Rows.{AreTestsReported}
 use Rattle.rinqebo_rules.specs.Scripts.{AreScriptsReported}
@@ -63,12 +64,14 @@ abbrev pub AreUnused : {M : Type 0} → List Layer → List (QueryContext M) →
 AreUnused layers tests profile unused =
     AllZip (λ place. IsOriginOf layers place []) (unused_places tests profile) unused
 
--- A value is the objects of a profile, among profiles of these names, with some warnings. Its
--- programs are as files write them.
-pub record AreObjectsListed (facts : ProfileFacts) (profiles : List Name) (value : Data) : Type 0
-  where
-    pub warnings : List Warning
-    pub are : AreObjectsOf facts profiles warnings None value
+-- A value is the objects of a profile, among profiles of these names, with some warnings, and with
+-- the tests that enable each setup script. Its programs are as files write them.
+pub record AreObjectsListed {M : Type 0} (matches : M → Test → M → Bool)
+    (profile : EvaluatableModel M) (tests : List Test) (profiles : List Name) (value : Data)
+    : Type 0 where
+  pub warnings : List Warning
+  pub are : AreObjectsOf profile.facts profiles warnings None
+      (enabling_in matches profile (Some tests)) value
 
 -- A report lists tests as the profile of a name gives them settings on the platforms of a build,
 -- with the origins of these in the layers of the files and in the chain of the profile, the rules
@@ -89,8 +92,8 @@ pub record AreTestsOf {M K P : Type 0} (meets : K → P → Option Bool) (matche
       profile unused
   pub scripts_reported : AreScriptsReported matches matches_binary profile (all_tests list)
       (all_binaries list) scripts
-  pub objects_reported : IfSome objects (λ exact. AreObjectsListed profile.facts
-      (names_in configured.config.profiles) (view exact.value))
+  pub objects_reported : IfSome objects (λ exact. AreObjectsListed matches profile
+      (all_tests list) (names_in configured.config.profiles) (view exact.value))
 
 -- a fact of the tests, of the rules, of the scripts and of the objects that a report lists
 abbrev pub IfListed : Content

@@ -1,12 +1,19 @@
 //! The objects of a profile beside a list: what a runner needs beside the settings of tests.
 ghost use Rattle.std.specs.Prelude.{◌≡◌, IfOk, None, map, string_bytes};
+ghost use Rattle.filter_language.specs.Filtersets.{marks_view};
+ghost use Rattle.filter_engine.specs.Compiling.{names_of};
+ghost use Rattle.filter_engine.specs.Engine.{filter_holds};
+ghost use Rattle.nextest_lists.specs.ListView.{list_view};
+ghost use Rattle.nextest_lists.specs.Lists.{all_tests};
+ghost use Rattle.nextest_profiles.specs.Meaning.{profile_meaning};
 ghost use Rattle.nextest_tables.specs.FileTexts.{names_in};
 ghost use Rattle.serde_json.specs.View.{view};
 ghost use Rattle.rinqebo_run.specs.Listed.{AreObjectsListed};
 
 use crate::list::Profile;
+use filter_engine::NextestTally;
 use nextest_config::{DefaultConfigWarnings, MergedProfile};
-use rinqebo_load::Config;
+use rinqebo_load::{Config, Session};
 use rinqebo_objects::{Surroundings, objects_json};
 use rinqebo_report::ExactValue;
 use std::alloc::{AllocError, Global};
@@ -49,19 +56,24 @@ fn as_written<'a>(profiles: &'a [String], warnings: &'a DefaultConfigWarnings) -
     }
 }
 
-/// The objects of a profile of a configuration, with the warnings of its load. Programs are as
-/// files write them.
+/// The objects of a profile of a configuration, with the warnings of its load, and with the tests of
+/// the list of a session that enable each setup script. Programs are as files write them.
 pub fn objects_of_list(
     alloc: Global,
+    session: &Session<'_>,
     config: &Config,
     warnings: &DefaultConfigWarnings,
     profile: &Profile<'_>,
 ) -> Result<ExactValue, AllocError>
-    ensures { IfOk result (λ objects. AreObjectsListed profile.now.facts
-        (names_in config.now.config.profiles) (view objects.value)) }
+    ensures { let profile = profile_meaning (marks_view names_of) profile.now in
+        IfOk result (λ objects. AreObjectsListed filter_holds profile
+        (all_tests (list_view session.now.tests)) (names_in config.now.config.profiles)
+        (view objects.value)) }
 {
     let names = profile_names(alloc, config)?;
+    let tests = session.tests.queries(alloc)?;
+    let mut tally = NextestTally::new();
     let around = as_written(&names, &*warnings);
-    let objects = objects_json(alloc, profile, around)?;
+    let objects = objects_json(alloc, profile, around, Some(&tests), &mut tally)?;
     Ok(objects)
 }

@@ -102,7 +102,7 @@ AreSized asked old = (asked.size ≡ test_size) × (old.size ≡ settings_size)
 
 -- A profile returns the numbers of a test: where a size is not this version's, and nowhere else,
 -- the status says so; and where it returns none, the settings stay as they were.
-pub record Answers (profile : Profile) (asked : CallerTest) (old new : SettingNumbers)
+pub record ReturnsNumbers (profile : Profile) (asked : CallerTest) (old new : SettingNumbers)
     (status : ℕ) : Type 0 where
   pub sized : AreSized asked old → ReturnsBy profile.outcome asked new status
   pub bad_size : (status ≡ BAD_SIZE) ↔ (¬ AreSized asked old)

@@ -1,8 +1,8 @@
 -- Profiles of a session.
-use Rattle.std.specs.Prelude.{◌≡◌, ℕ, List, Option, Some, map, option_map, string_bytes, Result, Ok, Err, MatchResult}
+use Rattle.std.specs.Prelude.{◌≡◌, ℕ, List, Option, None, Some, map, option_map, string_bytes, Result, Ok, Err, MatchResult}
 use Rattle.std.specs.Str.{IsUtf8}
 use Rattle.nextest_config.specs.ConfigView.{configured_in}
-use Rattle.nextest_config.specs.ProfileError.{ReportsMissing}
+use Rattle.nextest_config.specs.ProfileError.{TellsMissing}
 use Rattle.nextest_config.specs.declared.profile_error.ProfileError.{ProfileError}
 use Rattle.nextest_config.specs.declared.profile_error.ProfileError.TheVariants as errors
 use Rattle.nextest_elements.specs.declared.test_group.TestGroupConfig.{TestGroupConfig}
@@ -46,11 +46,12 @@ directories_in loaded = option_map (λ target. record {
   target = string_bytes target;
 }) loaded.target_directory
 
--- A text is that of the objects of a profile, among the profiles of its configuration.
+-- A text is that of the objects of a profile, among the profiles of its configuration. There is no
+-- list of tests.
 pub record IsObjectsText (loaded : Loaded) (facts : ProfileFacts) (text : List ℕ) : Type 0 where
   pub value : Data
   pub are : AreObjectsOf facts (names_in loaded.config.config.profiles)
-      (warnings_view loaded.warnings) (directories_in loaded) value
+      (warnings_view loaded.warnings) (directories_in loaded) None value
   pub written : text ≡ compact_text value
 
 -- A profile of a configuration is open: it is the one of the name, by its chain, on the platforms
@@ -75,7 +76,7 @@ abbrev pub IsNotOpened : Loaded → Name → OpenFailure → Type 0
 IsNotOpened loaded name opens.NotLoaded = ⊥
 IsNotOpened loaded name opens.NotText = ⊥
 IsNotOpened loaded name (opens.NotFound missing) =
-    ReportsMissing (names_in loaded.config.config.profiles) name missing
+    TellsMissing (names_in loaded.config.config.profiles) name missing
 IsNotOpened loaded name opens.Memory = Unit {0}
 
 -- a fact of what was loaded, where something was
@@ -94,7 +95,7 @@ abbrev pub IsOpenFailure : Session → Name → OpenFailure → Type 0
 IsOpenFailure session name opens.NotLoaded = IsEmpty session.outcome
 IsOpenFailure session name opens.NotText = ¬ IsUtf8 name
 IsOpenFailure session name (opens.NotFound missing) = IfLoaded session.outcome
-    (λ loaded. ReportsMissing (names_in loaded.config.config.profiles) name missing)
+    (λ loaded. TellsMissing (names_in loaded.config.config.profiles) name missing)
 IsOpenFailure session name opens.Memory = Unit {0}
 
 -- A profile of a name is opened in a session, or it is not for this reason.

@@ -129,7 +129,8 @@ fn objects_of(
         warnings: &loaded.warnings,
         directories: directories_of(loaded),
     };
-    let text = objects_text(alloc, profile, around)?;
+    let mut tally = NextestTally::new();
+    let text = objects_text(alloc, profile, around, &mut tally)?;
     Ok(text)
 }
 

@@ -1,20 +1,25 @@
-use Rattle.std.proofs.Common.{map, string_bytes}
+use Rattle.std.proofs.Common.{map, option_map, string_bytes}
+use Rattle.nextest_engines.specs.Engines.{test_view}
+use Rattle.nextest_profiles.specs.Meaning.{profile_meaning}
 use Rattle.nextest_sources.specs.WarningsView.{warnings_view}
 use Rattle.serde_json.specs.View.{view}
+use Rattle.rinqebo_objects.specs.Enabling.{enabling_in}
 use Rattle.rinqebo_objects.specs.Scripts.{directories_view}
 use Rattle.rinqebo_objects.proofs.ExactObjects.{objects_nest, objects_are_whole}
 use Rattle.rinqebo_objects.proofs.objects.objects_json.Goals as goal
 
 pub invariant_of-result : goal.invariant_of-result
 invariant_of-result g c =
-    let around = c.args.around in
-    let profiles = map string_bytes around.profiles.now in
-    let warnings = warnings_view around.warnings.now in
-    let directories = directories_view around.directories in
+    let F = g.F.Filters in
+    let facts = c.args.profile.now.facts in
+    let run = c.in_ok-run.run' in
+    let profiles = map string_bytes c.args.around.profiles.now in
+    let warnings = warnings_view c.args.around.warnings.now in
+    let directories = directories_view c.args.around.directories in
+    let listed = option_map (λ tests. map test_view tests.now) c.args.tests in
+    let enabling = enabling_in F.holds (profile_meaning F.meaning c.args.profile.now) listed in
     let value = view c.in_ok-value.value in
     record {
-      nests = objects_nest c.args.profile.now.facts c.in_ok-run.run' profiles warnings directories value
-          c.in_ok-value.ensures;
-      whole = objects_are_whole c.args.profile.now.facts c.in_ok-run.run' profiles warnings directories value
-          c.in_ok-value.ensures;
+      nests = objects_nest facts run profiles warnings directories enabling value c.in_ok-value.ensures;
+      whole = objects_are_whole facts run profiles warnings directories enabling value c.in_ok-value.ensures;
     }

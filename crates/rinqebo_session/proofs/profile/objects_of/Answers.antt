@@ -1,4 +1,4 @@
-use Rattle.std.proofs.Common.{◌∙◌, ap, map, string_bytes, subst}
+use Rattle.std.proofs.Common.{◌∙◌, None, ap, map, string_bytes, subst}
 use Rattle.nextest_sources.specs.WarningsView.{warnings_view}
 use Rattle.rinqebo_objects.specs.Objects.{AreObjectsOf}
 use Rattle.rinqebo_session.specs.Opening.{directories_in}
@@ -12,9 +12,9 @@ returns c =
     let text = c.in_ok-text.ensures in
     record {
       value = text.0;
-      are = subst (λ profiles. AreObjectsOf facts profiles warnings (directories_in loaded) text.0)
+      are = subst (λ profiles. AreObjectsOf facts profiles warnings (directories_in loaded) None text.0)
           (ap (map string_bytes) c.deref.ensures.value ∙ c.in_ok-profiles.ensures)
-          (subst (λ directories. AreObjectsOf facts (map string_bytes c.deref.result.now) warnings directories text.0)
+          (subst (λ directories. AreObjectsOf facts (map string_bytes c.deref.result.now) warnings directories None text.0)
           c.directories_of.ensures text.1);
       written = text.2;
     }

@@ -1,0 +1,27 @@
+use Rattle.std.proofs.Common.{◌≡◌, ◌∙◌, List, ap, map, sym}
+use Rattle.nextest_engines.specs.Engines.{test_view}
+use Rattle.nextest_profiles.proofs.KnowsScripts.{fused}
+use Rattle.nextest_profiles.specs.Meaning.{profile_meaning}
+use Rattle.nextest_rules.specs.Rules.{ScriptRuleUse}
+use Rattle.nextest_scripts.specs.ScriptId.{script_text}
+use Rattle.nextest_settings.specs.Platforms.{EvaluatedRule}
+use Rattle.nextest_settings.specs.Queries.{is_enabled_for, query_in, test_query}
+use Rattle.nextest_settings.specs.View.{evaluated_script_rule_meaning, evaluated_script_rule_view, meant_script_rule}
+use Rattle.rinqebo_objects.proofs.enabling.enables.Goals as goal
+
+pub returns : goal.returns
+returns g c =
+    let F = g.F.Filters in
+    let profile = profile_meaning F.meaning c.args.profile.now in
+    let id = script_text c.args.id.now in
+    let test = test_view c.args.query.now in
+    let held = c.rules-rules.result.now.script_rules.items in
+    let same : map (meant_script_rule F.meaning) held ≡ profile.script_rules =
+    sym (fused (evaluated_script_rule_meaning F.meaning) evaluated_script_rule_view held)
+    ∙ ap (map (evaluated_script_rule_meaning F.meaning)) c.rules-rules.ensures.script_rules in
+    c.is_enabled.ensures
+    ∙ ap (λ default. is_enabled_for (test_query F.holds (F.meaning default) test)
+    (map (meant_script_rule F.meaning) c.deref.result.now) id) c.filterset_ecx-cx.ensures
+    ∙ ap (λ rules. is_enabled_for (query_in F.holds profile test) (map (meant_script_rule F.meaning) rules) id)
+    c.deref.ensures.value
+    ∙ ap (λ rules. is_enabled_for (query_in F.holds profile test) rules id) same
