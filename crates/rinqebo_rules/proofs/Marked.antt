@@ -1,5 +1,5 @@
 -- Rules that are marked by whether they hold for some tests.
-use Rattle.std.proofs.Common.{◌≡◌, ◌∙◌, ◌<◌, ◌++◌, ◌∷◌, [], ◌||◌, ◌+◌, ℕ, zero, suc, List, Bool, arith, get_or, take, true, false, Some, ap, length, map, slice_get, unwrap_or, refl, sym}
+use Rattle.std.proofs.Common.{◌≡◌, ◌∙◌, ◌<◌, ◌++◌, ◌∷◌, [], ◌||◌, ◌+◌, ℕ, zero, suc, List, Bool, arith, get_or, replicate, take, true, false, Some, ap, length, map, slice_get, unwrap_or, refl, sym}
 use Rattle.std.proofs.lemmas.List.Folds.{list_any-append}
 use Rattle.std.proofs.lemmas.Option.{slice_get-map}
 use Rattle.nextest_settings.specs.Deciding.{QueryContext, rule_holds}
@@ -18,6 +18,11 @@ pub twice : {A B C D : Type 0} (h : C → D) (g : B → C) (f : A → B) (xs : L
     → map (λ x. h (g (f x))) xs ≡ map h (map g (map f xs))
 twice h g f [] = refl
 twice h g f (x ∷ xs) = ap (λ rest. h (g (f x)) ∷ rest) (twice h g f xs)
+
+-- before any test no rule is used
+pub none_used : {M W : Type 0} (rules : List (EvaluatedRule M W)) → replicate (length rules) false ≡ map (is_used []) rules
+none_used [] = refl
+none_used (rule ∷ rules) = ap (λ rest. false ∷ rest) (none_used rules)
 
 or_false : (b : Bool) → (b || false) ≡ b
 or_false true = refl

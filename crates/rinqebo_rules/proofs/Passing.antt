@@ -1,6 +1,7 @@
 -- Overrides that do not hold for a test, by what decides its settings.
-use Rattle.std.proofs.Common.{◌≡◌, ◌≤◌, ◌<◌, ◌&&◌, ◌⊎◌, inl, inr, ℕ, List, Bool, true, false, Option, None, Some, [], ◌∷◌, zero, suc, IfSome, find, slice_get, option_map, refl, sym, subst, lt_of_lt_of_le}
+use Rattle.std.proofs.Common.{◌≡◌, ◌≢◌, ◌∙◌, ◌≤◌, ◌<◌, ◌+◌, ◌&&◌, ◌⊎◌, inl, inr, ap, arith, ℕ, List, Bool, true, false, Option, None, Some, [], ◌∷◌, zero, suc, IfSome, find, slice_get, option_map, refl, sym, subst, lt_of_lt_of_le}
 use Rattle.std.proofs.lemmas.Bool.{cases_lt}
+use Rattle.std.proofs.lemmas.Option.{same_Some}
 use Rattle.std.specs.List.{AllZip}
 use Rattle.std.specs.Option.{option_or}
 use Rattle.nextest_elements.specs.declared.run_mode.NextestRunMode.{NextestRunMode}
@@ -41,6 +42,19 @@ zip_at R (a ∷ xs) (b ∷ ys) (suc k) x y all here there = zip_at R xs ys k x y
 abbrev pub IsOfNoOverride : Option Origin → Type 0
 IsOfNoOverride (Some (by_override id)) = ⊥
 IsOfNoOverride _ = Unit {0}
+
+-- one override more has not an id
+pub none_more : {M : Type 0} (id : RuleId) (k : ℕ) (rules : List (EvaluatedRule M (OverrideUse M)))
+    (rule : EvaluatedRule M (OverrideUse M)) → slice_get rules k ≡ Some rule → rule.writes.id ≢ id
+    → HasNoId id k rules → HasNoId id (k + 1) rules
+none_more id k rules rule here differs before n other below stands same =
+    elim (cases_lt n k) [
+      | inl early ↦ before n other early stands same
+      | inr late ↦
+          let at : n ≡ k = omega arith in
+          let is : rule ≡ other = same_Some rule other (sym here ∙ ap (slice_get rules) (sym at) ∙ stands) in
+          differs (ap (λ r. r.writes.id) is ∙ same)
+    ]
 
 module _ {M : Type 0} (query : QueryContext M) (mode : NextestRunMode)
     (rules : List (EvaluatedRule M (OverrideUse M))) (scripts : List (EvaluatedRule M ScriptRuleUse)) where
