@@ -1,5 +1,5 @@
 -- The tests of a list and the rules that hold for none of them, as a report lists them.
-use Rattle.std.specs.Prelude.{◌≡◌, ◌++◌, [], Bool, List, map, None, Option, Some, IfSome}
+use Rattle.std.specs.Prelude.{◌≡◌, ◌++◌, [], Bool, List, codes, map, None, Option, Some, IfSome}
 use Rattle.std.specs.List.{AllZip}
 use Rattle.nextest_elements.specs.declared.run_mode.NextestRunMode.{NextestRunMode}
 use Rattle.nextest_engines.specs.Engines.{Test}
@@ -19,6 +19,7 @@ use Rattle.nextest_tables.specs.Written.{Name}
 use Rattle.rinqebo_files.specs.declared.layers.Layer.{Layer}
 use Rattle.rinqebo_objects.specs.Enabling.{enabling_in}
 use Rattle.rinqebo_objects.specs.Objects.{AreObjectsOf}
+use Rattle.rinqebo_objects.specs.WarningObjects.{warnings_data}
 use Rattle.rinqebo_rules.specs.Rows.{AreTestsReported}
 use Rattle.rinqebo_rules.specs.Scripts.{AreScriptsReported}
 use Rattle.rinqebo_rules.specs.Unused.{unused_among}
@@ -41,6 +42,7 @@ use Rattle.rinqebo_run.specs.Requested.{IsRequestedIn}
 use Rattle.rinqebo_run.specs.ReportsReasons.{configured_by}
 use Rattle.rinqebo_load.specs.declared.session.Session.{Session}
 use Rattle.serde_json.specs.Data.{Data}
+use Rattle.serde_json.specs.Find.{get}
 use Rattle.serde_json.specs.View.{view}
 
 -- A profile on the platforms of a build is that of a name: it is the one of the name's chain.
@@ -102,10 +104,15 @@ IfListed (contents.List asked tests unused scripts objects) P =
     P tests.items unused.items scripts objects
 IfListed _ P = ⊥
 
--- a report lists tests beside objects
-abbrev pub HasObjects : Content → Type 0
-HasObjects (contents.List asked tests unused scripts (Some objects)) = Unit {0}
-HasObjects _ = ⊥
+-- the findings of objects are warnings
+abbrev pub FindsWarnings : List Warning → Data → Type 0
+FindsWarnings warnings value = get (codes "findings") value ≡ Some (warnings_data warnings)
+
+-- a report lists tests beside objects, whose findings are warnings
+abbrev pub HasObjects : List Warning → Content → Type 0
+HasObjects warnings (contents.List asked tests unused scripts (Some objects)) =
+    FindsWarnings warnings (view objects.value)
+HasObjects warnings _ = ⊥
 
 -- A report lists the tests of a list in a profile, by what the files mean.
 pub record ReportsTests (session : Session) (profile : Name) (mode : NextestRunMode)

@@ -6,9 +6,10 @@ ghost use Rattle.filter_engine.specs.Engine.{filter_holds};
 ghost use Rattle.nextest_lists.specs.ListView.{list_view};
 ghost use Rattle.nextest_lists.specs.Lists.{all_tests};
 ghost use Rattle.nextest_profiles.specs.Meaning.{profile_meaning};
+ghost use Rattle.nextest_sources.specs.WarningsView.{warnings_view};
 ghost use Rattle.nextest_tables.specs.FileTexts.{names_in};
 ghost use Rattle.serde_json.specs.View.{view};
-ghost use Rattle.rinqebo_run.specs.Listed.{AreObjectsListed};
+ghost use Rattle.rinqebo_run.specs.Listed.{AreObjectsListed, FindsWarnings};
 
 use crate::list::Profile;
 use filter_engine::NextestTally;
@@ -65,10 +66,12 @@ pub fn objects_of_list(
     warnings: &DefaultConfigWarnings,
     profile: &Profile<'_>,
 ) -> Result<ExactValue, AllocError>
-    ensures { let profile = profile_meaning (marks_view names_of) profile.now in
+    ensures objects { let profile = profile_meaning (marks_view names_of) profile.now in
         IfOk result (λ objects. AreObjectsListed filter_holds profile
         (all_tests (list_view session.now.tests)) (names_in config.now.config.profiles)
         (view objects.value)) }
+    ensures findings { IfOk result (λ objects.
+        FindsWarnings (warnings_view warnings.now) (view objects.value)) }
 {
     let names = profile_names(alloc, config)?;
     let tests = session.tests.queries(alloc)?;

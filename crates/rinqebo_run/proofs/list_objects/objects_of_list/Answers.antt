@@ -1,4 +1,4 @@
-use Rattle.std.proofs.Common.{◌∙◌, None, Some, ap, map, string_bytes, subst}
+use Rattle.std.proofs.Common.{◌∙◌, None, Some, ap, codes, map, string_bytes, subst}
 use Rattle.filter_language.specs.Filtersets.{marks_view}
 use Rattle.filter_engine.specs.Compiling.{names_of}
 use Rattle.filter_engine.specs.Engine.{filter_holds}
@@ -9,11 +9,13 @@ use Rattle.nextest_tables.specs.FileTexts.{names_in}
 use Rattle.rinqebo_objects.specs.Enabling.{enabling_in}
 use Rattle.rinqebo_objects.specs.Objects.{AreObjectsOf}
 use Rattle.rinqebo_objects.specs.Scripts.{directories_view}
+use Rattle.rinqebo_objects.specs.WarningObjects.{warnings_data}
+use Rattle.serde_json.specs.Find.{get}
 use Rattle.serde_json.specs.View.{view}
 use Rattle.rinqebo_run.proofs.list_objects.objects_of_list.Goals as goal
 
-pub returns : goal.returns
-returns c =
+pub returns-clause-objects : goal.returns-clause-objects
+returns-clause-objects c =
     let facts = c.args.profile.now.facts in
     let profile = profile_meaning (marks_view names_of) c.args.profile.now in
     let known = names_in c.args.config.now.config.profiles in
@@ -31,3 +33,8 @@ returns c =
           (enabling_in filter_holds profile (Some listed)) value)
           c.as_written-around.ensures.directories c.in_ok-objects.ensures));
     }
+
+pub returns-clause-findings : goal.returns-clause-findings
+returns-clause-findings c =
+    ap (get (codes "findings")) c.in_ok-objects.ensures.same
+    ∙ ap (λ warnings. Some (warnings_data (warnings_view warnings))) c.as_written-around.ensures.warnings
