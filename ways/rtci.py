@@ -1,0 +1,25 @@
+#!/usr/bin/env python3
+"""usage: [JOBS=n] [EDITS=1] [RT_JOBS=lanes] rtci.py ci NAMES..: rt ci with fixed jobs a check, without edits unless EDITS."""
+import sys, importlib.machinery, importlib.util, os
+args = sys.argv[1:]
+sys.argv = ['rt', *args]
+loader = importlib.machinery.SourceFileLoader('rtmod', '@KIT@/bin/rt')
+spec = importlib.util.spec_from_loader('rtmod', loader)
+rt = importlib.util.module_from_spec(spec); sys.modules['rtmod'] = rt
+loader.exec_module(rt)
+if not hasattr(rt, 'Crate'): rt.load()
+rt.free = lambda: 26e9
+if not os.environ.get('EDITS'): rt.edits_of = lambda c: ([], [])
+jobs = os.environ.get('JOBS')
+SIDE = set('filter_matchers filter_language filter_packages platform_language platform_table test_cases toy_engines nextest_shape nextest_spans nextest_files nextest_grounds rinqebo_codes json_fields nextest_lists filter_engine test_reports test_codes nextest_faults rinqebo_changes rinqebo_sides rinqebo_objects nextest_explain config_explain'.split())
+CHAIN = set('nextest_documents nextest_places nextest_elements nextest_scripts nextest_tables nextest_sources nextest_rules nextest_load nextest_settings nextest_profiles nextest_config rinqebo_request rinqebo_files rinqebo_load rinqebo_rules rinqebo_findings rinqebo_run rinqebo_resolve rinqebo_diff rinqebo test_runs'.split())
+if jobs:
+    made = rt.Crate.ci
+    def ci(self, flags, tests):
+        flags = list(flags)
+        if '--jobs' in flags:
+            at = flags.index('--jobs'); flags[at + 1] = jobs if self.name not in SIDE else '1'
+            if self.name in CHAIN: flags[at + 1] = os.environ.get('CHAIN', '4')
+        return made(self, flags, tests)
+    rt.Crate.ci = ci
+sys.exit(rt.main(args))
