@@ -55,7 +55,8 @@ abbrev pub BeginAFilter : {L : Type 0} → List (Mark L) → Type 0
 BeginAFilter {L} marks = (more : List (Mark L)) × WritesAFilter (marks ++ more)
 
 -- What is read of a text is right: the text writes it, and it is the beginning of a filter.
-abbrev pub IsWellBegun : {L : Type 0} → Compiler L → List ℕ → List (MarkRead L) → List ℕ → Type 0
+abbrev pub IsWellBegun : {L : Type 0} → Compiler L → List ℕ → List (MarkRead L) → List ℕ
+    → Type 0
 IsWellBegun {L} compiler text marks rest =
     Begins compiler text (map (λ (found : MarkRead L). found.mark) marks) rest
     × BeginAFilter (map (λ (found : MarkRead L). found.mark) marks)

@@ -20,8 +20,8 @@ abbrev pub HasFailureStatus : DiffFailure → ℕ → Type 0
 HasFailureStatus failure n = (n ≡ diff_failure_status failure) ⊎ (n ≡ 5) ⊎ (n ≡ 6)
 
 -- a writer received the document of why a side has no result
-abbrev pub ReportsDiffFailure : DiffRequest → DiffFailure → ℕ → Option (List ℕ) → Option (List ℕ)
-    → Type 0
+abbrev pub ReportsDiffFailure : DiffRequest → DiffFailure → ℕ → Option (List ℕ)
+    → Option (List ℕ) → Type 0
 ReportsDiffFailure request (failures.Side names.From failure) status old new =
     ReportsFailure failure request.from.request status old new
 ReportsDiffFailure request (failures.Side names.To failure) status old new =
