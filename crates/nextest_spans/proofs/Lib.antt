@@ -18,5 +18,4 @@ pub mod PositionWalk
 mod Examples
 pub mod Reopened
 pub mod Climbing
-pub mod Leading
-pub mod Marks
+pub mod Standing

@@ -3,7 +3,7 @@ use Rattle.std.proofs.lemmas.Iterator.{YieldsList-from_chars}
 use Rattle.std.proofs.lemmas.Iterator.Consumers.{YieldsList-end}
 use Rattle.rinqebo_report.proofs.WholeTexts.{written_whole}
 use Rattle.rinqebo_report.specs.Pieces.{shown_char}
-use Rattle.rinqebo_report.proofs.piece.add_shown.Goals as goal
+use Rattle.rinqebo_report.proofs.piece.add_spelled.Goals as goal
 
 pub returns : goal.returns
 returns c =

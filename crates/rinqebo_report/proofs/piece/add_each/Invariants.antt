@@ -1,6 +1,6 @@
 use Rattle.std.proofs.Common.{◌≡◌, ◌++◌, flat_map, replicate, string_bytes}
 use Rattle.rinqebo_report.specs.Pieces.{shown_char}
-use Rattle.rinqebo_report.proofs.piece.add_repeated.Given as goal
+use Rattle.rinqebo_report.proofs.piece.add_each.Given as goal
 
 abbrev pub invariant-loop-index : goal.invariant-loop-index
 invariant-loop-index l =

@@ -1,6 +1,6 @@
 use Rattle.std.proofs.Common.{◌≡◌, ◌++◌, flat_map, string_bytes}
 use Rattle.rinqebo_report.specs.Pieces.{shown_char}
-use Rattle.rinqebo_report.proofs.piece.add_shown.Given as goal
+use Rattle.rinqebo_report.proofs.piece.add_spelled.Given as goal
 
 abbrev pub invariant-loop-c : goal.invariant-loop-c
 invariant-loop-c l =

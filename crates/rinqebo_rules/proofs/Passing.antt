@@ -1,0 +1,151 @@
+-- Overrides that do not hold for a test, by what decides its settings.
+use Rattle.std.proofs.Common.{◌≡◌, ◌≢◌, ◌∙◌, ◌≤◌, ◌<◌, ◌+◌, ◌&&◌, ◌⊎◌, inl, inr, ap, arith, ℕ, List, Bool, true, false, Option, None, Some, [], ◌∷◌, zero, suc, IfSome, find, slice_get, option_map, refl, sym, subst, lt_of_lt_of_le}
+use Rattle.std.proofs.lemmas.Bool.{cases_lt}
+use Rattle.std.proofs.lemmas.Option.{same_Some}
+use Rattle.std.specs.List.{AllZip}
+use Rattle.std.specs.Option.{option_or}
+use Rattle.nextest_elements.specs.declared.run_mode.NextestRunMode.{NextestRunMode}
+use Rattle.nextest_rules.specs.Rules.{OverrideUse, RuleId, ScriptRuleUse}
+use Rattle.nextest_settings.proofs.StandsFirst.{find-least, find-none}
+use Rattle.nextest_settings.specs.Deciding.{QueryContext, StandsFirst, decides, rule_holds}
+use Rattle.nextest_settings.specs.Platforms.{EvaluatedRule}
+use Rattle.nextest_settings.specs.Queries.{Origin, by_override, deciding_override, fallback_origin, origin_by}
+use Rattle.nextest_settings.specs.Settings.{index_of, is_set, settings}
+use Rattle.nextest_settings.specs.declared.setting.Setting.{Setting}
+use Rattle.nextest_settings.specs.declared.setting.Setting.TheVariants as at
+use Rattle.rinqebo_rules.specs.Passed.{HasNoId, IsPassed, IsRuledOut, IsWritten}
+
+second : (a b : Bool) → (a && b) ≡ true → b ≡ true
+second true b h = h
+second false b h = absurd cc
+
+first_fails : (a b : Bool) → (a && b) ≡ false → b ≡ true → a ≡ false
+first_fails true b h is = absurd cc
+first_fails false b h is = refl
+
+and_false : (a : Bool) → (a && false) ≡ false
+and_false true = refl
+and_false false = refl
+
+-- what holds of two lists holds of what they have at a place
+zip_at : {A B : Type 0} (R : A → B → Type 0) (xs : List A) (ys : List B) (k : ℕ) (x : A) (y : B) → AllZip R xs ys
+    → slice_get xs k ≡ Some x → slice_get ys k ≡ Some y → R x y
+zip_at R [] ys k x y all here there = absurd cc
+zip_at R (a ∷ xs) [] k x y all here there = absurd all
+zip_at R (a ∷ xs) (b ∷ ys) zero x y all here there =
+    let e : a ≡ x = cc in
+    let f : b ≡ y = cc in
+    subst (R x) f (subst (λ one. R one b) e all.0)
+zip_at R (a ∷ xs) (b ∷ ys) (suc k) x y all here there = zip_at R xs ys k x y all.1 here there
+
+-- an origin is not that of an override
+abbrev pub IsOfNoOverride : Option Origin → Type 0
+IsOfNoOverride (Some (by_override id)) = ⊥
+IsOfNoOverride _ = Unit {0}
+
+-- one override more has not an id
+pub none_more : {M : Type 0} (id : RuleId) (k : ℕ) (rules : List (EvaluatedRule M (OverrideUse M)))
+    (rule : EvaluatedRule M (OverrideUse M)) → slice_get rules k ≡ Some rule → rule.writes.id ≢ id
+    → HasNoId id k rules → HasNoId id (k + 1) rules
+none_more id k rules rule here differs before n other below stands same =
+    elim (cases_lt n k) [
+      | inl early ↦ before n other early stands same
+      | inr late ↦
+          let at : n ≡ k = omega arith in
+          let is : rule ≡ other = same_Some rule other (sym here ∙ ap (slice_get rules) (sym at) ∙ stands) in
+          differs (ap (λ r. r.writes.id) is ∙ same)
+    ]
+
+module _ {M : Type 0} (query : QueryContext M) (mode : NextestRunMode)
+    (rules : List (EvaluatedRule M (OverrideUse M))) (scripts : List (EvaluatedRule M ScriptRuleUse)) where
+  abbrev wants : Setting → OverrideUse M → Bool
+  wants s w = is_set w.settings mode s
+
+  -- an override that decides stands behind those that have not its id
+  passed_by : (s : Setting) (id : RuleId) (count : ℕ) (found : Option (EvaluatedRule M (OverrideUse M)))
+      → deciding_override query mode rules s ≡ found
+      → IfSome found (StandsFirst (decides query (wants s)) rules)
+      → IfSome found (λ r. r.writes.id ≡ id) → HasNoId id count rules → IsPassed query mode rules s count
+  passed_by s id count None is first decided absent n rule below stands =
+      find-none (decides query (wants s)) rules n rule is stands
+  passed_by s id count (Some r) is first decided absent n rule below stands =
+      let late : count ≤ first.0 = elim (cases_lt first.0 count) [
+        | inl early ↦ absurd (absent first.0 r early first.1 decided)
+        | inr late ↦ late
+      ] in
+      first.3 n rule (lt_of_lt_of_le below late) stands
+
+  -- what an origin says of the override that decides
+  decided_by : (s : Setting) (id : RuleId) (found : Option (EvaluatedRule M (OverrideUse M)))
+      → option_or (option_map (λ r. by_override r.writes.id) found) (fallback_origin s) ≡ Some (by_override id)
+      → IfSome found (λ r. r.writes.id ≡ id)
+  decided_by s id None is = tt
+  decided_by s id (Some r) is = cc
+
+  none_wraps : (found : Option (EvaluatedRule M (OverrideUse M))) (P : EvaluatedRule M (OverrideUse M) → Type 0)
+      → IfSome found (StandsFirst (decides query (wants at.RunWrapper)) rules) → IfSome found P
+  none_wraps None P first = tt
+  none_wraps (Some r) P first =
+      let bad : false ≡ true = second (rule_holds query r) false first.2 in absurd cc
+
+  pub decided_of : (s : Setting) (id : RuleId) → origin_by query mode rules scripts s ≡ Some (by_override id)
+      → IfSome (deciding_override query mode rules s) (λ r. r.writes.id ≡ id)
+  decided_of at.RunWrapper id is =
+      none_wraps (deciding_override query mode rules at.RunWrapper) (λ r. r.writes.id ≡ id)
+      (find-least (decides query (wants at.RunWrapper)) rules)
+  decided_of s id is = decided_by s id (deciding_override query mode rules s) is
+
+  -- an override decides a setting: those before the first one of its id do not
+  pub passed_before : (s : Setting) (id : RuleId) (count : ℕ)
+      → origin_by query mode rules scripts s ≡ Some (by_override id) → HasNoId id count rules
+      → IsPassed query mode rules s count
+  passed_before s id count is absent =
+      passed_by s id count (deciding_override query mode rules s) refl
+      (find-least (decides query (wants s)) rules) (decided_of s id is) absent
+
+  none_by : (s : Setting) (count : ℕ) (found : Option (EvaluatedRule M (OverrideUse M))) (origin : Option Origin)
+      → deciding_override query mode rules s ≡ found
+      → option_or (option_map (λ r. by_override r.writes.id) found) (fallback_origin s) ≡ origin
+      → IsOfNoOverride origin → IsPassed query mode rules s count
+  none_by s count None origin none is no n rule below stands =
+      find-none (decides query (wants s)) rules n rule none stands
+  none_by s count (Some r) origin none is no = absurd (subst IsOfNoOverride (sym is) no)
+
+  -- no override decides a setting
+  pub passed_all : (s : Setting) (count : ℕ) (origin : Option Origin)
+      → origin_by query mode rules scripts s ≡ origin → IsOfNoOverride origin
+      → IsPassed query mode rules s count
+  passed_all at.RunWrapper count origin is no n rule below stands = and_false (rule_holds query rule)
+  passed_all s count origin is no = none_by s count (deciding_override query mode rules s) origin refl is no
+
+  -- where each setting is in the order of all
+  at_place : (s : Setting) → slice_get settings (index_of s) ≡ Some s
+  unfolding settings
+  at_place at.Priority = refl
+  at_place at.ThreadsRequired = refl
+  at_place at.RunWrapper = refl
+  at_place at.RunExtraArgs = refl
+  at_place at.Retries = refl
+  at_place at.FlakyResult = refl
+  at_place at.SlowTimeout = refl
+  at_place at.LeakTimeout = refl
+  at_place at.TestGroup = refl
+  at_place at.SuccessOutput = refl
+  at_place at.FailureOutput = refl
+  at_place at.JunitStoreSuccessOutput = refl
+  at_place at.JunitStoreFailureOutput = refl
+  at_place at.JunitReportSkipped = refl
+  at_place at.JunitFlakyFailStatus = refl
+
+  -- an override that is ruled out does not hold
+  pub ruled_out : (written : Option Setting) (number : ℕ) (passed : List ℕ) (rule : EvaluatedRule M (OverrideUse M))
+      → slice_get rules number ≡ Some rule → IsWritten mode rule written
+      → AllZip (IsPassed query mode rules) settings passed → IsRuledOut written number passed
+      → rule_holds query rule ≡ false
+  ruled_out written number passed rule stands writes all out =
+      let s = out.setting in
+      let is : is_set rule.writes.settings mode s ≡ true = subst (λ w. IsWritten mode rule w) out.is writes in
+      let passes : IsPassed query mode rules s out.count =
+      zip_at (IsPassed query mode rules) settings passed (index_of s) s out.count all (at_place s) out.passes in
+      first_fails (rule_holds query rule) (is_set rule.writes.settings mode s)
+      (passes number rule out.below stands) is
