@@ -18,4 +18,5 @@ pub mod PositionWalk
 mod Examples
 pub mod Reopened
 pub mod Climbing
-pub mod Standing
+pub mod Leading
+pub mod Marks

@@ -7,7 +7,7 @@ use Rattle.nextest_places.specs.Place.{IsPlaceOfPath}
 use Rattle.nextest_places.specs.declared.place.Lines.{Lines}
 use Rattle.nextest_places.specs.declared.step.Step.{Step}
 use Rattle.nextest_places.specs.declared.step.Step.TheVariants as steps
-use Rattle.nextest_spans.specs.Nodes.{ReadsAs}
+use Rattle.nextest_spans.specs.Nodes.{ReadsAs, joined, nodes_of}
 use Rattle.nextest_spans.specs.Tree.{AreItems}
 use Rattle.nextest_spans.specs.declared.item.Item.{Item}
 use Rattle.nextest_spans.specs.declared.item.Role.{Role}
@@ -92,15 +92,44 @@ abbrev pub ReadsAsNode : List ℕ → Item → Option Data → Type 0
 ReadsAsNode text item found =
     (node : Data) × (found ≡ Some node) × (is_key item.role ≡ false) × ReadsAs text item node
 
--- there is a node, and a value at the path has bytes that read as it
-abbrev pub IsValueOfNode : List ℕ → List Item → List Step → Lines → Option Data → Span → Type 0
-IsValueOfNode text items path lines found span =
-    (node : Data) × (found ≡ Some node) × IsValueOf text items path lines node span
+-- the text is a document, in which an item leads to a node that its bytes read as
+pub record IsReadable (text : List ℕ) (items : List Item) (index : ℕ) (item : Item) : Type 0 where
+  pub root : Data
+  pub node : Data
+  pub is : IsDocumentOf text root
+  pub leads : slice_get (nodes_of root items) index ≡ Some (Some node)
+  pub sort : is_key item.role ≡ false
+  pub reads : ReadsAs text item node
+
+-- each item that is marked is a value whose bytes read as its node
+abbrev pub AreMarked : List ℕ → List Item → List (Option Data) → List Bool → Type 0
+AreMarked text items nodes marks = (i : ℕ) (item : Item) → slice_get marks i ≡ Some true
+    → slice_get items i ≡ Some item → ReadsAsNode text item (joined (slice_get nodes i))
+
+-- an item is marked only if its bytes read as the value there in the document that the text is
+abbrev pub AreReadable : List ℕ → List Item → List Bool → Type 0
+AreReadable text items marks = (i : ℕ) (item : Item) → slice_get marks i ≡ Some true
+    → slice_get items i ≡ Some item → IsReadable text items i item
+
+-- nothing is marked: the marks are right for any items of any text
+abbrev pub IsUnmarked : List Bool → Type 0
+IsUnmarked marks = (text : List ℕ) (items : List Item) → AreReadable text items marks
+
+-- a marked item is at the path, in these lines of the text
+pub record IsMarkedAt (text : List ℕ) (items : List Item) (marks : List Bool) (path : List Step)
+    (lines : Lines) (span : Span) : Type 0 where
+  pub index : ℕ
+  pub item : Item
+  pub marked : slice_get marks index ≡ Some true
+  pub among : slice_get items index ≡ Some item
+  pub leads : IsAtPath items item (map path_step path)
+  pub span_is : span ≡ item.span
+  pub on_lines : IsOnLines text lines span
 
 -- what is kept of a text
-pub record IsKept (text lines : List ℕ) (items : List Item) (root : Option Data) (places : List ℕ)
+pub record IsKept (text lines : List ℕ) (items : List Item) (marks : List Bool) (places : List ℕ)
     : Type 0 where
   pub are : AreItems text items
-  pub document : IfSome root (IsDocumentOf text)
+  pub readable : AreReadable text items marks
   pub same_lines : lines ≡ text
   pub same : places ≡ text

@@ -1,20 +1,20 @@
 //! Paths of a text with their lines and bytes.
-ghost use Rattle.std.specs.Prelude.{◌≡◌, ◌≤◌, ◌+◌, ◌^◌, ◌<◌, List, ℕ, length, None, Some, IfOk, IfSome, MatchOption};
+ghost use Rattle.std.specs.Prelude.{◌≡◌, ◌≤◌, ◌+◌, ◌^◌, ◌<◌, List, ℕ, length, true, slice_get, None, Some, IfOk, IfSome, MatchOption};
 ghost use Rattle.std.specs.Bool.{OnTrue};
 ghost use Rattle.std.specs.Str.{IsCharBoundary};
 ghost use Rattle.toml.specs.View.{view};
 ghost use Rattle.nextest_documents.specs.Text.{tree_of};
 ghost use Rattle.nextest_tree.specs.View.{tree_view};
-ghost use Rattle.nextest_spans.specs.Nodes.{node_view};
+ghost use Rattle.nextest_spans.specs.Nodes.{joined, node_view, nodes_view};
 ghost use Rattle.nextest_places.specs.Place.{HasNoPlace};
 ghost use Rattle.nextest_spans.specs.Positions.{position_of};
 ghost use Rattle.nextest_spans.specs.declared.position.ColumnUnit.TheVariants.{Char};
-ghost use Rattle.nextest_spans.specs.Spans.{IsDocumentOf, IsKept, IsKeyOf, IsPathSpan, IsValueOfNode, ReadsAsNode, StandsAt, data_at, data_into};
+ghost use Rattle.nextest_spans.specs.Spans.{AreMarked, AreReadable, IsDocumentOf, IsKept, IsKeyOf, IsMarkedAt, IsPathSpan, IsUnmarked, ReadsAsNode};
 ghost use Rattle.nextest_spans.specs.Spans as spec;
 
 use crate::path::is_at;
 use crate::path_lines::is_on_lines;
-use crate::{ColumnUnit, Item, LineIndex, Role, Span, TextPosition, items_of, reads_as};
+use crate::{ColumnUnit, Item, LineIndex, Role, Span, TextPosition, items_of, nodes_of, reads_as};
 use nextest_places::{Lines, Places, Step};
 use nextest_tree::Tree;
 use std::alloc::{AllocError, Global};
@@ -38,21 +38,18 @@ pub struct PathSpans<'a> {
     text: &'a str,
     lines: LineIndex<'a>,
     items: Vec<Item>,
-    /// The document that the text is, if it is one and was read.
-    root: Option<Value>,
+    /// Of each item, whether it is a value whose bytes read as the value there in the document.
+    readable: Vec<bool>,
     places: Places<'a>,
 }
 
 impl<'a> Model for PathSpans<'a> {
-    ghost use Rattle.std.specs.Prelude.{option_map};
-    ghost use Rattle.toml.specs.View.{view as value_view};
-
     ghost Value = { List ℕ };
 
     ghost view = { λ spans. spans.text.now };
 
-    ghost invariant = { λ spans. IsKept spans.text.now spans.lines spans.items.items
-        (option_map value_view spans.root) spans.places };
+    ghost invariant = { λ spans.
+        IsKept spans.text.now spans.lines spans.items.items spans.readable.items spans.places };
 }
 
 impl<'a> PathSpans<'a> {
@@ -65,7 +62,7 @@ impl<'a> PathSpans<'a> {
     {
         let places = Places::of(alloc, text)?;
         match document_of(alloc, text)? {
-            Some(root) => PathSpans::of_document(alloc, text, places, root),
+            Some(root) => PathSpans::of_document(alloc, text, places, &root),
             None => PathSpans::of_fronts(alloc, text, places),
         }
     }
@@ -78,19 +75,20 @@ impl<'a> PathSpans<'a> {
         alloc: Global,
         text: &'a str,
         places: Places<'a>,
-        root: Value,
+        root: &Value,
     ) -> Result<PathSpans<'a>, AllocError>
         requires places { places ≡ text.now }
-        requires root { IsDocumentOf text.now (view root) }
+        requires root { IsDocumentOf text.now (view root.now) }
         ensures { IfOk result (λ spans. spans ≡ text.now) }
     {
         let lines = LineIndex::of(alloc, text)?;
         let items = items_of(alloc, text)?;
+        let readable = readable_of(alloc, text, &items, root)?;
         Ok(PathSpans {
             text,
             lines,
             items,
-            root: Some(root),
+            readable,
             places,
         })
     }
@@ -114,7 +112,7 @@ impl<'a> PathSpans<'a> {
             text,
             lines,
             items,
-            root: None,
+            readable: no_marks(alloc),
             places,
         })
     }
@@ -127,38 +125,25 @@ impl<'a> PathSpans<'a> {
         self.places.document()
     }
 
-    /// The value at a path of the document, if the text is one.
-    fn node(&self, path: &[Step]) -> Option<&Value>
-        ensures { IfSome result (λ node. StandsAt path.now self.now (view node.now)) }
+    /// The lines that define the value at a path, and on them the bytes of its key and its value.
+    #[tactic(auto, using(crate::proofs::Marks::value_of))]
+    pub fn at(&self, path: &[Step]) -> Option<PathSpan>
+        ensures { MatchOption result (HasNoPlace path.now self.now)
+            (IsPathSpan path.now self.now) }
     {
-        node_in(self.root.as_ref()?, path)
-    }
-
-    /// The lines that define the value at a path, and on them the bytes of its key and its value. The
-    /// bytes of the value are read once more.
-    ///
-    /// # Errors
-    /// Memory was refused.
-    #[tactic(auto, using(crate::proofs::Standing::value_of))]
-    pub fn at(&self, alloc: Global, path: &[Step]) -> Result<Option<PathSpan>, AllocError>
-        ensures { IfOk result (λ found. MatchOption found (HasNoPlace path.now self.now)
-            (IsPathSpan path.now self.now)) }
-    {
-        let Some(lines) = self.places.lines_at(path) else {
-            return Ok(None);
-        };
-        let node = self.node(path);
-        let key = key_at(self.text, &self.lines, &self.items, path, lines);
-        let value = value_at(
-            alloc,
-            self.text,
-            &self.lines,
-            &self.items,
-            node,
-            path,
+        let lines = self.places.lines_at(path)?;
+        Some(PathSpan {
             lines,
-        )?;
-        Ok(Some(PathSpan { lines, key, value }))
+            key: key_at(self.text, &self.lines, &self.items, path, lines),
+            value: value_at(
+                self.text,
+                &self.lines,
+                &self.items,
+                &self.readable,
+                path,
+                lines,
+            ),
+        })
     }
 
     /// The position of a byte of the text, with columns in characters.
@@ -230,54 +215,90 @@ fn key_at(
     None
 }
 
-/// The first value on some lines at a path whose bytes read as a node.
+/// The first marked item on some lines at a path.
 fn value_at(
-    alloc: Global,
     text: &str,
     index: &LineIndex,
     items: &[Item],
-    node: Option<&Value>,
+    marks: &[bool],
     path: &[Step],
     lines: Lines,
-) -> Result<Option<Span>, AllocError>
+) -> Option<Span>
     requires { index.now ≡ text.now }
-    ensures { IfOk result (λ found. IfSome found
-        (IsValueOfNode text.now items.now path.now lines (node_view node.entry))) }
+    ensures { IfSome result (IsMarkedAt text.now items.now marks.now path.now lines) }
 {
     let behind = count_before(index, items, lines.last);
     for place in count_before(index, items, lines.first.saturating_sub(1))..behind {
-        let Some(item) = items.get(place) else {
-            return Ok(None);
-        };
-        if is_at(items, item, path)
+        let item = items.get(place)?;
+        if is_marked(marks, place)
+            && is_at(items, item, path)
             && is_on_lines(text, index, lines, item.span)
-            && reads_as_node(alloc, text, item, node)?
         {
-            return Ok(Some(item.span));
+            return Some(item.span);
         }
     }
-    Ok(None)
+    None
 }
 
-/// What a step leads to.
-fn step_into<'d>(node: &'d Value, step: &Step) -> Option<&'d Value>
-    ensures { node_view result ≡ data_into step.now (view node.now) }
+/// Whether an item is marked.
+fn is_marked(marks: &[bool], place: usize) -> bool
+    ensures { OnTrue result (slice_get marks.now place ≡ Some true) }
 {
-    match step {
-        Step::Key(key) => node.get(*key),
-        Step::Position(position) => node.get(*position),
+    match marks.get(place) {
+        Some(mark) => *mark,
+        None => false,
     }
 }
 
-/// The value at a path of a document, if it has one there.
-fn node_in<'d>(root: &'d Value, path: &[Step]) -> Option<&'d Value>
-    ensures { node_view result ≡ data_at path.now (view root.now) }
+/// Of each item of a text, whether it is a value whose bytes read as the value there in the
+/// document that the text is.
+#[tactic(auto, using(crate::proofs::Marks::readable))]
+fn readable_of(
+    alloc: Global,
+    text: &str,
+    items: &[Item],
+    root: &Value,
+) -> Result<Vec<bool>, AllocError>
+    requires { IsDocumentOf text.now (view root.now) }
+    ensures { IfOk result (λ marks. AreReadable text.now items.now marks.items) }
 {
-    let mut node = root;
-    for step in path {
-        node = step_into(node, step)?;
+    let nodes = nodes_of(alloc, root, items)?;
+    marks_of(alloc, text, items, &nodes)
+}
+
+/// No marks: nothing is known of the items of a text.
+#[tactic(auto, using(crate::proofs::Marks::none_readable))]
+fn no_marks(alloc: Global) -> Vec<bool>
+    ensures { IsUnmarked result.items }
+{
+    Vec::new(alloc)
+}
+
+/// Of each item, whether it is a value whose bytes read as its node.
+fn marks_of(
+    alloc: Global,
+    text: &str,
+    items: &[Item],
+    nodes: &[Option<&Value>],
+) -> Result<Vec<bool>, AllocError>
+    ensures { IfOk result (λ marks.
+        AreMarked text.now items.now (nodes_view nodes.now) marks.items) }
+{
+    let mut marks = Vec::new(alloc);
+    for (place, item) in items.iter().enumerate() {
+        marks.push(reads_as_node(alloc, text, item, node_at(nodes, place))?)?;
     }
-    Some(node)
+    Ok(marks)
+}
+
+/// The node at a place, if there is one.
+fn node_at<'d>(nodes: &[Option<&'d Value>], place: usize) -> Option<&'d Value>
+    ensures { node_view result ≡ joined (slice_get (nodes_view nodes.now) place) }
+{
+    match nodes.get(place) {
+        None => None,
+        Some(node) => *node,
+    }
 }
 
 /// Whether an item is a value whose bytes read as a node.

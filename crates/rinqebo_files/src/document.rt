@@ -49,11 +49,11 @@ fn document_of(alloc: Global, text: &str) -> Result<Result<Value, NoDocument>, A
 /// Returns where the paths and values of a document are written in its text. The text is not parsed
 /// again.
 #[tactic(auto, using(crate::proofs::Documents::tree_is))]
-fn spans_of<'t>(alloc: Global, text: &'t str, root: Value) -> Result<PathSpans<'t>, AllocError>
-    requires { IsDocumentOf text.now (view root) }
+fn spans_of<'t>(alloc: Global, text: &'t str, root: &Value) -> Result<PathSpans<'t>, AllocError>
+    requires { IsDocumentOf text.now (view root.now) }
     ensures { IfOk result (λ spans. spans ≡ text.now) }
 {
-    let tree = Tree::from_toml(alloc, &root)?;
+    let tree = Tree::from_toml(alloc, root)?;
     let places = Places::of_document(alloc, text, tree)?;
     PathSpans::of_document(alloc, text, places, root)
 }
@@ -67,7 +67,7 @@ fn spans_in<'t>(
     ensures { IfOk result (λ read. read.0 ≡ text.now) }
 {
     match document_of(alloc, text)? {
-        Ok(root) => Ok((spans_of(alloc, text, root)?, None)),
+        Ok(root) => Ok((spans_of(alloc, text, &root)?, None)),
         Err(fault) => {
             let places = Places::of(alloc, text)?;
             Ok((PathSpans::of_fronts(alloc, text, places)?, Some(fault)))

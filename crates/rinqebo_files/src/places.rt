@@ -1,5 +1,5 @@
 //! The places of the values at paths of files.
-ghost use Rattle.std.specs.Prelude.{◌≡◌, ◌+◌, ◌^◌, ◌<◌, IfOk, Some};
+ghost use Rattle.std.specs.Prelude.{◌≡◌, ◌+◌, ◌^◌, ◌<◌, Some};
 ghost use Rattle.std.specs.Str.{IsCharBoundary};
 ghost use Rattle.rinqebo_files.specs.Origins.{IsPartPlace, IsPathPlace, IsPlaceIn, part_span, range_of};
 
@@ -7,7 +7,6 @@ use crate::layers::Layer;
 use nextest_places::Step;
 use nextest_spans::{PathSpan, PathSpans, Span};
 use rinqebo_report::{FileLines, FilePlace, Position, Range};
-use std::alloc::{AllocError, Global};
 
 /// What the range of a place is of.
 #[derive(Clone, Copy)]
@@ -57,17 +56,11 @@ fn range_of(spans: &PathSpans, span: Span) -> Range
 
 /// The place of the value at a path of a text, or of its key, in a source.
 #[tactic(auto, using(crate::proofs::Ranges::part_is_whole))]
-fn place_of_part(
-    alloc: Global,
-    spans: &PathSpans,
-    source: usize,
-    path: &[Step],
-    part: SpanPart,
-) -> Result<FilePlace, AllocError>
-    ensures { IfOk result (IsPlaceIn part (Some spans.now) source path.now) }
+fn place_of_part(spans: &PathSpans, source: usize, path: &[Step], part: SpanPart) -> FilePlace
+    ensures { IsPlaceIn part (Some spans.now) source path.now result }
 {
-    let Some(found) = spans.at(alloc, path)? else {
-        return Ok(FilePlace::in_source(source));
+    let Some(found) = spans.at(path) else {
+        return FilePlace::in_source(source);
     };
     let lines = FileLines {
         first: found.lines.first as u64,
@@ -77,55 +70,37 @@ fn place_of_part(
         Some(span) => Some(range_of(spans, span)),
         None => None,
     };
-    Ok(FilePlace {
+    FilePlace {
         source,
         lines: Some(lines),
         range,
-    })
-}
-
-/// The place of the value at a path of a layer, or of its key, in a source.
-fn place_in(
-    alloc: Global,
-    layer: &Layer,
-    source: usize,
-    path: &[Step],
-    part: SpanPart,
-) -> Result<FilePlace, AllocError>
-    ensures { IfOk result (IsPlaceIn part layer.now.places source path.now) }
-{
-    match &layer.places {
-        Some(spans) => place_of_part(alloc, spans, source, path, part),
-        None => Ok(FilePlace::in_source(source)),
     }
 }
 
-/// The place of the value at a path, or of its key, in the layer at a position. The bytes of the
-/// value are read once more.
-pub fn part_place(
-    alloc: Global,
-    layers: &[Layer],
-    source: usize,
-    path: &[Step],
-    part: SpanPart,
-) -> Result<FilePlace, AllocError>
-    ensures { IfOk result (IsPartPlace part layers.now source path.now) }
+/// The place of the value at a path of a layer, or of its key, in a source.
+fn place_in(layer: &Layer, source: usize, path: &[Step], part: SpanPart) -> FilePlace
+    ensures { IsPlaceIn part layer.now.places source path.now result }
+{
+    match &layer.places {
+        Some(spans) => place_of_part(spans, source, path, part),
+        None => FilePlace::in_source(source),
+    }
+}
+
+/// The place of the value at a path, or of its key, in the layer at a position.
+pub fn part_place(layers: &[Layer], source: usize, path: &[Step], part: SpanPart) -> FilePlace
+    ensures { IsPartPlace part layers.now source path.now result }
 {
     match layers.get(source) {
-        Some(layer) => place_in(alloc, layer, source, path, part),
-        None => Ok(FilePlace::in_source(source)),
+        Some(layer) => place_in(layer, source, path, part),
+        None => FilePlace::in_source(source),
     }
 }
 
 /// The place of the value at a path in the layer at a position. Its range is the value's, or else
 /// the key's.
-pub fn path_place(
-    alloc: Global,
-    layers: &[Layer],
-    source: usize,
-    path: &[Step],
-) -> Result<FilePlace, AllocError>
-    ensures { IfOk result (IsPathPlace layers.now source path.now) }
+pub fn path_place(layers: &[Layer], source: usize, path: &[Step]) -> FilePlace
+    ensures { IsPathPlace layers.now source path.now result }
 {
-    part_place(alloc, layers, source, path, SpanPart::Value)
+    part_place(layers, source, path, SpanPart::Value)
 }

@@ -10,18 +10,14 @@ use rinqebo_report::{FileLines, FilePlace, Finding, Range, Sign};
 use std::alloc::{AllocError, Global};
 
 /// The range of a key and its value, in the source at a position.
-fn entry_range(
-    refused: &Refused<'_, '_>,
-    source: usize,
-    path: &[Step<'_>],
-) -> Result<Option<Range>, AllocError> {
-    let (alloc, layers) = (refused.alloc, refused.source.layers);
-    let key = part_place(alloc, layers, source, path, SpanPart::Key)?.range;
-    let value = part_place(alloc, layers, source, path, SpanPart::Value)?.range;
-    match (key, value) {
-        (Some(Range { start, .. }), Some(Range { end, .. })) => Ok(Some(Range { start, end })),
-        _ => Ok(None),
-    }
+fn entry_range(refused: &Refused<'_, '_>, source: usize, path: &[Step<'_>]) -> Option<Range> {
+    let layers = refused.source.layers;
+    let key = part_place(layers, source, path, SpanPart::Key).range?;
+    let value = part_place(layers, source, path, SpanPart::Value).range?;
+    Some(Range {
+        start: key.start,
+        end: value.end,
+    })
 }
 
 /// Marks in the order of their starts.
@@ -48,11 +44,11 @@ fn set_lines(
         return Ok(());
     };
     let source = place.source;
-    let Some(range) = entry_range(refused, source, fault)? else {
+    let Some(range) = entry_range(refused, source, fault) else {
         return Ok(());
     };
     place.range = Some(range);
-    let (Some(other), Some(text)) = (entry_range(refused, source, related)?, refused.text) else {
+    let (Some(other), Some(text)) = (entry_range(refused, source, related), refused.text) else {
         return Ok(());
     };
     if refused.source.position == Some(source) {
@@ -75,10 +71,10 @@ fn text_of<'r>(refused: &Refused<'r, '_>, path: &[Step<'_>]) -> Option<&'r str> 
 }
 
 /// Whether the refused source writes a path.
-fn writes(refused: &Refused<'_, '_>, path: &[Step<'_>]) -> Result<bool, AllocError> {
+fn writes(refused: &Refused<'_, '_>, path: &[Step<'_>]) -> bool {
     match refused.source.spans() {
-        Some(spans) => Ok(spans.at(refused.alloc, path)?.is_some()),
-        None => Ok(false),
+        Some(spans) => spans.at(path).is_some(),
+        None => false,
     }
 }
 
@@ -126,7 +122,7 @@ pub fn add_delays(refused: &mut Refused<'_, '_>, path: &[Step<'_>]) -> Result<()
         return refused.add_at(code, path, "`max-delay` is shorter than `delay`", None);
     };
     let wrong = format!(in alloc; "`max-delay` ({most}) is shorter than `delay` ({least})")?;
-    let has_longest = writes(refused, &longest)?;
+    let has_longest = writes(refused, &longest);
     let fault = if has_longest { &longest } else { &first };
     let related = if has_longest { &first } else { &longest };
     let other = if has_longest { "delay" } else { "max-delay" };

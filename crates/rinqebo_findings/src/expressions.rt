@@ -6,7 +6,7 @@ use nextest_config::{
     ConfigCompileError, ConfigCompileErrorKind, ConfigCompileSection, Refusal, Tree,
 };
 use nextest_places::Step;
-use nextest_spans::{PathSpan, offsets_of};
+use nextest_spans::offsets_of;
 use rinqebo_codes::Code;
 use rinqebo_files::{host_text, profile_table, rule_table, target_text, text_at};
 use rinqebo_report::{CharSpan, FilePlace, Position, Range as ReportRange, RefusedExpression};
@@ -78,22 +78,9 @@ fn range_in(
 }
 
 /// Returns the token of the value at a path of the refused source, if its text has one.
-fn token_at<'r>(
-    refused: &Refused<'r, '_>,
-    path: &[Step<'_>],
-) -> Result<Option<&'r str>, AllocError> {
-    let (Some(spans), Some(text)) = (refused.source.spans(), refused.text) else {
-        return Ok(None);
-    };
-    match spans.at(refused.alloc, path)? {
-        Some(
-            PathSpan {
-                value: Some(value),
-                ..
-            },
-        ) => Ok(text.get(value.start..value.end)),
-        _ => Ok(None),
-    }
+fn token_at<'r>(refused: &Refused<'r, '_>, path: &[Step<'_>]) -> Option<&'r str> {
+    let value = refused.source.spans()?.at(path)?.value?;
+    refused.text?.get(value.start..value.end)
 }
 
 /// Returns the range in the file of the part of a text at a path that is at fault, if the refused
@@ -114,7 +101,7 @@ fn fault_range(
         ),
         Some(span),
         Some(token),
-    ) = (place, span, token_at(refused, path)?)
+    ) = (place, span, token_at(refused, path))
     else {
         return Ok(None);
     };

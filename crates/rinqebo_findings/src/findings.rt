@@ -41,16 +41,8 @@ impl<'l, 't> SourceAt<'l, 't> {
     }
 
     /// The place of the value at a path of the source, or of its key.
-    fn place_at(
-        self,
-        alloc: Global,
-        path: &[Step<'_>],
-        part: SpanPart,
-    ) -> Result<Option<FilePlace>, AllocError> {
-        match self.position {
-            Some(position) => Ok(Some(part_place(alloc, self.layers, position, path, part)?)),
-            None => Ok(None),
-        }
+    fn place_at(self, path: &[Step<'_>], part: SpanPart) -> Option<FilePlace> {
+        Some(part_place(self.layers, self.position?, path, part))
     }
 }
 
@@ -131,7 +123,7 @@ pub fn finding_at(
     message: String,
 ) -> Result<Finding, AllocError> {
     let mut found = finding(alloc, level, label, source, message)?;
-    found.place = source.place_at(alloc, path, part)?;
+    found.place = source.place_at(path, part);
     found.path = Some(path_text(alloc, path)?);
     Ok(found)
 }

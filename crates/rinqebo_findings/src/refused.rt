@@ -51,7 +51,7 @@ impl Refused<'_, '_> {
         let label = self.label(code);
         let mut found = finding_at(alloc, level, label, self.source, path, part, message)?;
         if let Some(FilePlace { lines: None, .. }) = found.place {
-            if let Some(place) = highest_place(alloc, self.source.layers, path, part)? {
+            if let Some(place) = highest_place(self.source.layers, path, part) {
                 found.place = Some(place);
             }
         }
@@ -103,17 +103,12 @@ impl Refused<'_, '_> {
 }
 
 /// The place of the value at a path, or of its key, in the highest layer that writes it.
-fn highest_place(
-    alloc: Global,
-    layers: &[Layer],
-    path: &[Step<'_>],
-    part: SpanPart,
-) -> Result<Option<FilePlace>, AllocError> {
+fn highest_place(layers: &[Layer], path: &[Step<'_>], part: SpanPart) -> Option<FilePlace> {
     for (source, _layer) in layers.iter().enumerate().rev() {
-        let place = part_place(alloc, layers, source, path, part)?;
+        let place = part_place(layers, source, path, part);
         if place.lines.is_some() {
-            return Ok(Some(place));
+            return Some(place);
         }
     }
-    Ok(None)
+    None
 }

@@ -80,7 +80,7 @@ fn origin_at(
     let table = [Step::Key("profile"), Step::Key(profile)];
     let path = setting_path(alloc, &table, key)?;
     Ok(Origin::Written(Written {
-        place: path_place(alloc, layers, position, &path)?,
+        place: path_place(layers, position, &path),
         profile: String::from_str(alloc, profile)?,
         part: Part::Fields,
     }))

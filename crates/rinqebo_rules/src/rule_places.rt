@@ -126,7 +126,7 @@ impl<'c> RulePlace<'c> {
             return Ok(Origin::BuiltIn);
         };
         Ok(Origin::Written(Written {
-            place: path_place(alloc, layers, position, path)?,
+            place: path_place(layers, position, path),
             profile: String::from_str(alloc, self.profile)?,
             part: self.kind.part(self.index),
         }))

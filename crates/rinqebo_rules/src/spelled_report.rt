@@ -149,7 +149,7 @@ fn origin_of(alloc: Global, layers: &[Layer], leaf: &SpelledLeaf<'_>) -> Result<
         return Ok(Origin::DefaultTable);
     }
     let path = path_of(alloc, leaf)?;
-    let place = path_place(alloc, layers, layer, &path)?;
+    let place = path_place(layers, layer, &path);
     let part = part_at(&leaf.steps);
     placed_origin(alloc, leaf.spot.profile, part, place)
 }

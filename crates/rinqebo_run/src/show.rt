@@ -43,7 +43,7 @@ fn reported_leaf(
         (is_tellable (leaf_view leaf.now).value ≡ false) (ReportsLeaf (leaf_view leaf.now))) }
 {
     let path = steps_of(alloc, leaf)?;
-    let place = path_place(alloc, layers, leaf.layer, &path)?;
+    let place = path_place(layers, leaf.layer, &path);
     reported_entry(alloc, leaf, place)
 }
 

@@ -15,7 +15,7 @@ pub fn shown_at(alloc: Global, path: &str, text: &str) -> Result<String, AllocEr
         steps.push(step_of(word))?;
     }
     let spans = PathSpans::of(alloc, text)?;
-    let Some(found) = spans.at(alloc, &steps)? else {
+    let Some(found) = spans.at(&steps) else {
         return String::from_str(alloc, "none");
     };
     let Lines { first, last } = found.lines;
