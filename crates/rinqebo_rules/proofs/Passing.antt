@@ -1,5 +1,5 @@
 -- Overrides that do not hold for a test, by what decides its settings.
-use Rattle.std.proofs.Common.{◌≡◌, ◌≢◌, ◌∙◌, ◌≤◌, ◌<◌, ◌+◌, ◌&&◌, ◌⊎◌, inl, inr, ap, arith, ℕ, List, Bool, true, false, Option, None, Some, [], ◌∷◌, zero, suc, IfSome, find, slice_get, option_map, refl, sym, subst, lt_of_lt_of_le}
+use Rattle.std.proofs.Common.{◌≡◌, ◌≢◌, ◌∙◌, ◌≤◌, ◌<◌, ◌+◌, ◌&&◌, ◌⊎◌, inl, inr, ap, arith, ℕ, List, Bool, true, false, Option, None, Some, [], ◌∷◌, zero, suc, IfSome, find, slice_get, option_and_then, option_map, refl, sym, subst, lt_of_lt_of_le}
 use Rattle.std.proofs.lemmas.Bool.{cases_lt}
 use Rattle.std.proofs.lemmas.Option.{same_Some}
 use Rattle.std.specs.List.{AllZip}
@@ -7,13 +7,14 @@ use Rattle.std.specs.Option.{option_or}
 use Rattle.nextest_elements.specs.declared.run_mode.NextestRunMode.{NextestRunMode}
 use Rattle.nextest_rules.specs.Rules.{OverrideUse, RuleId, ScriptRuleUse}
 use Rattle.nextest_settings.proofs.StandsFirst.{find-least, find-none}
+use Rattle.nextest_settings.proofs.StandsOnce.{at_place}
 use Rattle.nextest_settings.specs.Deciding.{QueryContext, StandsFirst, decides, rule_holds}
 use Rattle.nextest_settings.specs.Platforms.{EvaluatedRule}
-use Rattle.nextest_settings.specs.Queries.{Origin, by_override, deciding_override, fallback_origin, origin_by}
+use Rattle.nextest_settings.specs.Queries.{Origin, by_override, by_profile, by_script, deciding_override, fallback_origin, origin_by, unwritten}
 use Rattle.nextest_settings.specs.Settings.{index_of, is_set, settings}
 use Rattle.nextest_settings.specs.declared.setting.Setting.{Setting}
 use Rattle.nextest_settings.specs.declared.setting.Setting.TheVariants as at
-use Rattle.rinqebo_rules.specs.Passed.{HasNoId, IsPassed, IsRuledOut, IsWritten}
+use Rattle.rinqebo_rules.specs.Passed.{HasNoId, IsPassed, IsRuledOut, IsWritten, override_in}
 
 second : (a b : Bool) → (a && b) ≡ true → b ≡ true
 second true b h = h
@@ -38,10 +39,13 @@ zip_at R (a ∷ xs) (b ∷ ys) zero x y all here there =
     subst (R x) f (subst (λ one. R one b) e all.0)
 zip_at R (a ∷ xs) (b ∷ ys) (suc k) x y all here there = zip_at R xs ys k x y all.1 here there
 
--- an origin is not that of an override
-abbrev pub IsOfNoOverride : Option Origin → Type 0
-IsOfNoOverride (Some (by_override id)) = ⊥
-IsOfNoOverride _ = Unit {0}
+-- an origin that names an override is that of the override
+named : (origin : Option Origin) (id : RuleId) → override_in origin ≡ Some id → origin ≡ Some (by_override id)
+named None id is = absurd cc
+named (Some unwritten) id is = absurd cc
+named (Some by_profile) id is = absurd cc
+named (Some (by_override other)) id is = ap (λ one. Some (by_override one)) (same_Some other id is)
+named (Some by_script) id is = absurd cc
 
 -- one override more has not an id
 pub none_more : {M : Type 0} (id : RuleId) (k : ℕ) (rules : List (EvaluatedRule M (OverrideUse M)))
@@ -97,55 +101,48 @@ module _ {M : Type 0} (query : QueryContext M) (mode : NextestRunMode)
 
   -- an override decides a setting: those before the first one of its id do not
   pub passed_before : (s : Setting) (id : RuleId) (count : ℕ)
-      → origin_by query mode rules scripts s ≡ Some (by_override id) → HasNoId id count rules
+      → override_in (origin_by query mode rules scripts s) ≡ Some id → HasNoId id count rules
       → IsPassed query mode rules s count
   passed_before s id count is absent =
       passed_by s id count (deciding_override query mode rules s) refl
-      (find-least (decides query (wants s)) rules) (decided_of s id is) absent
+      (find-least (decides query (wants s)) rules)
+      (decided_of s id (named (origin_by query mode rules scripts s) id is)) absent
 
-  none_by : (s : Setting) (count : ℕ) (found : Option (EvaluatedRule M (OverrideUse M))) (origin : Option Origin)
+  none_by : (s : Setting) (count : ℕ) (found : Option (EvaluatedRule M (OverrideUse M)))
       → deciding_override query mode rules s ≡ found
-      → option_or (option_map (λ r. by_override r.writes.id) found) (fallback_origin s) ≡ origin
-      → IsOfNoOverride origin → IsPassed query mode rules s count
-  none_by s count None origin none is no n rule below stands =
+      → override_in (option_or (option_map (λ r. by_override r.writes.id) found) (fallback_origin s)) ≡ None
+      → IsPassed query mode rules s count
+  none_by s count None none no n rule below stands =
       find-none (decides query (wants s)) rules n rule none stands
-  none_by s count (Some r) origin none is no = absurd (subst IsOfNoOverride (sym is) no)
+  none_by s count (Some r) none no = absurd cc
 
   -- no override decides a setting
-  pub passed_all : (s : Setting) (count : ℕ) (origin : Option Origin)
-      → origin_by query mode rules scripts s ≡ origin → IsOfNoOverride origin
+  pub passed_all : (s : Setting) (count : ℕ) → override_in (origin_by query mode rules scripts s) ≡ None
       → IsPassed query mode rules s count
-  passed_all at.RunWrapper count origin is no n rule below stands = and_false (rule_holds query rule)
-  passed_all s count origin is no = none_by s count (deciding_override query mode rules s) origin refl is no
+  passed_all at.RunWrapper count no n rule below stands = and_false (rule_holds query rule)
+  passed_all s count no = none_by s count (deciding_override query mode rules s) refl no
 
-  -- where each setting is in the order of all
-  at_place : (s : Setting) → slice_get settings (index_of s) ≡ Some s
-  unfolding settings
-  at_place at.Priority = refl
-  at_place at.ThreadsRequired = refl
-  at_place at.RunWrapper = refl
-  at_place at.RunExtraArgs = refl
-  at_place at.Retries = refl
-  at_place at.FlakyResult = refl
-  at_place at.SlowTimeout = refl
-  at_place at.LeakTimeout = refl
-  at_place at.TestGroup = refl
-  at_place at.SuccessOutput = refl
-  at_place at.FailureOutput = refl
-  at_place at.JunitStoreSuccessOutput = refl
-  at_place at.JunitStoreFailureOutput = refl
-  at_place at.JunitReportSkipped = refl
-  at_place at.JunitFlakyFailStatus = refl
+-- the setting that an override of a number is known to write
+pub written_of : {M : Type 0} (mode : NextestRunMode) (rules : List (EvaluatedRule M (OverrideUse M)))
+    (written : List (Option Setting)) (n : ℕ) (rule : EvaluatedRule M (OverrideUse M))
+    → AllZip (IsWritten mode) rules written → slice_get rules n ≡ Some rule
+    → IsWritten mode rule (option_and_then (λ s. s) (slice_get written n))
+written_of mode rules written n rule all stands = by_place (slice_get written n) refl where
+  by_place : (found : Option (Option Setting)) → slice_get written n ≡ found
+      → IsWritten mode rule (option_and_then (λ s. s) found)
+  by_place None is = tt
+  by_place (Some here) is = zip_at (IsWritten mode) rules written n rule here all stands is
 
-  -- an override that is ruled out does not hold
-  pub ruled_out : (written : Option Setting) (number : ℕ) (passed : List ℕ) (rule : EvaluatedRule M (OverrideUse M))
-      → slice_get rules number ≡ Some rule → IsWritten mode rule written
-      → AllZip (IsPassed query mode rules) settings passed → IsRuledOut written number passed
-      → rule_holds query rule ≡ false
-  ruled_out written number passed rule stands writes all out =
-      let s = out.setting in
-      let is : is_set rule.writes.settings mode s ≡ true = subst (λ w. IsWritten mode rule w) out.is writes in
-      let passes : IsPassed query mode rules s out.count =
-      zip_at (IsPassed query mode rules) settings passed (index_of s) s out.count all (at_place s) out.passes in
-      first_fails (rule_holds query rule) (is_set rule.writes.settings mode s)
-      (passes number rule out.below stands) is
+-- an override that is ruled out does not hold
+pub ruled_out : {M : Type 0} (query : QueryContext M) (mode : NextestRunMode)
+    (rules : List (EvaluatedRule M (OverrideUse M))) (written : Option Setting) (number : ℕ) (passed : List ℕ)
+    (rule : EvaluatedRule M (OverrideUse M)) → slice_get rules number ≡ Some rule → IsWritten mode rule written
+    → AllZip (IsPassed query mode rules) settings passed → IsRuledOut written number passed
+    → rule_holds query rule ≡ false
+ruled_out query mode rules written number passed rule stands writes all out =
+    let s = out.setting in
+    let is : is_set rule.writes.settings mode s ≡ true = subst (λ w. IsWritten mode rule w) out.is writes in
+    let passes : IsPassed query mode rules s out.count =
+    zip_at (IsPassed query mode rules) settings passed (index_of s) s out.count all (at_place s) out.passes in
+    first_fails (rule_holds query rule) (is_set rule.writes.settings mode s)
+    (passes number rule out.below stands) is

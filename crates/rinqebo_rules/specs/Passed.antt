@@ -1,9 +1,10 @@
 -- Overrides that do not hold for a test, by what decides its settings.
-use Rattle.std.specs.Prelude.{◌≡◌, ◌≢◌, ◌<◌, ℕ, List, false, true, Option, Some, IfSome, slice_get}
+use Rattle.std.specs.Prelude.{◌≡◌, ◌≢◌, ◌<◌, ℕ, List, false, true, Option, None, Some, IfSome, slice_get}
 use Rattle.nextest_elements.specs.declared.run_mode.NextestRunMode.{NextestRunMode}
 use Rattle.nextest_rules.specs.Rules.{OverrideUse, RuleId}
 use Rattle.nextest_settings.specs.Deciding.{QueryContext, decides}
 use Rattle.nextest_settings.specs.Platforms.{EvaluatedRule}
+use Rattle.nextest_settings.specs.Queries.{Origin, by_override}
 use Rattle.nextest_settings.specs.Settings.{index_of, is_set}
 use Rattle.nextest_settings.specs.declared.setting.Setting.{Setting}
 
@@ -11,6 +12,11 @@ use Rattle.nextest_settings.specs.declared.setting.Setting.{Setting}
 abbrev pub HasNoId : {M : Type 0} → RuleId → ℕ → List (EvaluatedRule M (OverrideUse M)) → Type 0
 HasNoId {M} id count rules = (n : ℕ) (rule : EvaluatedRule M (OverrideUse M)) → n < count
     → slice_get rules n ≡ Some rule → rule.writes.id ≢ id
+
+-- the override that an origin names, if it names one
+abbrev pub override_in : Option Origin → Option RuleId
+override_in (Some (by_override id)) = Some id
+override_in _ = None
 
 -- none of the first overrides decides a setting of a test
 abbrev pub IsPassed : {M : Type 0} → QueryContext M → NextestRunMode

@@ -1,13 +1,14 @@
 //! How far the walk over overrides came for each setting of a test.
-ghost use Rattle.std.specs.Prelude.{◌≡◌, ◌↔◌, IfOk, IsTrue, map};
+ghost use Rattle.std.specs.Prelude.{◌≡◌, ◌↔◌, IfOk, IsTrue, map, option_map};
 ghost use Rattle.std.specs.List.{AllZip};
 ghost use Rattle.nextest_profiles.specs.SettingsOf.{AreSettingsOf};
 ghost use Rattle.nextest_rules.specs.View.{id_view};
 ghost use Rattle.nextest_settings.specs.Deciding.{QueryContext};
 ghost use Rattle.nextest_settings.specs.Profile.{EvaluatableModel};
 ghost use Rattle.nextest_settings.specs.Settings.{index_of, settings as all_settings};
+ghost use Rattle.nextest_settings.specs.SettingsView.{origin_at};
 ghost use Rattle.nextest_settings.specs.View.{meant_override};
-ghost use Rattle.rinqebo_rules.specs.Passed.{HasNoId, IsPassed, IsRuledOut, IsWritten};
+ghost use Rattle.rinqebo_rules.specs.Passed.{HasNoId, IsPassed, IsRuledOut, IsWritten, override_in};
 
 use crate::origins::is_same_source;
 use crate::rows::source_of;
@@ -39,9 +40,22 @@ fn before_id<F: Filters, S: Specs>(rules: &[EvaluatedOverride<'_, F, S>], id: &O
     rules.len()
 }
 
+/// The id of the override that decides a setting of a test, if one does.
+fn deciding_id<'c, F: Filters, S: Specs>(
+    settings: &SourcedSettings<'c, F, S>,
+    setting: Setting,
+) -> Option<&'c OverrideId>
+    ensures { option_map (λ id. id_view id.now) result
+        ≡ override_in (origin_at settings.now setting) }
+{
+    match source_of(settings, setting) {
+        Some(SettingSource::Override(rule)) => Some(rule.id()),
+        _ => None,
+    }
+}
+
 /// How many of the first overrides do not decide a setting of a test: those before the one that
 /// does, or all.
-#[tactic(auto, using(crate::proofs::Passing::passed_before, crate::proofs::Passing::passed_all))]
 fn passed_for<'c, F: Filters, S: Specs>(
     rules: &[EvaluatedOverride<'c, F, S>],
     settings: &SourcedSettings<'c, F, S>,
@@ -53,11 +67,9 @@ fn passed_for<'c, F: Filters, S: Specs>(
         → AreSettingsOf F.meaning query mode profile settings.now
         → IsPassed query mode profile.overrides setting result }
 {
-    match source_of(settings, setting) {
-        Some(SettingSource::Override(rule)) => before_id(rules, rule.id()),
-        Some(SettingSource::Default | SettingSource::Profile | SettingSource::Script(_)) | None => {
-            rules.len()
-        }
+    match deciding_id(settings, setting) {
+        Some(id) => before_id(rules, id),
+        None => rules.len(),
     }
 }
 

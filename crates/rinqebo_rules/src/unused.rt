@@ -1,16 +1,16 @@
 //! The rules of a profile that hold for none of the tests of a list.
-ghost use Rattle.std.specs.Prelude.{◌≡◌, ◌++◌, ◌∷◌, [], ◌+◌, ◌<◌, ◌^◌, IfOk, OnOk, List, false, length, map, replicate, slice_get, unwrap_or};
+ghost use Rattle.std.specs.Prelude.{◌≡◌, ◌++◌, ◌∷◌, [], ◌||◌, ◌+◌, ◌<◌, ◌^◌, IfOk, OnOk, List, false, length, map, option_and_then, replicate, slice_get, unwrap_or};
 ghost use Rattle.std.specs.List.{AllZip};
 ghost use Rattle.nextest_engines.specs.Engines.{test_view};
 ghost use Rattle.nextest_profiles.specs.Meaning.{profile_meaning};
 ghost use Rattle.nextest_profiles.specs.SettingsOf.{AreSettingsOf};
 ghost use Rattle.nextest_rules.specs.View.{id_view, script_rule_id_view};
-ghost use Rattle.nextest_settings.specs.Deciding.{QueryContext};
+ghost use Rattle.nextest_settings.specs.Deciding.{QueryContext, rule_holds};
 ghost use Rattle.nextest_settings.specs.Engines.{test_query_by};
 ghost use Rattle.nextest_settings.specs.Queries.{query_in};
 ghost use Rattle.nextest_settings.specs.Settings.{settings as all_settings};
 ghost use Rattle.nextest_settings.specs.View.{meant_override, meant_script_rule};
-ghost use Rattle.rinqebo_rules.specs.Passed.{IsPassed, IsWritten};
+ghost use Rattle.rinqebo_rules.specs.Passed.{IsPassed, IsRuledOut, IsWritten};
 ghost use Rattle.rinqebo_rules.specs.Unused.{AreUsedIn, AreUnusedIn, is_used, unused_among};
 
 use crate::holds::{override_holds, script_rule_holds};
@@ -57,8 +57,35 @@ fn is_marked(used: &[bool], number: usize) -> bool
     used.get(number).copied().unwrap_or(false)
 }
 
-/// Which overrides hold for some of the tests, after one more. An override is evaluated only where
-/// it held for none so far, and what decides the settings of the test leaves open whether it holds.
+/// The setting that the override of a number is known to write, if it writes one.
+fn written_at(written: &[Option<Setting>], number: usize) -> Option<Setting>
+    ensures { result ≡ option_and_then (λ setting. setting) (slice_get written.now number) }
+{
+    written.get(number).copied().flatten()
+}
+
+/// Whether an override holds for some of the tests, after one more. It is evaluated only where it
+/// held for none so far, and what decides the settings of the test leaves open whether it holds.
+fn is_override_used<F: Filters, S: Specs>(
+    rule: &EvaluatedOverride<'_, F, S>,
+    number: usize,
+    held: bool,
+    written: Option<Setting>,
+    passed: &[usize],
+    query: &TestQuery<'_>,
+    cx: &EvalContext<'_, F::Expr>,
+    tally: &mut F::Tally,
+) -> bool
+    ensures { let query = test_query_by F.Filters cx.now.default_filter.now query.now in
+        let rule = meant_override F.meaning rule.now in
+        (IsRuledOut written number passed.now → rule_holds query rule ≡ false)
+        → result ≡ (held || rule_holds query rule) }
+{
+    held || (!is_ruled_out(written, number, passed)
+        && override_holds(rule, number, query, cx, tally))
+}
+
+/// Which overrides hold for some of the tests, after one more.
 fn overrides_after<F: Filters, S: Specs>(
     alloc: Global,
     rules: &[EvaluatedOverride<'_, F, S>],
@@ -80,13 +107,27 @@ fn overrides_after<F: Filters, S: Specs>(
 {
     let mut after = Vec::new(alloc);
     for (number, rule) in rules.iter().enumerate() {
-        let setting = written.get(number).copied().flatten();
-        let is_used = is_marked(used, number)
-            || (!is_ruled_out(setting, number, passed)
-                && override_holds(rule, number, query, cx, tally));
-        after.push(is_used)?;
+        let held = is_marked(used, number);
+        let setting = written_at(written, number);
+        after.push(is_override_used(rule, number, held, setting, passed, query, cx, tally))?;
     }
     Ok(after)
+}
+
+/// Whether a script rule holds for some of the tests, after one more. It is evaluated only where it
+/// held for none so far.
+fn is_script_rule_used<F: Filters, S: Specs>(
+    rule: &EvaluatedScriptRule<'_, F, S>,
+    number: usize,
+    held: bool,
+    query: &TestQuery<'_>,
+    cx: &EvalContext<'_, F::Expr>,
+    tally: &mut F::Tally,
+) -> bool
+    ensures { let query = test_query_by F.Filters cx.now.default_filter.now query.now in
+        result ≡ (held || rule_holds query (meant_script_rule F.meaning rule.now)) }
+{
+    held || script_rule_holds(rule, number, query, cx, tally)
 }
 
 /// Which script rules hold for some of the tests, after one more. They are numbered on from the first
@@ -108,9 +149,8 @@ fn script_rules_after<F: Filters, S: Specs>(
 {
     let mut after = Vec::new(alloc);
     for (number, rule) in rules.iter().enumerate() {
-        let is_used = is_marked(used, number)
-            || script_rule_holds(rule, first + number, query, cx, tally);
-        after.push(is_used)?;
+        let held = is_marked(used, number);
+        after.push(is_script_rule_used(rule, first + number, held, query, cx, tally))?;
     }
     Ok(after)
 }

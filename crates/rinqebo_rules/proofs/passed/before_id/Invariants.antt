@@ -7,4 +7,4 @@ use Rattle.rinqebo_rules.proofs.passed.before_id.Given as goal
 -- none of the overrides so far has the id
 abbrev pub invariant-loop-number : goal.invariant-loop-number
 invariant-loop-number g l =
-    HasNoId (id_view l.id.now) l.number (map (meant_override g.F.Filters.meaning) l.rules)
+    HasNoId (id_view l.id) l.number (map (meant_override g.F.Filters.meaning) l.rules)

@@ -14,6 +14,6 @@ abbrev pub invariant-loop-setting : goal.invariant-loop-setting
 invariant-loop-setting g l =
     let F = g.F.Filters in
     (query : QueryContext F.Meaning) (mode : NextestRunMode) (profile : EvaluatableModel F.Meaning)
-    → profile.overrides ≡ map (meant_override F.meaning) l.rules.now
-    → AreSettingsOf F.meaning query mode profile l.settings.now
+    → profile.overrides ≡ map (meant_override F.meaning) l.rules
+    → AreSettingsOf F.meaning query mode profile l.settings
     → AllZip (IsPassed query mode profile.overrides) (take l.setting-index settings) l.counts.items

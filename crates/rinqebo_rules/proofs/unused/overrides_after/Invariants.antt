@@ -14,7 +14,7 @@ abbrev pub invariant-loop-number : goal.invariant-loop-number
 invariant-loop-number g l =
     let F = g.F.Filters in
     let rules = map (meant_override F.meaning) l.rules in
-    let query = test_query_by F l.cx.default_filter.now l.query.now in
+    let query = test_query_by F l.cx.default_filter.now l.query in
     (mode : NextestRunMode) → AllZip (IsWritten mode) rules l.written
     → AllZip (IsPassed query mode rules) settings l.passed
     → (tests : List (QueryContext F.Meaning)) → l.used ≡ map (is_used tests) rules

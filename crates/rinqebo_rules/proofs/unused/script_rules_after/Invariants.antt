@@ -10,6 +10,6 @@ abbrev pub invariant-loop-number : goal.invariant-loop-number
 invariant-loop-number g l =
     let F = g.F.Filters in
     let rules = map (meant_script_rule F.meaning) l.rules in
-    let query = test_query_by F l.cx.default_filter.now l.query.now in
+    let query = test_query_by F l.cx.default_filter.now l.query in
     (tests : List (QueryContext F.Meaning)) → l.used ≡ map (is_used tests) rules
     → l.after.items ≡ map (is_used (tests ++ query ∷ [])) (take l.number rules)
