@@ -1,7 +1,7 @@
 use Rattle.std.proofs.Common.{◌∙◌, [], false, ap, map, replicate, subst, sym}
 use Rattle.std.proofs.lemmas.List.{length-map}
 use Rattle.std.specs.List.{AllZip}
-use Rattle.nextest_settings.specs.View.{evaluated_override_view, evaluated_script_rule_view}
+use Rattle.nextest_settings.specs.View.{evaluated_override_view, evaluated_script_rule_view, meant_override}
 use Rattle.rinqebo_rules.proofs.Marked.{none_used}
 use Rattle.rinqebo_rules.proofs.NoneHold.{meant_overrides}
 use Rattle.rinqebo_rules.proofs.ScriptRules.{meant_scripts}
@@ -24,6 +24,6 @@ returns g c =
           ∙ ap (λ n. replicate n false)
           (c.len-2.ensures ∙ rules.script_rules.ok.0 ∙ sym (length-map rules.script_rules.items _))
           ∙ none_used _ ∙ ap (map (is_used [])) scripts;
-      written = subst (λ os. AllZip (IsWritten c.args.mode) os c.in_ok-some_written.field-0.items) overrides
-          c.in_ok-some_written.ensures;
+      written = subst (λ os. AllZip (IsWritten c.args.mode) os c.in_ok-some_written.field-0.items)
+          (ap (map (meant_override F.meaning)) c.deref.ensures.value ∙ overrides) c.in_ok-some_written.ensures;
     }
