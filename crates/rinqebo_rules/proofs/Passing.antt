@@ -1,5 +1,5 @@
 -- Overrides that do not hold for a test, by what decides its settings.
-use Rattle.std.proofs.Common.{◌≡◌, ◌≢◌, ◌∙◌, ◌≤◌, ◌<◌, ◌+◌, ◌&&◌, ◌⊎◌, inl, inr, ap, arith, ℕ, List, Bool, true, false, Option, None, Some, [], ◌∷◌, zero, suc, IfSome, find, slice_get, option_and_then, option_map, refl, sym, subst, lt_of_lt_of_le}
+use Rattle.std.proofs.Common.{◌≡◌, ◌≢◌, ◌∙◌, ◌≤◌, ◌<◌, ◌+◌, ◌&&◌, ◌⊎◌, inl, inr, ap, arith, ℕ, List, Bool, true, false, Option, None, Some, [], ◌∷◌, zero, suc, IfSome, find, is_some, slice_get, option_and_then, option_map, refl, sym, subst, lt_of_lt_of_le}
 use Rattle.std.proofs.lemmas.Bool.{cases_lt}
 use Rattle.std.proofs.lemmas.Option.{same_Some}
 use Rattle.std.specs.List.{AllZip}
@@ -27,6 +27,14 @@ first_fails false b h is = refl
 and_false : (a : Bool) → (a && false) ≡ false
 and_false true = refl
 and_false false = refl
+
+-- options by which the same is shown are both there, or both not
+pub some_alike : {A B C : Type 0} (f : A → C) (g : B → C) (o : Option A) (p : Option B)
+    → option_map f o ≡ option_map g p → is_some o ≡ is_some p
+some_alike f g None None same = refl
+some_alike f g None (Some y) same = absurd cc
+some_alike f g (Some x) None same = absurd cc
+some_alike f g (Some x) (Some y) same = refl
 
 -- what holds of two lists holds of what they have at a place
 zip_at : {A B : Type 0} (R : A → B → Type 0) (xs : List A) (ys : List B) (k : ℕ) (x : A) (y : B) → AllZip R xs ys

@@ -1,5 +1,5 @@
 //! How far the walk over overrides came for each setting of a test.
-ghost use Rattle.std.specs.Prelude.{◌≡◌, ◌↔◌, IfOk, IsTrue, map, option_map};
+ghost use Rattle.std.specs.Prelude.{◌≡◌, ◌↔◌, IfOk, IsTrue, map, option_map, slice_get};
 ghost use Rattle.std.specs.List.{AllZip};
 ghost use Rattle.nextest_profiles.specs.SettingsOf.{AreSettingsOf};
 ghost use Rattle.nextest_rules.specs.View.{id_view};
@@ -132,6 +132,13 @@ fn place(setting: Setting) -> usize
     setting as usize
 }
 
+/// How many of the first overrides do not decide a setting, by what counts say of all settings.
+fn passed_at(passed: &[usize], setting: Setting) -> Option<usize>
+    ensures { result ≡ slice_get passed.now (index_of setting) }
+{
+    passed.get(place(setting)).copied()
+}
+
 /// Whether the override of a number writes a setting that a later override decides, or none: then it
 /// does not hold.
 pub(crate) fn is_ruled_out(written: Option<Setting>, number: usize, passed: &[usize]) -> bool
@@ -140,8 +147,8 @@ pub(crate) fn is_ruled_out(written: Option<Setting>, number: usize, passed: &[us
     let Some(setting) = written else {
         return false;
     };
-    match passed.get(place(setting)) {
-        Some(count) => number < *count,
+    match passed_at(passed, setting) {
+        Some(count) => number < count,
         None => false,
     }
 }

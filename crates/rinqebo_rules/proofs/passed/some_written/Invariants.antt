@@ -1,4 +1,4 @@
-use Rattle.std.proofs.Common.{map, take}
+use Rattle.std.proofs.Common.{take}
 use Rattle.std.specs.List.{AllZip}
 use Rattle.nextest_settings.specs.View.{meant_override}
 use Rattle.rinqebo_rules.specs.Passed.{IsWritten}
@@ -7,4 +7,5 @@ use Rattle.rinqebo_rules.proofs.passed.some_written.Given as goal
 -- settings that the overrides so far write
 abbrev pub invariant-loop-rule : goal.invariant-loop-rule
 invariant-loop-rule g l =
-    AllZip (IsWritten l.mode) (map (meant_override g.F.Filters.meaning) (take l.rule-index l.rules)) l.written.items
+    AllZip (λ rule setting. IsWritten l.mode (meant_override g.F.Filters.meaning rule) setting)
+    (take l.rule-index l.rules) l.written.items
