@@ -10,10 +10,10 @@ returns c =
     let layers = c.args.layers.now in
     let leaf = c.args.leaf.now in
     IfOk-weaker c.placed_origin.result
-    (IsPlacedOrigin (option_map (λ name. name.now) leaf.spot.profile) c.part_at-part.result c.in_ok-place.place)
+    (IsPlacedOrigin (option_map (λ name. name.now) leaf.spot.profile) c.part_at-part.result c.path_place-place.result)
     (IsOriginOfLeaf layers (spelled_view leaf))
-    (λ origin is. leaf_origin layers (spelled_view leaf) c.part_at-part.result c.in_ok-place.place
+    (λ origin is. leaf_origin layers (spelled_view leaf) c.part_at-part.result c.path_place-place.result
     c.deref.result.now origin
     (c.part_at-part.ensures ∙ ap (λ steps. part_at (map step_view steps)) c.deref-2.ensures.value)
-    (ap (map step_view) c.deref.ensures.value ∙ c.in_ok-path.ensures) c.in_ok-place.ensures is)
+    (ap (map step_view) c.deref.ensures.value ∙ c.in_ok-path.ensures) c.path_place-place.ensures is)
     c.placed_origin.ensures

@@ -1,4 +1,5 @@
 use Rattle.std.proofs.Common.{◌≡◌, ◌∙◌, ◌++◌, ◌∷◌, [], ap, inl, map, refl, subst}
+use Rattle.std.proofs.KnownBytes.{Appends-nil}
 use Rattle.std.proofs.lemmas.List.{take_all}
 use Rattle.std.specs.List.{AllZip}
 use Rattle.filter_language.specs.Filtersets.{marks_view}
@@ -15,6 +16,15 @@ use Rattle.rinqebo_rules.proofs.RowsMore.{zip_more_by}
 use Rattle.rinqebo_run.specs.declared.list_fault.ListFault.TheVariants as faults
 use Rattle.rinqebo_run.proofs.Writing.{first_so_far, one_more, passed_stop}
 use Rattle.rinqebo_run.proofs.list_page.ListPage.write_tests.Goals as goal
+
+pub loop-place-init : goal.loop-place-init
+loop-place-init g c = record {
+  same = refl;
+  rows = [];
+  told = tt;
+  page = Appends-nil (g.O.Write.contents c.args.out.now);
+  marked = c.in_ok-used.ensures;
+}
 
 pub loop-place-preserved : goal.loop-place-preserved
 loop-place-preserved g c =
