@@ -3,6 +3,7 @@ use crate::elements::add_element;
 use crate::excerpts::text_of;
 use crate::expressions::add_refused_texts;
 use crate::findings::SourceAt;
+use crate::left_out::LeftOut;
 use crate::meant::line_help;
 use crate::parents::add_parents;
 use crate::refused::Refused;
@@ -186,7 +187,7 @@ fn add_features(
 }
 
 /// The path of a section of a profile.
-fn section_path<'p>(
+pub fn section_path<'p>(
     alloc: Global,
     profile: &'p str,
     section: ConfigCompileSection,
@@ -266,14 +267,17 @@ fn add_compiles(
     Ok(())
 }
 
-/// Groups that rules set and no file defines.
+/// Groups that rules set and no file defines, but those whose definitions are refused.
 fn add_unknown_groups(
     refused: &mut Refused<'_, '_>,
     errors: &[UnknownTestGroupError],
     known_groups: &BTreeSet<String>,
 ) -> Result<(), AllocError> {
     for error in errors {
-        add_unknown_group(refused, error, known_groups)?;
+        let name = error.name.to_string(refused.alloc)?;
+        if !refused.left_out.groups.has(name.as_str()) {
+            add_unknown_group(refused, error, known_groups)?;
+        }
     }
     Ok(())
 }
@@ -368,18 +372,19 @@ pub fn refused_place(layers: &[Layer], error: &ConfigParseError) -> Option<usize
     place_at(layers, refused_owner(error), error.config_file()?)
 }
 
-/// Adds the findings of a refusal.
-pub fn add_refusal(
+/// Returns the findings of a refusal of files without what is left out.
+pub fn refusal_findings(
     alloc: Global,
     session: &Session<'_>,
     error: &ConfigParseError,
-    findings: &mut Vec<Finding>,
-) -> Result<(), AllocError> {
+    left_out: &LeftOut,
+) -> Result<Vec<Finding>, AllocError> {
     let position = refused_place(&session.layers, error);
     let text = match position {
         Some(position) => text_of(session.gathered, position),
         None => None,
     };
+    let mut findings = Vec::new(alloc);
     let mut refused = Refused {
         alloc,
         source: SourceAt {
@@ -388,7 +393,9 @@ pub fn add_refusal(
         },
         text,
         upstream: error.kind().name(),
-        findings,
+        left_out,
+        findings: &mut findings,
     };
-    add_kind(&mut refused, error.kind())
+    add_kind(&mut refused, error.kind())?;
+    Ok(findings)
 }

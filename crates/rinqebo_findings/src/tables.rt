@@ -8,7 +8,7 @@ use rinqebo_request::name_hint;
 use std::alloc::{AllocError, Global};
 
 /// The key of the step at a place of a path, if it is one to a key.
-fn key_at<'p>(path: &[Step<'p>], place: usize) -> Option<&'p str> {
+pub fn key_at<'p>(path: &[Step<'p>], place: usize) -> Option<&'p str> {
     match path.get(place) {
         Some(Step::Key(key)) => Some(*key),
         Some(Step::Position(_)) | None => None,
@@ -90,12 +90,12 @@ pub fn keys_note(alloc: Global, path: &[Step<'_>]) -> Result<Option<String>, All
 
 /// The key of a table that it does not know, and that is nearest to a key which it lacks, if one is
 /// near.
-pub fn stray_key(
+pub fn stray_key<'t>(
     alloc: Global,
     path: &[Step<'_>],
-    table: &Tree,
+    table: &'t Tree,
     missing: &str,
-) -> Result<Option<String>, AllocError> {
+) -> Result<Option<&'t str>, AllocError> {
     let Some(members) = table.as_table() else {
         return Ok(None);
     };
@@ -106,10 +106,7 @@ pub fn stray_key(
             strays.push(key.as_str())?;
         }
     }
-    match nearest_name(alloc, missing, &strays)? {
-        Some(key) => Ok(Some(String::from_str(alloc, key)?)),
-        None => Ok(None),
-    }
+    nearest_name(alloc, missing, &strays)
 }
 
 /// The header of the script that is meant by the first key of a table at `script.setup` or

@@ -90,7 +90,7 @@ fn add_script(
     refused.add_at(code, &path, wrong, None)
 }
 
-/// Adds the scripts that are not known.
+/// Adds the scripts that are not known, but those whose definitions are refused.
 fn add_unknown_scripts(
     refused: &mut Refused<'_, '_>,
     errors: &ProfileScriptErrors,
@@ -99,6 +99,9 @@ fn add_unknown_scripts(
     let alloc = refused.alloc;
     for error in &errors.unknown_scripts {
         let name = error.name.to_string(alloc)?;
+        if refused.left_out.scripts.has(name.as_str()) {
+            continue;
+        }
         let profile = error.profile_name.as_str();
         let path = naming_path(refused, profile, "scripts", &SCRIPT_USES, name.as_str())?;
         let wrong = format!(in alloc; "unknown script `{name}`")?;
@@ -108,7 +111,7 @@ fn add_unknown_scripts(
     Ok(())
 }
 
-/// Adds what is wrong with the scripts that rules name.
+/// Adds what is wrong with the scripts that rules name, but those whose definitions are refused.
 pub fn add_script_errors(
     refused: &mut Refused<'_, '_>,
     errors: &ProfileScriptErrors,
@@ -118,6 +121,9 @@ pub fn add_script_errors(
     add_unknown_scripts(refused, errors, known)?;
     for error in &errors.wrong_script_types {
         let name = error.name.to_string(alloc)?;
+        if refused.left_out.scripts.has(name.as_str()) {
+            continue;
+        }
         let key = error.attempted.to_string(alloc)?;
         let wrong = format!(in alloc; "`{name}` is a {} script", error.actual)?;
         let profile = error.profile_name.as_str();
