@@ -80,13 +80,19 @@ abbrev pub lack_path : List Step → Option (Bor (List ℕ)) → List Step
 lack_path table None = table
 lack_path table (Some key) = table ++ steps.Key key ∷ []
 
+-- the part of it that is at fault: the value of the table, or the key that it has in place of the
+-- one that it lacks
+abbrev pub lack_part : Option (Bor (List ℕ)) → SpanPart
+lack_part None = parts.Value
+lack_part (Some key) = parts.Key
+
 -- A finding is that of a value: an error with the code of what is wrong there, at its path and its
 -- place. That a table lacks a key is at the key that it has in its place, if there is one. Of a
 -- table, delays are out of range.
 abbrev pub IsElementFinding :
     List Layer → Option ℕ → ElementCause → List Step → Option (Bor (List ℕ)) → Finding → Type 0
 IsElementFinding layers source (causes.Missing key) path stray finding =
-    IsErrorAt layers source MissingKey parts.Key (lack_path path stray) finding
+    IsErrorAt layers source MissingKey (lack_part stray) (lack_path path stray) finding
 IsElementFinding layers source causes.OutOfRange path stray finding =
     IsErrorAt layers source OutOfRange parts.Value path finding
     ⊎ IsDelaysFinding layers source path finding

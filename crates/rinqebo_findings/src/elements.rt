@@ -1,18 +1,22 @@
 //! Findings of values that a file may not have where it writes them.
 ghost use Rattle.std.specs.Prelude.{◌≡◌, IfOk, None};
-ghost use Rattle.rinqebo_findings.specs.Subjects.{IsElementFinding, IsErrorAt, code_of, lack_path, part_of};
+ghost use Rattle.rinqebo_findings.specs.Subjects.{IsElementFinding, IsErrorAt, code_of, lack_part, lack_path, part_of};
 
+use crate::below::below_note;
 use crate::delays::delays_finding;
-use crate::expected::expected_at;
+use crate::expected::{expected_at, expected_name, expected_text};
 use crate::findings::{SourceAt, with_note};
 use crate::given::{kind_words, value_at};
+use crate::headers::header_text;
 use crate::hints::word_hint;
-use crate::paths::{path_text, path_with, spelled_path};
+use crate::paths::{path_with, spelled_path};
 use crate::refused::Refused;
 use crate::refused_values::Fault;
 use crate::shapes::shape_at;
 use crate::spellings::spelling;
-use crate::tables::{called, keys_note, script_header, stray_key, unknown_key_text};
+use crate::tables::{
+    called, keys_note, script_header, stray_key, unknown_key_help, unknown_key_text,
+};
 use nextest_config::{ElementCause, ElementFault, Tree};
 use nextest_places::Step;
 use nextest_shape::file_shape;
@@ -54,6 +58,9 @@ fn bad_text(
 ) -> Result<String, AllocError> {
     match found {
         Some(Tree::Text(text)) if text.as_str() == given => {
+            if given.is_empty() {
+                return format!(in alloc; "{name} is empty");
+            }
             format!(in alloc; "{name} is `{given}`")
         }
         _ => format!(in alloc; "`{given}` is not a valid name here"),
@@ -106,14 +113,36 @@ fn element_code(cause: &ElementCause) -> Code
     }
 }
 
+/// What is expected in place of a text that is refused, as the shape of a file has it, or else as a
+/// reader words it. The text is the value at the path, or else the key that ends it.
+fn wanted_text(
+    alloc: Global,
+    source: SourceAt<'_, '_>,
+    path: &[Step<'_>],
+    given: &str,
+    expected: &str,
+) -> Result<Option<String>, AllocError> {
+    let words = match value_at(source, path) {
+        Some(Tree::Text(text)) if text.as_str() == given => expected_text(alloc, path)?,
+        _ => expected_name(alloc, path)?,
+    };
+    match words {
+        Some(words) => Ok(Some(words)),
+        None => Ok(Some(String::from_str(alloc, expected)?)),
+    }
+}
+
 /// What is expected in place of a value that is refused.
 fn wanted(
     alloc: Global,
+    source: SourceAt<'_, '_>,
     cause: &ElementCause,
     path: &[Step<'_>],
 ) -> Result<Option<String>, AllocError> {
     match cause {
-        ElementCause::BadValue { expected, .. } => Ok(Some(String::from_str(alloc, *expected)?)),
+        ElementCause::BadValue { given, expected } => {
+            wanted_text(alloc, source, path, given.as_str(), *expected)
+        }
         ElementCause::WrongKind
         | ElementCause::Missing(_)
         | ElementCause::OutOfRange
@@ -129,7 +158,7 @@ fn spelled(
     path: &[Step<'_>],
 ) -> Result<Option<String>, AllocError> {
     let file = file_shape(alloc)?;
-    let header = path_text(alloc, path)?;
+    let header = header_text(alloc, path)?;
     match (shape_at(&file, path), value_at(source, path)) {
         (Some(shape), Some(tree)) => spelling(alloc, shape, tree, header.as_str()),
         _ => Ok(None),
@@ -148,7 +177,23 @@ fn advice(
             return Ok(Some(hint));
         }
     }
+    if let ElementCause::UnknownField = cause {
+        let (help, _place) = unknown_key_help(alloc, path)?;
+        return Ok(help);
+    }
     spelled(alloc, source, path)
+}
+
+/// The note about a value that is refused: the keys that its table has, where it is a key.
+fn element_note(
+    alloc: Global,
+    cause: &ElementCause,
+    path: &[Step<'_>],
+) -> Result<Option<String>, AllocError> {
+    match (cause, path.split_last()) {
+        (ElementCause::UnknownField, Some((_key, table))) => keys_note(alloc, table),
+        _ => Ok(None),
+    }
 }
 
 /// The finding of a value that is refused.
@@ -164,9 +209,9 @@ fn value_finding(
     let wrong = wrong_element(alloc, refused.source, cause, path)?;
     let code = element_code(cause);
     let mut found = refused.part_at(code, path, wrong_part(cause), wrong.as_str())?;
-    found.expected = wanted(alloc, cause, path)?;
+    found.expected = wanted(alloc, refused.source, cause, path)?;
     found.help = advice(alloc, refused.source, cause, path)?;
-    Ok(found)
+    Ok(with_note(found, element_note(alloc, cause, path)?)?)
 }
 
 /// Whether there is a table at a path.
@@ -191,10 +236,29 @@ fn element_finding(
     }
 }
 
-/// That the table at a path lacks a key.
-fn lack_text(alloc: Global, key: &str, table: &[Step<'_>]) -> Result<String, AllocError> {
+/// The key that a table has in place of another one, if it has one: that at the end of a path.
+fn stray_of<'p>(at: &[Step<'p>], has_stray: bool) -> Option<&'p str> {
+    match at.last() {
+        Some(Step::Key(key)) if has_stray => Some(*key),
+        _ => None,
+    }
+}
+
+/// That the table at a path lacks a key, and may have another one in its place.
+fn lack_text(
+    alloc: Global,
+    key: &str,
+    table: &[Step<'_>],
+    stray: Option<&str>,
+) -> Result<String, AllocError> {
     let name = called(alloc, table)?;
-    format!(in alloc; "{name} needs `{key}`")
+    match stray {
+        Some(stray) => format!(in alloc; "{name} needs `{key}`, not `{stray}`"),
+        None if key == "delay" => {
+            format!(in alloc; "{name} needs `delay`, as `backoff` is `exponential`")
+        }
+        None => format!(in alloc; "{name} needs `{key}`"),
+    }
 }
 
 /// What to do about a key that the table at a path lacks, and where that is shown: it may have
@@ -214,25 +278,29 @@ fn lack_help(
     Ok((help, HelpPlace::Below))
 }
 
-/// The finding, at a path, that the table at another one lacks a key: at that of the key that it
-/// has in its place, or of the table itself.
+/// The finding, at a path, that the table at another one lacks a key: at the key that it has in its
+/// place, or at the table itself.
 fn lack_finding(
     refused: &Refused<'_, '_>,
     key: &str,
     table: &[Step<'_>],
     at: &[Step<'_>],
-    has_stray: bool,
+    part: SpanPart,
 ) -> Result<Finding, AllocError>
     ensures { IfOk result (IsErrorAt refused.now.source.layers.now refused.now.source.position
-        Code.MissingKey SpanPart.Key at.now) }
+        Code.MissingKey part at.now) }
 {
-    let wrong = lack_text(refused.alloc, key, table)?;
+    let has_stray = matches!(part, SpanPart::Key);
+    let stray = stray_of(at, has_stray);
+    let wrong = lack_text(refused.alloc, key, table, stray)?;
     let (help, help_place) = lack_help(refused, key, table, has_stray)?;
     let note = keys_note(refused.alloc, table)?;
-    let mut found = refused.part_at(Code::MissingKey, at, SpanPart::Key, wrong.as_str())?;
+    let below = below_note(refused.alloc, refused.source, table)?;
+    let mut found = refused.part_at(Code::MissingKey, at, part, wrong.as_str())?;
     found.help = help;
     found.help_place = help_place;
-    Ok(with_note(found, note)?)
+    let noted = with_note(found, note)?;
+    Ok(with_note(noted, below)?)
 }
 
 /// The finding that the table at a path lacks a key: at the key that it has in its place, if it has
@@ -244,14 +312,14 @@ fn missing_finding<'x>(
     stray: Option<&'x str>,
 ) -> Result<Finding, AllocError>
     ensures { IfOk result (IsErrorAt refused.now.source.layers.now refused.now.source.position
-        Code.MissingKey SpanPart.Key (lack_path table.now stray.entry)) }
+        Code.MissingKey (lack_part stray.entry) (lack_path table.now stray.entry)) }
 {
     match stray {
         Some(stray) => {
             let at = path_with(refused.alloc, table, stray)?;
-            Ok(lack_finding(refused, key, table, &at, true)?)
+            Ok(lack_finding(refused, key, table, &at, SpanPart::Key)?)
         }
-        None => Ok(lack_finding(refused, key, table, table, false)?),
+        None => Ok(lack_finding(refused, key, table, table, SpanPart::Value)?),
     }
 }
 

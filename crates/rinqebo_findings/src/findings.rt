@@ -4,6 +4,8 @@ ghost use Rattle.rinqebo_codes.specs.Codes.{code_word};
 ghost use Rattle.rinqebo_findings.specs.Placed.{IsPlaceIn};
 ghost use Rattle.rinqebo_findings.specs.Subjects.{shown_path, subject};
 
+use crate::given::value_at;
+use crate::headers::header_text;
 use crate::paths::{path_text, spelled_path};
 use crate::refused_values::Fault;
 use crate::tables::{keys_note, unknown_key_help, unknown_key_text};
@@ -199,13 +201,30 @@ fn reserved_profile(
     let message = format!(in alloc;
         "`{name}`: names of profiles that begin with `default-` are nextest's own"
     )?;
-    key_warning(
+    let mut found = key_warning(
         alloc,
         RESERVED_PROFILE,
         source,
         &[Step::Key("profile"), Step::Key(name)],
         message,
-    )
+    )?;
+    found.expected = copied(alloc, Some("a name that does not begin with `default-`"))?;
+    Ok(found)
+}
+
+/// The header of the table that takes the place of the old table of scripts.
+fn scripts_header(alloc: Global, source: SourceAt<'_, '_>) -> Result<String, AllocError> {
+    if let Some(Tree::Table(scripts)) = value_at(source, &[Step::Key("script")]) {
+        for name in scripts.keys() {
+            let path = [
+                Step::Key("scripts"),
+                Step::Key("setup"),
+                Step::Key(name.as_str()),
+            ];
+            return header_text(alloc, &path);
+        }
+    }
+    String::from_str(alloc, "scripts.setup")
 }
 
 /// Warns of scripts under the old key.
@@ -221,7 +240,8 @@ fn old_scripts(alloc: Global, source: SourceAt<'_, '_>) -> Result<Finding, Alloc
         &[Step::Key("script")],
         message,
     )?;
-    found.help = Some(String::from_str(alloc, "write `scripts.setup`")?);
+    let header = scripts_header(alloc, source)?;
+    found.help = Some(format!(in alloc; "write `[{header}]`")?);
     Ok(found)
 }
 
@@ -233,7 +253,7 @@ fn empty_rules(
     count: usize,
 ) -> Result<Finding, AllocError> {
     let message = format!(in alloc; "rules that name no script: {count}")?;
-    key_warning(
+    let mut found = key_warning(
         alloc,
         EMPTY_SCRIPT_RULE,
         source,
@@ -243,7 +263,9 @@ fn empty_rules(
             Step::Key("scripts"),
         ],
         message,
-    )
+    )?;
+    found.expected = copied(alloc, Some("`setup`, `list-wrapper` or `run-wrapper`"))?;
+    Ok(found)
 }
 
 /// The source that a warning is about.

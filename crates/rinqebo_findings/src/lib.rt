@@ -2,6 +2,7 @@
 //! that have them, and why a run returns nothing.
 #![tactic(auto)]
 
+mod below;
 mod checks;
 mod cycles;
 mod delays;
@@ -14,21 +15,28 @@ mod excerpts;
 mod expected;
 mod expressions;
 mod failures;
+mod features;
 mod file_values;
+mod filter_words;
 mod findings;
+mod foreign;
 mod given;
+mod headers;
 mod hints;
 mod left_out;
 mod loading;
 mod meant;
 mod nextest_forms;
+mod not_toml;
 mod order;
 mod parents;
 mod paths;
+mod platform_words;
 mod refusal_repairs;
 mod refusals;
 mod refused;
 mod refused_values;
+mod regex_words;
 mod report;
 mod search;
 mod shapes;
@@ -38,6 +46,7 @@ mod unknown_names;
 mod unreached;
 mod value_faults;
 mod ways;
+mod words;
 
 pub use failures::find_test;
 pub use findings::warning_findings;

@@ -2,16 +2,17 @@
 //! that it switches on, archives, and how running tests are ended.
 use crate::findings::{SourceAt, UNKNOWN_KEY, key_warning};
 use crate::given::kind_words;
+use crate::hints::near_hint;
 use crate::left_out::LeftOut;
 use crate::paths::path_with;
 use crate::refused::Refused;
 use crate::tables::called;
+use crate::words::quoted;
 use nextest_config::Tree;
 use nextest_places::Step;
 use rinqebo_codes::Code;
 use rinqebo_files::{Layer, SpanPart};
 use rinqebo_report::{Finding, HelpPlace};
-use rinqebo_request::name_hint;
 use std::alloc::{AllocError, Global};
 use std::collections::BTreeMap;
 
@@ -22,7 +23,7 @@ const REFUSED_VALUE: &str = "DeserializeError";
 const UNKNOWN_FEATURES: &str = "UnknownExperimentalFeatures";
 
 /// A version, in words.
-const VERSION: &str = "a version such as `0.9.100`";
+const VERSION: &str = "a string of two or three numbers, such as `0.9.100`";
 
 /// The features that nextest knows.
 const FEATURES: [&str; 3] = ["setup-scripts", "wrapper-scripts", "benchmarks"];
@@ -35,19 +36,6 @@ const TERMINATE: [&str; 2] = ["wait", "immediate"];
 
 /// The keys of an entry of what an archive includes.
 const INCLUDE_KEYS: [&str; 4] = ["path", "relative-to", "depth", "on-missing"];
-
-/// Words between backquotes.
-fn quoted(alloc: Global, words: &[&str]) -> Result<String, AllocError> {
-    let mut text = String::new(alloc);
-    for word in words {
-        if !text.is_empty() {
-            text.push_str(", ")?;
-        }
-        let quoted = format!(in alloc; "`{word}`")?;
-        text.push_str(quoted.as_str())?;
-    }
-    Ok(text)
-}
 
 /// Adds that a value is of a wrong kind.
 fn add_kind(
@@ -90,11 +78,11 @@ fn add_word(
     words: &[&str],
 ) -> Result<(), AllocError> {
     let alloc = refused.alloc;
-    let expected = quoted(alloc, words)?;
+    let expected = quoted(alloc, words, " or ")?;
     match given.as_str() {
         Some(text) if words.iter().any(|word| *word == text) => Ok(()),
         Some(text) => {
-            let help = name_hint(alloc, text, words)?;
+            let help = near_hint(alloc, text, words)?;
             add_text(refused, path, text, expected.as_str(), help)
         }
         None => add_kind(refused, path, given, expected.as_str()),
@@ -118,8 +106,10 @@ fn warn_of_others<'x>(
         let message = format!(in alloc; "`{key}` is not a key of {table}")?;
         let at = path_with(alloc, path, key)?;
         let mut found = key_warning(alloc, UNKNOWN_KEY, refused.source, &at, message)?;
-        found.help = name_hint(alloc, key, known)?;
+        found.help = near_hint(alloc, key, known)?;
         found.help_place = HelpPlace::Beside;
+        let keys = quoted(alloc, known, ", ")?;
+        found.notes.push(format!(in alloc; "keys of {table}: {keys}")?)?;
         refused.add_finding(found)?;
     }
     Ok(())
@@ -130,23 +120,15 @@ fn is_number(text: &str) -> bool {
     !text.is_empty() && text.bytes().all(|byte| byte.is_ascii_digit())
 }
 
-/// A version up to what follows its numbers.
-fn numbers_of(version: &str) -> &str {
-    let numbers = match version.split_once('-') {
-        Some((numbers, _rest)) => numbers,
-        None => version,
-    };
-    match numbers.split_once('+') {
-        Some((numbers, _rest)) => numbers,
-        None => numbers,
-    }
+/// Whether a text is a number of a version: it has no zero in front of other digits.
+fn is_version_number(text: &str) -> bool {
+    is_number(text) && (text == "0" || !text.starts_with('0')) && text.parse::<u64>().is_ok()
 }
 
-/// Whether a text is a version: two or three numbers with dots between them, and maybe more.
+/// Whether a text is a version: two or three numbers with dots between them.
 fn is_version(text: &str) -> bool {
-    let numbers = numbers_of(text);
-    let count = numbers.split('.').count();
-    (count == 2 || count == 3) && numbers.split('.').all(|number| is_number(number))
+    let count = text.split('.').count();
+    (count == 2 || count == 3) && text.split('.').all(|number| is_version_number(number))
 }
 
 /// Adds what is wrong with a version.
@@ -171,7 +153,7 @@ fn add_versions(refused: &mut Refused<'_, '_>, tree: &Tree) -> Result<(), AllocE
         return Ok(());
     };
     let Some(members) = given.as_table() else {
-        let expected = format!(in alloc; "{VERSION} or a table")?;
+        let expected = format!(in alloc; "{VERSION}, or a table")?;
         return add_version(refused, &path, given, expected.as_str());
     };
     warn_of_others(refused, &path, members, &["required", "recommended"])?;
@@ -199,8 +181,8 @@ fn add_unknown_feature(
     let code = Code::InvalidValue;
     let mut found = refused.part_at(code, path, SpanPart::Key, wrong.as_str())?;
     found.upstream = Some(String::from_str(alloc, UNKNOWN_FEATURES)?);
-    found.expected = Some(quoted(alloc, &FEATURES)?);
-    found.help = name_hint(alloc, name, &FEATURES)?;
+    found.expected = Some(quoted(alloc, &FEATURES, " or ")?);
+    found.help = near_hint(alloc, name, &FEATURES)?;
     refused.add_finding(found)
 }
 
@@ -239,7 +221,7 @@ fn add_switch(
 ) -> Result<(), AllocError> {
     match given {
         Tree::Bool(_) => Ok(()),
-        other => add_kind(refused, path, other, "`true`, `false`"),
+        other => add_kind(refused, path, other, "a boolean"),
     }
 }
 
@@ -260,6 +242,20 @@ fn add_switched_features(
     Ok(())
 }
 
+/// Adds that the features of a file are neither an array nor a table.
+fn add_features_kind(refused: &mut Refused<'_, '_>, given: &Tree) -> Result<(), AllocError> {
+    let alloc = refused.alloc;
+    let kind = kind_words(given);
+    let wrong = format!(in alloc; "`experimental` is {kind}")?;
+    let path = [Step::Key("experimental")];
+    let mut found = refused.at(Code::WrongKind, &path, wrong.as_str())?;
+    found.expected = Some(String::from_str(alloc, "an array of strings, or a table")?);
+    if let Some(name) = given.as_str() {
+        found.help = Some(format!(in alloc; "write `[\"{name}\"]`")?);
+    }
+    refused.add_finding(found)
+}
+
 /// Adds what is wrong with the features that a file switches on.
 fn add_features(refused: &mut Refused<'_, '_>, tree: &Tree) -> Result<(), AllocError> {
     let Some(given) = tree.get("experimental") else {
@@ -268,11 +264,7 @@ fn add_features(refused: &mut Refused<'_, '_>, tree: &Tree) -> Result<(), AllocE
     match given {
         Tree::Array(items) => add_listed_features(refused, items),
         Tree::Table(members) => add_switched_features(refused, members),
-        other => {
-            let path = [Step::Key("experimental")];
-            let expected = "an array of strings or a table";
-            add_kind(refused, &path, other, expected)
-        }
+        other => add_features_kind(refused, other),
     }
 }
 
@@ -282,7 +274,7 @@ fn add_depth(
     path: &[Step<'_>],
     given: &Tree,
 ) -> Result<(), AllocError> {
-    let expected = "an integer of at least 0 or `infinite`";
+    let expected = "an integer of at least 0, or `infinite`";
     match given {
         Tree::Int(number) if *number >= 0 => Ok(()),
         Tree::Int(number) => {
@@ -306,8 +298,12 @@ fn add_missing(
     path: &[Step<'_>],
     key: &str,
 ) -> Result<(), AllocError> {
-    let wrong = format!(in refused.alloc; "an item of `include` needs `{key}`")?;
-    refused.add_key_at(Code::MissingKey, path, wrong.as_str(), None)
+    let alloc = refused.alloc;
+    let wrong = format!(in alloc; "an item of `include` needs `{key}`")?;
+    let mut found = refused.at(Code::MissingKey, path, wrong.as_str())?;
+    let keys = quoted(alloc, &INCLUDE_KEYS, ", ")?;
+    found.notes.push(format!(in alloc; "keys of an item of `include`: {keys}")?)?;
+    refused.add_finding(found)
 }
 
 /// Adds what is wrong with an entry of what an archive includes.
