@@ -442,10 +442,11 @@ fn lacking(
 /// What is wrong with a filter of which a reader says so, in words. There are none for what the
 /// reader words well.
 pub fn filter_words(alloc: Global, stopped: Stopped<'_>) -> Result<Option<Worded>, AllocError> {
-    let Some(kind) = KINDS.iter().find(|kind| kind.label() == stopped.label) else {
+    let label = stopped.label;
+    let Some(kind) = KINDS.iter().find(|kind| (**kind).label() == label).copied() else {
         return banned(alloc, stopped);
     };
-    let worded = match *kind {
+    let worded = match kind {
         FaultKind::ExpectedExpr => no_operand(alloc, stopped)?,
         FaultKind::TooDeeplyNested => lacking(
             alloc,

@@ -14,7 +14,7 @@ fn begins(one: &str, other: &str) -> bool {
 
 /// How many characters of two texts of one length are others.
 fn differences(one: &str, other: &str) -> usize {
-    one.chars().zip(other.chars()).filter(|(own, others)| own != others).count()
+    one.chars().zip(other.chars()).filter(|(own, others)| *own != *others).count()
 }
 
 /// Whether two texts are the same but for two characters that are swapped.

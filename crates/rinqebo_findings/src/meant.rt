@@ -202,7 +202,7 @@ fn there(alloc: Global, bad: BadLine<'_>) -> Result<(String, usize), AllocError>
 }
 
 /// What is expected in a line.
-fn wanted(bad: BadLine<'_>) -> Option<&str> {
+fn wanted<'t>(bad: BadLine<'t>) -> Option<&'t str> {
     match bad.reason {
         "duplicate key" => Some("one definition"),
         "invalid escape sequence" => Some("an escape of TOML, as `\\\\` for a backslash"),
