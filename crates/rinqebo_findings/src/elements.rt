@@ -207,11 +207,12 @@ fn value_finding(
 {
     let alloc = refused.alloc;
     let wrong = wrong_element(alloc, refused.source, cause, path)?;
+    let note = element_note(alloc, cause, path)?;
     let code = element_code(cause);
     let mut found = refused.part_at(code, path, wrong_part(cause), wrong.as_str())?;
     found.expected = wanted(alloc, refused.source, cause, path)?;
     found.help = advice(alloc, refused.source, cause, path)?;
-    Ok(with_note(found, element_note(alloc, cause, path)?)?)
+    Ok(with_note(found, note)?)
 }
 
 /// Whether there is a table at a path.

@@ -127,7 +127,12 @@ impl Worded {
 
 /// What follows the blanks of a filter: spaces and ends of lines.
 fn behind_blanks(text: &str) -> &str {
-    text.trim_start_matches([' ', '\n', '\r'])
+    for (at, c) in text.char_indices() {
+        if c != ' ' && c != '\n' && c != '\r' {
+            return text.get(at..).unwrap_or(text);
+        }
+    }
+    ""
 }
 
 /// Whether a character may be in the name of a test or of a predicate.
@@ -137,24 +142,33 @@ fn is_of_name(c: char) -> bool {
 
 /// The name that a text begins with.
 fn name_at(text: &str) -> &str {
-    match text.find(|c: char| !is_of_name(c)) {
-        Some(end) => text.get(..end).unwrap_or(text),
-        None => text,
+    for (at, c) in text.char_indices() {
+        if !is_of_name(c) {
+            return text.get(..at).unwrap_or(text);
+        }
     }
+    text
 }
 
 /// The name that a text ends with.
 fn last_name(text: &str) -> &str {
-    let behind = text.trim_end_matches(|c: char| is_of_name(c));
-    text.get(behind.len()..).unwrap_or("")
+    let mut start = 0usize;
+    for (at, c) in text.char_indices() {
+        if !is_of_name(c) {
+            start = at.saturating_add(c.len_utf8());
+        }
+    }
+    text.get(start..).unwrap_or("")
 }
 
 /// What a text begins with up to a blank.
 fn word_at(text: &str) -> &str {
-    match text.find([' ', '\t', '\n', '\r']) {
-        Some(end) => text.get(..end).unwrap_or(text),
-        None => text,
+    for (at, c) in text.char_indices() {
+        if c.is_whitespace() {
+            return text.get(..at).unwrap_or(text);
+        }
     }
+    text
 }
 
 /// The character that a text begins with.
@@ -259,7 +273,7 @@ fn compared(alloc: Global, predicate: &str, rest: &str) -> Result<Option<String>
         return Ok(None);
     };
     let value = behind.trim_start_matches('=').trim_start();
-    let name = name_at(value.trim_start_matches(['"', '\'']));
+    let name = name_at(value.trim_start_matches('"').trim_start_matches('\''));
     if name.is_empty() {
         return Ok(None);
     }
@@ -360,46 +374,59 @@ fn bad_regex(alloc: Global, stopped: Stopped<'_>) -> Result<Worded, AllocError> 
     }
 }
 
+/// What is wrong with the argument that a text is.
+fn argument_message(
+    alloc: Global,
+    kind: FaultKind,
+    part: &str,
+) -> Result<Option<String>, AllocError> {
+    let message = match kind {
+        FaultKind::InvalidEscapeCharacter => format!(in alloc; "`{part}` is not an escape")?,
+        FaultKind::InvalidGlob => format!(in alloc; "`{part}` is not a glob")?,
+        FaultKind::TooLarge => format!(in alloc; "`{part}` is too large a pattern")?,
+        FaultKind::InvalidPlatformArgument => {
+            format!(in alloc; "`{part}` is not a platform of builds")?
+        }
+        FaultKind::InvalidString => String::from_str(alloc, "the argument is empty")?,
+        _ => return Ok(None),
+    };
+    Ok(Some(message))
+}
+
+/// What is expected of an argument.
+fn argument_expected(kind: FaultKind) -> &'static str {
+    match kind {
+        FaultKind::InvalidEscapeCharacter => {
+            "`\\n`, `\\r`, `\\t`, `\\\\`, `\\/`, `\\)`, `\\,` or `\\u{..}`"
+        }
+        FaultKind::InvalidGlob => "a glob in which each `[` has its `]`",
+        FaultKind::TooLarge => "a pattern whose automaton has at most 16384 states",
+        FaultKind::InvalidPlatformArgument => "`host` or `target`",
+        _ => "an argument of at least one character",
+    }
+}
+
 /// What is wrong with an argument.
 fn bad_argument(
     alloc: Global,
     stopped: Stopped<'_>,
     kind: FaultKind,
 ) -> Result<Option<Worded>, AllocError> {
-    let predicate = called_predicate(stopped.before());
-    let part = stopped.part().trim();
-    let (message, expected) = match kind {
-        FaultKind::UnexpectedArgument => (
-            format!(in alloc; "`{predicate}` takes no argument, but has `{part}`")?,
-            format!(in alloc; "no argument: `{predicate}()`")?,
-        ),
-        FaultKind::InvalidString => (
-            format!(in alloc; "`{predicate}` has an empty argument")?,
-            String::from_str(alloc, "an argument of at least one character")?,
-        ),
-        FaultKind::InvalidEscapeCharacter => (
-            format!(in alloc; "`{part}` is not an escape")?,
-            String::from_str(
-                alloc,
-                "`\\n`, `\\r`, `\\t`, `\\\\`, `\\/`, `\\)`, `\\,` or `\\u{..}`",
-            )?,
-        ),
-        FaultKind::InvalidGlob => (
-            format!(in alloc; "`{part}` is not a glob")?,
-            String::from_str(alloc, "a glob in which each `[` has its `]`")?,
-        ),
-        FaultKind::TooLarge => (
-            format!(in alloc; "`{part}` is too large a pattern")?,
-            String::from_str(alloc, "a pattern whose automaton has at most 16384 states")?,
-        ),
-        FaultKind::InvalidPlatformArgument => (
-            format!(in alloc; "`{part}` is not a platform of builds")?,
-            String::from_str(alloc, "`host` or `target`")?,
-        ),
-        _ => return Ok(None),
+    let Some(message) = argument_message(alloc, kind, stopped.part().trim())? else {
+        return Ok(None);
     };
     let place = (stopped.start, stopped.end);
-    Ok(Some(Worded::of(alloc, place, message, expected.as_str())?))
+    Ok(Some(Worded::of(alloc, place, message, argument_expected(kind))?))
+}
+
+/// A predicate has an argument and takes none.
+fn undue_argument(alloc: Global, stopped: Stopped<'_>) -> Result<Worded, AllocError> {
+    let predicate = called_predicate(stopped.before());
+    let part = stopped.part().trim();
+    let message = format!(in alloc; "`{predicate}` takes no argument, but has `{part}`")?;
+    let expected = format!(in alloc; "no argument: `{predicate}()`")?;
+    let place = (stopped.start, stopped.end);
+    Worded::of(alloc, place, message, expected.as_str())
 }
 
 /// A further argument.
@@ -470,6 +497,7 @@ pub fn filter_words(alloc: Global, stopped: Stopped<'_>) -> Result<Option<Worded
         }
         FaultKind::InvalidRegex => bad_regex(alloc, stopped)?,
         FaultKind::UnexpectedComma => second_argument(alloc, stopped)?,
+        FaultKind::UnexpectedArgument => undue_argument(alloc, stopped)?,
         kind => return bad_argument(alloc, stopped, kind),
     };
     Ok(Some(worded))

@@ -14,7 +14,14 @@ fn begins(one: &str, other: &str) -> bool {
 
 /// How many characters of two texts of one length are others.
 fn differences(one: &str, other: &str) -> usize {
-    one.chars().zip(other.chars()).filter(|(own, others)| *own != *others).count()
+    let mut count = 0usize;
+    let mut others = other.chars();
+    for c in one.chars() {
+        if others.next() != Some(c) {
+            count = count.saturating_add(1);
+        }
+    }
+    count
 }
 
 /// Whether two texts are the same but for two characters that are swapped.

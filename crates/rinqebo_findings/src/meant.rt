@@ -9,9 +9,6 @@ const MERGE_MARKS: [&str; 3] = ["<<<<<<<", "=======", ">>>>>>>"];
 /// Quotes that TOML does not have.
 const CURLY_QUOTES: [char; 4] = ['\u{201c}', '\u{201d}', '\u{2018}', '\u{2019}'];
 
-/// What ends a word of a line.
-const ENDS: [char; 6] = [' ', '\t', ',', ']', '}', '#'];
-
 /// A line that is not TOML.
 #[derive(Clone, Copy)]
 pub struct BadLine<'t> {
@@ -94,13 +91,19 @@ fn first_of(text: &str) -> &str {
     }
 }
 
+/// Whether a character ends a word of a line.
+fn is_end(c: char) -> bool {
+    c.is_whitespace() || c == ',' || c == ']' || c == '}' || c == '#'
+}
+
 /// The word that a text begins with, or its first character.
 fn word_at(text: &str) -> &str {
-    match text.find(ENDS) {
-        Some(0) => first_of(text),
-        Some(end) => text.get(..end).unwrap_or(text),
-        None => text,
+    for (at, c) in text.char_indices() {
+        if is_end(c) {
+            return text.get(..at.max(first_of(text).len())).unwrap_or(text);
+        }
     }
+    text
 }
 
 /// The value behind the equals sign of a line, without the comment behind it.
@@ -185,7 +188,8 @@ fn there(alloc: Global, bad: BadLine<'_>) -> Result<(String, usize), AllocError>
     let (_before, rest) = bad.parted();
     let wrong = bad.wrong();
     if rest.is_empty() {
-        return Ok((format!(in alloc; "{wrong} at the end of the line")?, 1));
+        let message = format!(in alloc; "{wrong} at the end of the line")?;
+        return Ok((message, 1));
     }
     if bad.is_second() {
         let name = bad.defined();
@@ -194,7 +198,8 @@ fn there(alloc: Global, bad: BadLine<'_>) -> Result<(String, usize), AllocError>
     }
     if wrong == "invalid escape sequence" {
         let c = first_of(rest);
-        return Ok((format!(in alloc; "`\\{c}` is an {wrong}")?, 1));
+        let message = format!(in alloc; "`\\{c}` is an {wrong}")?;
+        return Ok((message, 1));
     }
     let word = word_at(rest);
     let message = format!(in alloc; "{wrong}: `{word}`")?;

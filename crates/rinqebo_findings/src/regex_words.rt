@@ -110,6 +110,28 @@ fn flaw_of(pattern: &str) -> Option<Flaw> {
     scan.end()
 }
 
+/// A flaw of a regular expression, in words.
+fn flaw_message(alloc: Global, pattern: &str, flaw: Flaw) -> Result<String, AllocError> {
+    match flaw {
+        Flaw::OpenGroup => format!(in alloc; "`{pattern}` has a group that is not closed"),
+        Flaw::StrayClose => format!(in alloc; "`{pattern}` has a `)` that closes no group"),
+        Flaw::OpenClass => format!(in alloc; "`{pattern}` has a class that is not closed"),
+        Flaw::Range(from, to) => {
+            format!(in alloc; "the range `{from}-{to}` ends before it starts")
+        }
+    }
+}
+
+/// What is expected in place of a regular expression with a flaw.
+fn flaw_expected(flaw: Flaw) -> &'static str {
+    match flaw {
+        Flaw::OpenGroup => "a regular expression with a closing `)`",
+        Flaw::StrayClose => "a regular expression with a `(` for each `)`",
+        Flaw::OpenClass => "a regular expression with a closing `]`",
+        Flaw::Range(_, _) => "a regular expression whose ranges ascend",
+    }
+}
+
 /// What is wrong with a regular expression, and what is expected instead, where that is plain.
 pub fn regex_fault(
     alloc: Global,
@@ -118,23 +140,6 @@ pub fn regex_fault(
     let Some(flaw) = flaw_of(pattern) else {
         return Ok(None);
     };
-    let worded = match flaw {
-        Flaw::OpenGroup => (
-            format!(in alloc; "`{pattern}` has a group that is not closed")?,
-            "a regular expression with a closing `)`",
-        ),
-        Flaw::StrayClose => (
-            format!(in alloc; "`{pattern}` has a `)` that closes no group")?,
-            "a regular expression with a `(` for each `)`",
-        ),
-        Flaw::OpenClass => (
-            format!(in alloc; "`{pattern}` has a class that is not closed")?,
-            "a regular expression with a closing `]`",
-        ),
-        Flaw::Range(from, to) => (
-            format!(in alloc; "the range `{from}-{to}` ends before it starts")?,
-            "a regular expression whose ranges ascend",
-        ),
-    };
-    Ok(Some(worded))
+    let message = flaw_message(alloc, pattern, flaw)?;
+    Ok(Some((message, flaw_expected(flaw))))
 }
