@@ -78,6 +78,11 @@ impl<'t> Stopped<'t> {
         self.text.get(self.start..self.end).unwrap_or("")
     }
 
+    /// The first character from the part on.
+    pub fn first(self) -> &'t str {
+        first_of(self.rest())
+    }
+
     /// Where some text that follows the start is, which ends with the whole text.
     fn place_of(self, rest: &str, len: usize) -> (usize, usize) {
         let start = self.text.len().saturating_sub(rest.len());

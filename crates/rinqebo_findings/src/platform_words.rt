@@ -128,6 +128,18 @@ fn bad_value(
     Worded::of(alloc, (stopped.start, stopped.end), message, expected)
 }
 
+/// A character is none that a text may have.
+fn bad_character(
+    alloc: Global,
+    stopped: Stopped<'_>,
+    what: &str,
+    expected: &str,
+) -> Result<Worded, AllocError> {
+    let c = stopped.first();
+    let message = format!(in alloc; "`{c}` is not a character of {what}")?;
+    Worded::of(alloc, (stopped.start, stopped.end), message, expected)
+}
+
 /// A key has no value.
 fn value_wanted(alloc: Global, stopped: Stopped<'_>) -> Result<Worded, AllocError> {
     let key = stopped.part();
@@ -155,6 +167,7 @@ fn unexpected(alloc: Global, stopped: Stopped<'_>) -> Result<Option<Worded>, All
         return Ok(None);
     };
     let expected = rest.strip_suffix(" here").unwrap_or(rest);
+    let expected = expected.strip_prefix("one of ").unwrap_or(expected);
     let part = stopped.part();
     let place = (stopped.start, stopped.end);
     let message = if part.is_empty() {
@@ -220,13 +233,13 @@ fn bad_whole(alloc: Global, stopped: Stopped<'_>) -> Result<Option<Worded>, Allo
             "the platform is empty",
             "a target triple, or `cfg(..)`",
         )?,
-        "expected a letter, a digit, `_`, `-` or `.`" => bad_value(
+        "expected a letter, a digit, `_`, `-` or `.`" => bad_character(
             alloc,
             stopped,
-            "in any target triple",
+            "target triples",
             "a triple of letters, digits, `_`, `-` and `.`, or `cfg(..)`",
         )?,
-        "foreign character" => bad_value(alloc, stopped, "in any `cfg(..)`", AN_EXPRESSION)?,
+        "foreign character" => bad_character(alloc, stopped, "`cfg(..)`", AN_EXPRESSION)?,
         "expected an expression" => at(alloc, place, "`cfg(..)` is empty", AN_EXPRESSION)?,
         "expected one expression, and not several" => several(alloc, stopped)?,
         "`not` takes one part" => not_one(alloc, stopped)?,

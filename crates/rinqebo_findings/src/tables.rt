@@ -186,10 +186,10 @@ fn in_part(
     Ok(None)
 }
 
-/// The path of the profile that has a path.
-fn profile_of<'p>(path: &[Step<'p>]) -> Option<[Step<'p>; 2]> {
-    match (key_at(path, 0), key_at(path, 1)) {
-        (Some("profile"), Some(name)) => Some([Step::Key("profile"), Step::Key(name)]),
+/// The name of the profile that has a path.
+fn profile_of<'p>(path: &[Step<'p>]) -> Option<&'p str> {
+    match key_at(path, 0) {
+        Some("profile") => key_at(path, 1),
         _ => None,
     }
 }
@@ -200,9 +200,10 @@ fn place_in_profile(
     table: &[Step<'_>],
     key: &str,
 ) -> Result<Option<String>, AllocError> {
-    let Some(profile) = profile_of(table) else {
+    let Some(name) = profile_of(table) else {
         return Ok(None);
     };
+    let profile = [Step::Key("profile"), Step::Key(name)];
     if table.len() == 2 {
         return in_overrides(alloc, &profile, key);
     }
