@@ -716,7 +716,8 @@ fn a_session_tells_its_warnings() {
 fn a_run_has_the_objects_of_its_profile() {
     let list = example("list.json");
     for profile in ["ci", "quick", "default"] {
-        let objects = runner(None).profile(profile).unwrap().objects().unwrap();
+        // The list names the target directory.
+        let objects = runner(Some("/w/target")).profile(profile).unwrap().objects().unwrap();
         let mut sources = Sources::of_file("/w", RUNNER, TRIPLE);
         for target in [None, Some("/t".to_owned())] {
             sources.target_directory = target;
