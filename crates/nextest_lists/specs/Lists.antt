@@ -3,7 +3,7 @@ use Rattle.std.specs.Prelude.{◌≡◌, ℕ, Bool, false, List, map, Option, No
 use Rattle.std.specs.List.{AllZip}
 use Rattle.nextest_engines.specs.Engines.{Binary, Test}
 use Rattle.serde_json.specs.Data.{Data, boolean, string, object, Members}
-use Rattle.serde_json.specs.Find.{get}
+use Rattle.serde_json.specs.Find.{as_str, get}
 use Rattle.nextest_lists.specs.Demands.{first_target, listed, platform_of, platforms_in, triple_in}
 
 -- A test of a binary: its name, and whether a list says that it is ignored.
@@ -98,16 +98,11 @@ abbrev pub AreTriples : Data → Triples → Type 0
 AreTriples document triples = MatchOption (platforms_in document)
     (triples ≡ record { host = None; target = None }) (λ p. AreTriplesIn p triples)
 
--- the string of a value, if it is one
-abbrev pub string_in : Data → Option (List ℕ)
-string_in (string text) = Some text
-string_in found = None
-
 -- the target directory of a document: the string at `target-directory` of `rust-build-meta`, if it
 -- has one
 abbrev pub target_directory_in : Data → Option (List ℕ)
 target_directory_in document =
-    option_and_then string_in (option_and_then (get (codes "target-directory"))
+    option_and_then as_str (option_and_then (get (codes "target-directory"))
     (get (codes "rust-build-meta") document))
 
 -- A list is the one in a document: the triples of the build, the target directory, and a binary for

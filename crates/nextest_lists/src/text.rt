@@ -4,7 +4,7 @@ ghost use Rattle.serde_json.specs.Errors.{IsMemory};
 ghost use Rattle.serde_json.specs.View.{view};
 ghost use Rattle.nextest_lists.specs.Demands.{demands, first_fault, not_json};
 ghost use Rattle.nextest_lists.specs.Faults.{fault_view, TellsFirst};
-ghost use Rattle.nextest_lists.specs.Lists.{IsListOf, string_in, target_directory_in};
+ghost use Rattle.nextest_lists.specs.Lists.{IsListOf, target_directory_in};
 ghost use Rattle.nextest_lists.specs.ListView.{list_view};
 ghost use Rattle.nextest_lists.specs.Reading.{IsListIn, IsFaultIn};
 
@@ -26,21 +26,12 @@ fn copied(alloc: Global, text: Option<&str>) -> Result<Option<String>, AllocErro
     }
 }
 
-/// Returns the string of a value, if it is one.
-fn string_in(value: &Value) -> Option<&str>
-    ensures { option_map (λ text. text.now) result ≡ string_in (view value.now) }
-{
-    match value {
-        Value::String(text) => Some(text.as_str()),
-        _ => None,
-    }
-}
-
 /// Returns the target directory of the build, if a document has it.
 fn target_directory_in(document: &Value) -> Option<&str>
     ensures { option_map (λ text. text.now) result ≡ target_directory_in (view document.now) }
 {
-    string_in(document.get("rust-build-meta")?.get("target-directory")?)
+    let meta = document.get("rust-build-meta")?;
+    meta.get("target-directory")?.as_str()
 }
 
 /// Reads the tests that a document lists.
