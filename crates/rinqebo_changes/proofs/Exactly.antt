@@ -1,5 +1,5 @@
 -- The rows that change are exactly those between which something changes, each once.
-use Rattle.std.proofs.Common.{◌≡◌, ℕ, ◌<◌, ◌≤◌, ◌+◌, ◌∙◌, Bool, true, false, cond, List, [], ◌∷◌, Option, None, Some, map, filter, zero, suc, refl, sym, ap, subst, arith}
+use Rattle.std.proofs.Common.{◌≡◌, ℕ, ◌<◌, ◌≤◌, ◌+◌, ◌∙◌, Bool, true, false, cond, List, [], ◌∷◌, None, Some, map, filter, zero, suc, refl, sym, ap, subst, arith}
 use Rattle.std.specs.List.{AllByRecursion, enumerate_from, zip}
 use Rattle.std.specs.Prelude.{slice_get}
 use Rattle.rinqebo_changes.specs.declared.change.RowChange.{RowChange}

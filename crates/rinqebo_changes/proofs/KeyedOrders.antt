@@ -1,11 +1,11 @@
 -- Rows keep the order of those of each key.
-use Rattle.std.proofs.Common.{◌≡◌, ◌∙◌, ℕ, ◌+◌, ◌<◌, ◌≤◌, ◌||◌, Bool, true, false, cond, zero, suc, List, [], ◌∷◌, ◌++◌, filter, length, take, get_or, refl, sym, ap, subst, append_assoc, length-take, arith, bytes_eq, string_bytes}
+use Rattle.std.proofs.Common.{◌≡◌, ◌∙◌, ℕ, ◌+◌, ◌<◌, ◌||◌, Bool, true, false, cond, zero, suc, List, [], ◌∷◌, ◌++◌, length, take, get_or, refl, sym, ap, subst, length-take, arith, string_bytes}
 use Rattle.std.proofs.lemmas.List.{append-nil, get_or-take}
 use Rattle.std.proofs.lemmas.List.Elements.{filter-append}
 use Rattle.std.proofs.lemmas.List.Folds.{list_any_none}
 use Rattle.std.proofs.lemmas.List.Sums.{fails_before_first}
 use Rattle.std.specs.Cmp.Lexicographic.{bytes_decides}
-use Rattle.std.specs.List.{list_any, position_or_len, remove}
+use Rattle.std.specs.List.{position_or_len, remove}
 use Rattle.rinqebo_report.specs.declared.report.SettingRow.{SettingRow}
 use Rattle.rinqebo_changes.specs.Keyed.{is_of, has_key, rows_of, no_more, with_row, without_row, AreSome, KeepsOrder}
 

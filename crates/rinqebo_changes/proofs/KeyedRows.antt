@@ -1,5 +1,5 @@
 -- Rows of two sides that are put beside each other by their keys.
-use Rattle.std.proofs.Common.{◌≡◌, ◌∙◌, ℕ, ◌+◌, ◌<◌, ◌≤◌, ◌⊎◌, inl, inr, ◌||◌, Bool, true, false, cond, ltb, List, [], ◌∷◌, ◌++◌, Option, None, Some, MatchOption, length, take, get_or, refl, sym, ap, subst, append_assoc, arith, bytes_eq, string_bytes}
+use Rattle.std.proofs.Common.{◌≡◌, ◌∙◌, ℕ, ◌+◌, ◌<◌, ◌≤◌, inl, inr, ◌||◌, Bool, true, false, cond, ltb, List, [], ◌∷◌, ◌++◌, Option, None, Some, MatchOption, length, take, get_or, refl, sym, subst, append_assoc, arith, bytes_eq, string_bytes}
 use Rattle.std.proofs.lemmas.Bool.{ltb-true, ltb-false}
 use Rattle.std.proofs.lemmas.List.{append-nil}
 use Rattle.std.proofs.lemmas.List.Elements.{All-nil, All-cons, All-push, All-weaker, all_zip_more}
@@ -8,10 +8,10 @@ use Rattle.std.proofs.lemmas.List.Sorted.{IsPermutation-refl, IsPermutation-tran
 use Rattle.std.proofs.lemmas.List.Sums.{fails_before_first, passes_at_first}
 use Rattle.std.proofs.lemmas.Option.{get_or_from_slice_get, slice_get_read}
 use Rattle.std.specs.Cmp.Lexicographic.{bytes_decides}
-use Rattle.std.specs.List.{All, AllZip, list_any, position_or_len, remove}
+use Rattle.std.specs.List.{All, AllZip, position_or_len, remove}
 use Rattle.std.specs.List.Sorted.{IsPermutation}
 use Rattle.rinqebo_report.specs.declared.report.SettingRow.{SettingRow}
-use Rattle.rinqebo_changes.specs.Keyed.{is_of, has_key, AreSome, KeepsOrder, HaveSameKey, IsAbsent, IsAbsentFor, SaysNothing, IsPlaceOf, IsFound, IsMissing, IsTaken, AreBeside, AreAligned}
+use Rattle.rinqebo_changes.specs.Keyed.{is_of, has_key, AreSome, KeepsOrder, HaveSameKey, IsAbsentFor, SaysNothing, IsPlaceOf, IsFound, IsTaken, AreBeside, AreAligned}
 use Rattle.rinqebo_changes.proofs.KeyedOrders.{neither_right, none_before, order_before, order_behind, order_of_first, order_refl, order_to_front, order_trans, some_all, some_removed, some_trans}
 
 -- the first row of a key
