@@ -56,7 +56,7 @@ pub side_fails : (request : DiffRequest) (from to : Gathered) (name : SideName) 
 side_fails request from to names.From failure ending fails reports =
     fails_on request.from from failure ending fails reports
 side_fails request from to names.To failure ending fails reports =
-    fails_on request.to to failure ending fails reports
+    (fails.0, fails_on request.to to failure ending fails.1 reports)
 
 -- what two runs request of files ends as their request does
 pub ends_in : {E : Type 0} (from to : RequestedText) (with_origins : Bool) (left right : Gathered)
@@ -91,13 +91,13 @@ ends_for from to with_origins side (ends.NoProfile text) is = is
 ends_for from to with_origins side (ends.NoEngines reason) is = is
 ends_for from to with_origins None (ends.NotUnderstood reason) is = absurd is.ends_so.ends_so.ends_so
 ends_for from to with_origins (Some names.From) (ends.NotUnderstood reason) is = absurd is.ends_so.ends_so.ends_so.cause
-ends_for from to with_origins (Some names.To) (ends.NotUnderstood reason) is = absurd is.ends_so.ends_so.ends_so.cause
+ends_for from to with_origins (Some names.To) (ends.NotUnderstood reason) is = absurd is.ends_so.ends_so.ends_so.1.cause
 ends_for from to with_origins None ends.NotText is = absurd is.ends_so.ends_so.ends_so
 ends_for from to with_origins (Some names.From) ends.NotText is = absurd is.ends_so.ends_so.ends_so.cause
-ends_for from to with_origins (Some names.To) ends.NotText is = absurd is.ends_so.ends_so.ends_so.cause
+ends_for from to with_origins (Some names.To) ends.NotText is = absurd is.ends_so.ends_so.ends_so.1.cause
 ends_for from to with_origins None ends.Memory is = refl
 ends_for from to with_origins (Some names.From) ends.Memory is = absurd is.ends_so.ends_so.ends_so.cause
-ends_for from to with_origins (Some names.To) ends.Memory is = absurd is.ends_so.ends_so.ends_so.cause
+ends_for from to with_origins (Some names.To) ends.Memory is = absurd is.ends_so.ends_so.ends_so.1.cause
 
 -- requests that are understood end as the comparison of their runs does
 pub understood : {E : Type 0} (from to : List ℕ) (with_origins : Bool) (left right : RunText)

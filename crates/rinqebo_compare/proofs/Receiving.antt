@@ -1,11 +1,11 @@
 -- What callers receive of comparisons.
-use Rattle.std.proofs.Common.{◌≡◌, ◌∙◌, ◌⊎◌, ◌<◌, ◌≤◌, ◌++◌, inl, inr, ℕ, [], Bool, Global, List, Option, None, Some, ap, arith, drop, length, refl, String, string_bytes, subst, sym, take}
+use Rattle.std.proofs.Common.{◌≡◌, ◌∙◌, ◌⊎◌, ◌<◌, ◌≤◌, inl, inr, ℕ, Bool, Global, List, Option, None, Some, ap, arith, drop, length, refl, String, string_bytes, subst, sym, take}
 use Rattle.std.proofs.Math.Seq.{take-append_seam}
 use Rattle.std.proofs.lemmas.Bool.{cases_lt}
 use Rattle.rinqebo_compare.specs.Comparisons.{EndsFor, EndsUnderstood, IsCompared, IsDiffFor, counts_origins, side_number}
 use Rattle.rinqebo_diff.specs.declared.loaded.SideName.{SideName}
 use Rattle.rinqebo_diff.specs.declared.loaded.SideName.TheVariants as names
-use Rattle.rinqebo_resolve.specs.Endings.{IsReported, IsSilent, ending_status, ending_text}
+use Rattle.rinqebo_resolve.specs.Endings.{ending_status, ending_text}
 use Rattle.rinqebo_resolve.specs.declared.ending.Ending.{Ending}
 use Rattle.rinqebo_resolve.specs.declared.ending.Ending.TheVariants as ends
 use Rattle.rinqebo_session.specs.declared.status.TheConstants.{DONE}
@@ -31,7 +31,7 @@ document_of from to with_origins None text is = (
   },
 )
 document_of from to with_origins (Some names.From) text is = absurd is.ends_so.ends_so.ends_so.cause
-document_of from to with_origins (Some names.To) text is = absurd is.ends_so.ends_so.ends_so.cause
+document_of from to with_origins (Some names.To) text is = absurd is.ends_so.ends_so.ends_so.1.cause
 
 pub done_with : (from to : List ℕ) (with_origins : Bool) (side : Option SideName) (ending : Ending)
     → EndsFor from to with_origins side ending → ending_status ending ≡ DONE
@@ -66,38 +66,3 @@ pub reported_document : (from to : List ℕ) (origins : ℕ) (old new : List ℕ
     → (side ≡ 0) × IsDiffFor from to (counts_origins origins) (take needed new)
 reported_document from to origins old new needed side status r =
     document_in from to origins old new needed side status r (cases_lt (length old) (length (ending_text r.ending)))
-
--- an ending with a status beside which nothing is told has no text
-silent_text : (ending : Ending) → IsSilent (ending_status ending) → ending_text ending ≡ []
-silent_text (ends.Answered text) (inl is) = absurd (omega arith)
-silent_text (ends.Answered text) (inr (inl is)) = absurd (omega arith)
-silent_text (ends.Answered text) (inr (inr is)) = absurd (omega arith)
-silent_text (ends.Refused text) (inl is) = absurd (omega arith)
-silent_text (ends.Refused text) (inr (inl is)) = absurd (omega arith)
-silent_text (ends.Refused text) (inr (inr is)) = absurd (omega arith)
-silent_text (ends.NoProfile text) (inl is) = absurd (omega arith)
-silent_text (ends.NoProfile text) (inr (inl is)) = absurd (omega arith)
-silent_text (ends.NoProfile text) (inr (inr is)) = absurd (omega arith)
-silent_text (ends.NoEngines reason) (inl is) = absurd (omega arith)
-silent_text (ends.NoEngines reason) (inr (inl is)) = absurd (omega arith)
-silent_text (ends.NoEngines reason) (inr (inr is)) = absurd (omega arith)
-silent_text (ends.NotUnderstood reason) (inl is) = absurd (omega arith)
-silent_text (ends.NotUnderstood reason) (inr (inl is)) = absurd (omega arith)
-silent_text (ends.NotUnderstood reason) (inr (inr is)) = absurd (omega arith)
-silent_text ends.NotText is = refl
-silent_text ends.Memory is = refl
-
--- where the status says that the caller receives nothing, the buffer is as it was
-kept_in : (ending : Ending) (old new : List ℕ) (needed status : ℕ) → IsReported ending old new needed status
-    → (length old < length (ending_text ending)) ⊎ (length (ending_text ending) ≤ length old) → IsSilent status
-    → new ≡ old
-kept_in ending old new needed status reported (inl less) silent = (reported.small less).1
-kept_in ending old new needed status reported (inr room) silent =
-    let written = reported.written room in
-    let none = silent_text ending (subst IsSilent written.0 silent) in
-    written.1 ∙ ap (λ text. text ++ drop (length text) old) none
-
-pub reported_kept : (ending : Ending) (old new : List ℕ) (needed status : ℕ) → IsReported ending old new needed status
-    → IsSilent status → new ≡ old
-reported_kept ending old new needed status reported =
-    kept_in ending old new needed status reported (cases_lt (length old) (length (ending_text ending)))

@@ -5,7 +5,7 @@ use Rattle.rinqebo_changes.specs.Documents.{IsDiffJson}
 use Rattle.rinqebo_changes.specs.declared.diff.Diff.{Diff}
 use Rattle.rinqebo_compare.specs.Requests.{IsRequestBetween}
 use Rattle.rinqebo_diff.specs.Differences.{Differs}
-use Rattle.rinqebo_diff.specs.Failing.{IsRefusedSide, LacksItsProfile, SideFails}
+use Rattle.rinqebo_diff.specs.Failing.{IsRefusedSide, LacksItsProfile, Loads, SideFails}
 use Rattle.rinqebo_diff.specs.declared.loaded.SideName.{SideName}
 use Rattle.rinqebo_diff.specs.declared.loaded.SideName.TheVariants as names
 use Rattle.rinqebo_diff.specs.declared.request.DiffRequest.{DiffRequest}
@@ -45,11 +45,13 @@ pub record FailsOn (side : DiffSide) (gathered : Gathered) (ending : Ending) : T
   pub reports : ReportsFailure failure ending
   pub cause : IsCauseOn side gathered ending
 
--- how a request ends over the files of its sides: with the document of what changes, or with why a
--- side has no result; want of memory aside
+-- how a request ends over the files of its sides: with the document of what changes, or with why the
+-- left side has no result, or why the right one has none where the left one loads; want of memory
+-- aside
 abbrev pub EndsBetween : DiffRequest → Gathered → Gathered → Option SideName → Ending → Type 0
 EndsBetween request from to (Some names.From) ending = FailsOn request.from from ending
-EndsBetween request from to (Some names.To) ending = FailsOn request.to to ending
+EndsBetween request from to (Some names.To) ending =
+    Loads request.from from × FailsOn request.to to ending
 EndsBetween request from to None (ends.Answered text) =
     IsDocumentBetween request from to (string_bytes text)
 EndsBetween request from to None (ends.Refused text) = ⊥
@@ -84,11 +86,16 @@ pub record EndsUnderstood (from to : List ℕ) (with_origins : Bool) (side : Opt
   pub reads_right : run_of to ≡ Some right
   pub ends_so : EndsOf left right with_origins side ending
 
--- something holds of the bytes of a side's request
+-- bytes are understood
+abbrev pub IsUnderstood : List ℕ → Type 0
+IsUnderstood request = (run : RunText) × (run_of request ≡ Some run)
+
+-- something holds of the bytes of the left side's request, or of those of the right one's where
+-- those of the left one are understood
 abbrev pub HoldsOn : (List ℕ → Type 0) → List ℕ → List ℕ → Option SideName → Type 0
 HoldsOn Holds from to None = ⊥
 HoldsOn Holds from to (Some names.From) = Holds from
-HoldsOn Holds from to (Some names.To) = Holds to
+HoldsOn Holds from to (Some names.To) = IsUnderstood from × Holds to
 
 -- how the comparison of the bytes of two requests ends, and which side has no result: as that of
 -- the runs that they describe does, or the bytes of a side are not understood, or are not UTF-8;

@@ -1,4 +1,5 @@
 use Rattle.rinqebo_forms.specs.Runs.{run_view}
+use Rattle.rinqebo_compare.specs.Comparisons.{IsUnderstood}
 use Rattle.rinqebo_compare.proofs.Endings.{understood, unread}
 use Rattle.rinqebo_diff.specs.declared.loaded.SideName.TheVariants as names
 use Rattle.rinqebo_compare.proofs.comparing.compared_with_memory.Goals as goal
@@ -10,8 +11,10 @@ returns-in-Ended c =
 
 pub returns-in-Ended-right : goal.returns-in-Ended-right
 returns-in-Ended-right c =
+    let left : IsUnderstood c.args.from.now =
+    (run_view c.in-Run.left_run, rw c.in-Run.is at c.in_ok-left.ensures) in
     unread c.args.from.now c.args.to.now c.args.with_origins names.To c.args.to.now c.in-Ended-right.ending
-    (rw c.in-Ended-right.is at c.in_ok-right.ensures) (λ Holds is. is)
+    (rw c.in-Ended-right.is at c.in_ok-right.ensures) (λ Holds is. (left, is))
 
 pub returns-in-Run-right : goal.returns-in-Run-right
 returns-in-Run-right c =

@@ -1,4 +1,5 @@
-use Rattle.rinqebo_compare.proofs.Receiving.{reported_document, reported_kept}
+use Rattle.rinqebo_compare.proofs.Receiving.{reported_document}
+use Rattle.rinqebo_resolve.proofs.Silent.{reported_kept}
 use Rattle.rinqebo_compare.proofs.reported.compare.Goals as goal
 
 pub returns-clause-compared : goal.returns-clause-compared
