@@ -45,9 +45,9 @@ pub record FailsOn (side : DiffSide) (gathered : Gathered) (ending : Ending) : T
   pub reports : ReportsFailure failure ending
   pub cause : IsCauseOn side gathered ending
 
--- how a request ends over the files of its sides: with the document of what changes, or with why the
--- left side has no result, or why the right one has none where the left one loads; want of memory
--- aside
+-- how a request ends over the files of its sides: with the document of what changes, or with why
+-- the left side has no result, or why the right one has none where the left one loads; want of
+-- memory aside
 abbrev pub EndsBetween : DiffRequest → Gathered → Gathered → Option SideName → Ending → Type 0
 EndsBetween request from to (Some names.From) ending = FailsOn request.from from ending
 EndsBetween request from to (Some names.To) ending =

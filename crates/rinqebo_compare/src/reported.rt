@@ -30,9 +30,9 @@ fn side_number(side: Option<SideName>) -> u32
 
 /// Compares the runs of two requests in JSON: writes the document of what changes at the start of
 /// a buffer, or why there is none, and returns a number for which it is. Where the buffer is too
-/// small it stays as it was. Either way `needed` is the length of what there is to write, and `side`
-/// the number of the side that has no result. Unless `origins` is 0, other origins of a value that
-/// is the same are a change too.
+/// small it stays as it was. Either way `needed` is the length of what there is to write, and
+/// `side` the number of the side that has no result. Unless `origins` is 0, other origins of a
+/// value that is the same are a change too.
 pub fn compare(
     alloc: Global,
     from: &[u8],
