@@ -103,10 +103,10 @@ enum rinqebo_side {
 // each status it is
 //   DONE             the document of `rinqebo diff --format json`, on a line, also where nothing changes
 //   another one      what rinqebo_resolve has with it, for the request of one side
-// *side is that side: RINQEBO_FROM or RINQEBO_TO, and RINQEBO_NO_SIDE with DONE and MEMORY. With SMALL it is the one
-// that it has with the status for which the buffer is too small. Where both sides have no result, it is the left one,
-// but a request that is not understood comes before files. Unless `origins` is 0, other origins of a value that is the
-// same are a change too.
+// *side is that side: RINQEBO_FROM or RINQEBO_TO, and RINQEBO_NO_SIDE with DONE and MEMORY. With SMALL it is already
+// that of a call with a buffer that is large enough. Both requests are read first, then the left side is loaded, then
+// the right one: the first failure is reported. Unless `origins` is 0, other origins of a value that is the same are a
+// change too.
 uint32_t rinqebo_diff(const uint8_t *from, size_t from_len, const uint8_t *to, size_t to_len, uint32_t origins,
                       uint8_t *answer, size_t answer_len, size_t *needed, uint32_t *side);
 
