@@ -142,9 +142,9 @@ pub struct RunChange {
 #[derive(Clone, Debug, PartialEq, Eq)]
 #[non_exhaustive]
 pub struct DiffError {
-    /// The side that has no result, if it is one of them: not for want of memory, for example.
+    /// The side that has no result; `None` where the error is that of no side, as where memory is refused.
     pub side: Option<SideName>,
-    /// Why.
+    /// Why there is none.
     pub error: Error,
 }
 
