@@ -145,7 +145,7 @@ fn answer_in<P: Progress>(
     ensures about { IfOk result (λ answer. IsReportOf session.now answer.report) }
     ensures looked_up { IfOk result (λ _. AreLookedUp session.now request.now.question) }
     ensures objects { IfOk result (λ answer.
-        HasObjectsFor request.now.question answer.report.content) }
+        HasObjectsFor session.now request.now.question answer.report.content) }
     ensures err { IfErr result (IsFailureIn session.now request.now.question) }
 {
     let path = request.engines.metadata;
