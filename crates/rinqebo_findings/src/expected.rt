@@ -106,11 +106,7 @@ fn add_words(alloc: Global, shape: &Shape, words: &mut Vec<String>) -> Result<()
 }
 
 /// Adds what each of some shapes takes, in words.
-fn add_each(
-    alloc: Global,
-    shapes: &Vec<Shape>,
-    words: &mut Vec<String>,
-) -> Result<(), AllocError> {
+fn add_each(alloc: Global, shapes: &Vec<Shape>, words: &mut Vec<String>) -> Result<(), AllocError> {
     for shape in shapes {
         add_words(alloc, shape, words)?;
     }

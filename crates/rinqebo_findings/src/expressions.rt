@@ -1,7 +1,8 @@
 //! Filters and platforms that are refused, with the part that is wrong.
-use crate::filter_words::{Stopped, Worded, filter_words};
+use crate::filter_words::filter_words;
 use crate::platform_words::platform_words;
 use crate::refused::Refused;
+use crate::worded::{Stopped, Worded};
 use crate::words::owned;
 use filter_engine::FaultKind;
 use nextest_config::{

@@ -65,11 +65,7 @@ pub fn name_by_front<'k>(name: &str, known: &[&'k str]) -> Option<&'k str> {
 }
 
 /// The hint that one of some known names is meant, if one is near or has the same front.
-pub fn near_hint(
-    alloc: Global,
-    name: &str,
-    known: &[&str],
-) -> Result<Option<String>, AllocError> {
+pub fn near_hint(alloc: Global, name: &str, known: &[&str]) -> Result<Option<String>, AllocError> {
     let near = match near_name(alloc, name, known)? {
         Some(near) => Some(near),
         None => name_by_front(name, known),

@@ -46,6 +46,7 @@ mod unknown_names;
 mod unreached;
 mod value_faults;
 mod ways;
+mod worded;
 mod words;
 
 pub use failures::find_test;

@@ -1,5 +1,6 @@
 //! What is wrong with lines that are not TOML, in words: what is there, what is expected, and what
 //! is meant, where that is plain.
+use crate::worded::first_of;
 use crate::words::owned;
 use std::alloc::{AllocError, Global};
 
@@ -81,14 +82,6 @@ impl<'t> BadLine<'t> {
 /// Whether a character is a quote that TOML does not have.
 fn is_curly(c: char) -> bool {
     CURLY_QUOTES.iter().any(|quote| *quote == c)
-}
-
-/// The character that a text begins with.
-fn first_of(text: &str) -> &str {
-    match text.chars().next() {
-        Some(c) => text.get(..c.len_utf8()).unwrap_or(""),
-        None => "",
-    }
 }
 
 /// Whether a character ends a word of a line.

@@ -109,7 +109,9 @@ fn warn_of_others<'x>(
         found.help = near_hint(alloc, key, known)?;
         found.help_place = HelpPlace::Beside;
         let keys = quoted(alloc, known, ", ")?;
-        found.notes.push(format!(in alloc; "keys of {table}: {keys}")?)?;
+        found
+            .notes
+            .push(format!(in alloc; "keys of {table}: {keys}")?)?;
         refused.add_finding(found)?;
     }
     Ok(())
@@ -302,7 +304,9 @@ fn add_missing(
     let wrong = format!(in alloc; "an item of `include` needs `{key}`")?;
     let mut found = refused.at(Code::MissingKey, path, wrong.as_str())?;
     let keys = quoted(alloc, &INCLUDE_KEYS, ", ")?;
-    found.notes.push(format!(in alloc; "keys of an item of `include`: {keys}")?)?;
+    found
+        .notes
+        .push(format!(in alloc; "keys of an item of `include`: {keys}")?)?;
     refused.add_finding(found)
 }
 

@@ -63,7 +63,9 @@ fn with_first(
     };
     let mut found = found;
     let number = from_one(first);
-    found.notes.push(format!(in alloc; "it is first defined in line {number}")?)?;
+    found
+        .notes
+        .push(format!(in alloc; "it is first defined in line {number}")?)?;
     let marks = [
         Mark {
             sign: Sign::Related,

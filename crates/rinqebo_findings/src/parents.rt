@@ -85,7 +85,13 @@ fn add_parent(refused: &mut Refused<'_, '_>, error: &InheritsError) -> Result<()
             let wrong = format!(in alloc;
                 "profile `{profile}` has `inherits`, but may not inherit from another profile"
             )?;
-            add_no_parent(refused, code, profile, wrong.as_str(), "no `inherits` in this profile")
+            add_no_parent(
+                refused,
+                code,
+                profile,
+                wrong.as_str(),
+                "no `inherits` in this profile",
+            )
         }
         InheritsError::SelfReferentialInheritance(profile) => {
             let wrong = error.to_string(alloc)?;

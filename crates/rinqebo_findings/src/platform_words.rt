@@ -1,7 +1,7 @@
 //! What is wrong with platforms that are refused, in words: the part that is at fault, what is
 //! expected there, and what to do.
-use crate::filter_words::{Stopped, Worded};
 use crate::hints::near_hint;
+use crate::worded::{Stopped, Worded};
 use crate::words::{owned, quoted};
 use std::alloc::{AllocError, Global};
 
@@ -27,7 +27,10 @@ const A_VALUE: &str = "a value in quotes, as in `target_os = \"linux\"`";
 
 /// Whether a text is a name without quotes.
 fn is_name(text: &str) -> bool {
-    !text.is_empty() && text.chars().all(|c| c.is_ascii_alphanumeric() || c == '_' || c == '-')
+    !text.is_empty()
+        && text
+            .chars()
+            .all(|c| c.is_ascii_alphanumeric() || c == '_' || c == '-')
 }
 
 /// What was read of the parts of a function.
@@ -208,7 +211,12 @@ fn bad_leaf(alloc: Global, stopped: Stopped<'_>) -> Result<Option<Worded>, Alloc
             bad_value(alloc, stopped, "a byte order", "`big` or `little`")?
         }
         "expected a number to 255" => {
-            bad_value(alloc, stopped, "a width of pointers", "an integer from 0 to 255")?
+            bad_value(
+                alloc,
+                stopped,
+                "a width of pointers",
+                "an integer from 0 to 255",
+            )?
         }
         "expected `ptr` or a number to 65535" => bad_value(
             alloc,

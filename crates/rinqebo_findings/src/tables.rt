@@ -170,11 +170,7 @@ fn in_profile(
 }
 
 /// Where a key of a table belongs that is one of a table in it: the first that knows it.
-fn in_part(
-    alloc: Global,
-    table: &[Step<'_>],
-    key: &str,
-) -> Result<Option<String>, AllocError> {
+fn in_part(alloc: Global, table: &[Step<'_>], key: &str) -> Result<Option<String>, AllocError> {
     for part in known_keys(alloc, table)? {
         let path = longer(alloc, table, &[Step::Key(part)])?;
         if knows(alloc, &path, key)? {
@@ -234,11 +230,7 @@ fn place_elsewhere(
 }
 
 /// Whether the values of a key of a table are arrays of tables.
-fn is_list(
-    alloc: Global,
-    table: &[Step<'_>],
-    key: &'static str,
-) -> Result<bool, AllocError> {
+fn is_list(alloc: Global, table: &[Step<'_>], key: &'static str) -> Result<bool, AllocError> {
     let path = longer(alloc, table, &[Step::Key(key)])?;
     let file = file_shape(alloc)?;
     match shape_at(&file, &path) {
@@ -253,11 +245,7 @@ fn has_fields(shape: &Shape) -> bool {
 }
 
 /// The hint that a key of a table is meant: by its header, where it is that of an array of tables.
-fn key_hint(
-    alloc: Global,
-    table: &[Step<'_>],
-    key: &'static str,
-) -> Result<String, AllocError> {
+fn key_hint(alloc: Global, table: &[Step<'_>], key: &'static str) -> Result<String, AllocError> {
     if !is_list(alloc, table, key)? {
         return format!(in alloc; "did you mean `{key}`?");
     }

@@ -28,7 +28,10 @@ fn has_name(rule: &Tree, key: &str, name: &str) -> bool {
 
 /// The position of a name in an array of names.
 fn place_in(written: &Tree, name: &str) -> Option<usize> {
-    written.as_array()?.iter().position(|item| item.as_str() == Some(name))
+    written
+        .as_array()?
+        .iter()
+        .position(|item| item.as_str() == Some(name))
 }
 
 /// The position of the first rule of a list of a profile that has a name at one of some keys, and
@@ -90,10 +93,7 @@ fn naming_path<'p>(
 }
 
 /// The names of groups that a rule may set.
-fn group_names<'k>(
-    alloc: Global,
-    known: &'k BTreeSet<String>,
-) -> Result<Vec<&'k str>, AllocError> {
+fn group_names<'k>(alloc: Global, known: &'k BTreeSet<String>) -> Result<Vec<&'k str>, AllocError> {
     let mut names = names_of(alloc, known)?;
     if !names.iter().any(|name| *name == GLOBAL_GROUP) {
         names.push(GLOBAL_GROUP)?;
@@ -131,7 +131,14 @@ pub fn add_unknown_group(
     let wrong = format!(in alloc; "unknown group `{name}`")?;
     let path = naming_path(refused, profile, "overrides", &["test-group"], name)?;
     let names = group_names(alloc, known)?;
-    add_unknown(refused, Code::UnknownGroup, &path, wrong.as_str(), name, &names)
+    add_unknown(
+        refused,
+        Code::UnknownGroup,
+        &path,
+        wrong.as_str(),
+        name,
+        &names,
+    )
 }
 
 /// Adds the scripts that are not known, but those whose definitions are refused.
@@ -151,18 +158,21 @@ fn add_unknown_scripts(
         let profile = error.profile_name.as_str();
         let path = naming_path(refused, profile, "scripts", &SCRIPT_USES, name)?;
         let wrong = format!(in alloc; "unknown script `{name}`")?;
-        add_unknown(refused, Code::UnknownScript, &path, wrong.as_str(), name, &names)?;
+        add_unknown(
+            refused,
+            Code::UnknownScript,
+            &path,
+            wrong.as_str(),
+            name,
+            &names,
+        )?;
     }
     Ok(())
 }
 
 /// What is expected of the script that a rule names at a key, and what to do with one of another
 /// kind.
-fn other_use(
-    alloc: Global,
-    key: &str,
-    name: &str,
-) -> Result<(&'static str, String), AllocError> {
+fn other_use(alloc: Global, key: &str, name: &str) -> Result<(&'static str, String), AllocError> {
     if key == "setup" {
         let help = format!(in alloc; "name `{name}` at `run-wrapper` or `list-wrapper`")?;
         return Ok(("a setup script", help));
@@ -186,7 +196,13 @@ fn add_wrong_kinds(
         let key = error.attempted.to_string(alloc)?;
         let key = key.as_str();
         let wrong = format!(in alloc; "`{name}` is a {} script", error.actual)?;
-        let path = naming_path(refused, error.profile_name.as_str(), "scripts", &[key], name)?;
+        let path = naming_path(
+            refused,
+            error.profile_name.as_str(),
+            "scripts",
+            &[key],
+            name,
+        )?;
         let mut found = refused.at(Code::WrongScriptKind, &path, wrong.as_str())?;
         let (expected, help) = other_use(alloc, key, name)?;
         found.expected = Some(String::from_str(alloc, expected)?);

@@ -14,11 +14,7 @@ fn mark_before(place: usize, count: usize, last: &'static str) -> &'static str {
 }
 
 /// Items with commas between them, and something else before the last one.
-pub fn listed(
-    alloc: Global,
-    items: &[String],
-    last: &'static str,
-) -> Result<String, AllocError> {
+pub fn listed(alloc: Global, items: &[String], last: &'static str) -> Result<String, AllocError> {
     let mut text = String::new(alloc);
     for (place, item) in items.iter().enumerate() {
         text.push_str(mark_before(place, items.len(), last))?;
@@ -28,11 +24,7 @@ pub fn listed(
 }
 
 /// Words between backquotes with commas between them, and something else before the last one.
-pub fn quoted(
-    alloc: Global,
-    words: &[&str],
-    last: &'static str,
-) -> Result<String, AllocError> {
+pub fn quoted(alloc: Global, words: &[&str], last: &'static str) -> Result<String, AllocError> {
     let mut text = String::new(alloc);
     for (place, word) in words.iter().enumerate() {
         let mark = mark_before(place, words.len(), last);
