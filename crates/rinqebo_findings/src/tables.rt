@@ -56,13 +56,22 @@ fn part_of<'s>(step: Step<'s>) -> &'s str {
     }
 }
 
-/// The keys that the table at a path knows.
-pub fn known_keys(alloc: Global, path: &[Step<'_>]) -> Result<Vec<&'static str>, AllocError> {
+/// The keys that the table at a path of a file of a shape knows.
+fn keys_at(
+    alloc: Global,
+    file: &Shape,
+    path: &[Step<'_>],
+) -> Result<Vec<&'static str>, AllocError> {
     let mut parts = Vec::new(alloc);
     for step in path {
         parts.push(part_of(*step))?;
     }
-    keys_of(alloc, &file_shape(alloc)?, &parts)
+    keys_of(alloc, file, &parts)
+}
+
+/// The keys that the table at a path knows.
+pub fn known_keys(alloc: Global, path: &[Step<'_>]) -> Result<Vec<&'static str>, AllocError> {
+    keys_at(alloc, &file_shape(alloc)?, path)
 }
 
 /// The note that lists the keys which the table at a path knows, if it knows some.
@@ -171,9 +180,11 @@ fn in_profile(
 
 /// Where a key of a table belongs that is one of a table in it: the first that knows it.
 fn in_part(alloc: Global, table: &[Step<'_>], key: &str) -> Result<Option<String>, AllocError> {
-    for part in known_keys(alloc, table)? {
+    let file = file_shape(alloc)?;
+    for part in keys_at(alloc, &file, table)? {
         let path = longer(alloc, table, &[Step::Key(part)])?;
-        if knows(alloc, &path, key)? {
+        let keys = keys_at(alloc, &file, &path)?;
+        if keys.iter().any(|other| *other == key) {
             let header = header_text(alloc, &path)?;
             let help = format!(in alloc; "`{key}` is a key of `{part}`: write `{header}.{key}`")?;
             return Ok(Some(help));
