@@ -55,9 +55,8 @@ code_of causes.OutOfRange = OutOfRange
 code_of causes.UnknownField = RefusedKey
 code_of causes.Memory = OutOfRange
 
--- the part of a value that is at fault: its key, where a key is missing or refused
+-- the part of a value that is at fault: its key, where that is refused
 abbrev pub part_of : ElementCause → SpanPart
-part_of (causes.Missing key) = parts.Key
 part_of causes.UnknownField = parts.Key
 part_of cause = parts.Value
 
