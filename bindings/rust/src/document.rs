@@ -139,6 +139,8 @@ pub enum OriginKind {
     Profile,
     Override,
     Script,
+    /// A table of a file beside its profiles, as that of a group.
+    File,
 }
 
 /// What is wrong with a file.
