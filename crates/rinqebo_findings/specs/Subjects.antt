@@ -89,7 +89,8 @@ lack_part (Some key) = parts.Key
 -- place. That a table lacks a key is at the key that it has in its place, if there is one. Of a
 -- table, delays are out of range.
 abbrev pub IsElementFinding :
-    List Layer → Option ℕ → ElementCause → List Step → Option (Bor (List ℕ)) → Finding → Type 0
+    List Layer → Option ℕ → ElementCause → List Step → Option (Bor (List ℕ)) → Finding →
+    Type 0
 IsElementFinding layers source (causes.Missing key) path stray finding =
     IsErrorAt layers source MissingKey (lack_part stray) (lack_path path stray) finding
 IsElementFinding layers source causes.OutOfRange path stray finding =
