@@ -1,5 +1,5 @@
 -- The rules of a test in the profile of a name, and what is reported of the test, agree.
-use Rattle.std.proofs.Common.{◌≡◌, inl, inr, ◌∙◌, ℕ, Bool, List, [], ◌∷◌, ◌++◌, Contains, None, Option, Some, codes, option_map, slice_get, string_bytes, sym, ap, subst}
+use Rattle.std.proofs.Common.{◌≡◌, inl, inr, ◌∙◌, ℕ, Bool, List, [], ◌∷◌, ◌++◌, Contains, None, Option, Some, codes, slice_get, string_bytes, sym, ap, subst}
 use Rattle.std.proofs.lemmas.List.Elements.{All-contains}
 use Rattle.std.specs.List.{AllByRecursion}
 use Rattle.nextest_elements.specs.declared.run_mode.NextestRunMode.{NextestRunMode}
@@ -33,7 +33,6 @@ use Rattle.rinqebo_request.specs.declared.request.RequestedSettings.{RequestedSe
 use Rattle.rinqebo_request.specs.declared.request.RequestedSettings.TheVariants as requests
 use Rattle.rinqebo_rules.specs.Origins.{key_steps}
 use Rattle.rinqebo_rules.specs.ProfileOrigins.{AreProfileOrigins}
-use Rattle.rinqebo_rules.specs.Reported.{value_view}
 use Rattle.rinqebo_rules.specs.SettingRules.{rules_for}
 use Rattle.rinqebo_rules.specs.Settings.{IsSettingReported, is_by_rule, reported_settings}
 use Rattle.rinqebo_rules.specs.TestOrigins.{AreOriginsBy, wrapping_id}

@@ -1,6 +1,6 @@
 -- Why a test runs or not: the overrides that have a default filter, the result of each, and how a
 -- report lists them.
-use Rattle.std.specs.Prelude.{◌≡◌, ℕ, List, [], ◌∷◌, ◌++◌, Bool, true, false, not, map, None, Option, Some, option_map, codes, string_bytes}
+use Rattle.std.specs.Prelude.{◌≡◌, ℕ, List, [], ◌∷◌, ◌++◌, Bool, true, false, not, map, None, Option, Some, option_map, codes}
 use Rattle.std.specs.List.{AllZip, list_any, zip}
 use Rattle.nextest_engines.specs.Engines.{Test}
 use Rattle.nextest_engines.specs.declared.queries.BuildPlatforms.{BuildPlatforms}

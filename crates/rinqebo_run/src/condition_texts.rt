@@ -1,5 +1,5 @@
 //! The texts of the conditions of rules.
-ghost use Rattle.std.specs.Prelude.{◌≡◌, IfOk, None, option_map};
+ghost use Rattle.std.specs.Prelude.{◌≡◌, IfOk, option_map};
 ghost use Rattle.std.specs.Option.{option_copied};
 ghost use Rattle.rinqebo_rules.specs.Origins.{key_steps};
 ghost use Rattle.rinqebo_run.specs.ConditionTexts.{default_text, filter_text, HasText, host_text, IsAbsent, table_text, target_text, text_at};
