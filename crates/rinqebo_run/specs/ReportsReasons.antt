@@ -83,7 +83,8 @@ pub record IsTestNamed (test : FoundTest) (named : TestId) : Type 0 where
   pub binary : string_bytes named.binary ≡ string_bytes test.binary
   pub name : string_bytes named.name ≡ string_bytes test.name
 
--- a fact of the test, the key and the rules of a report, and of whether it shows the test as ignored
+-- a fact of the test, the key and the rules of a report, and of whether it shows the test as
+-- ignored
 abbrev pub IfWhy : Content → (TestId → List ℕ → List Rule → Bool → Type 0) → Type 0
 IfWhy (contents.Why asked test key rules is_ignored) P =
     P test (string_bytes key) rules.items is_ignored
