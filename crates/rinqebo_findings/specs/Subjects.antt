@@ -55,9 +55,8 @@ code_of causes.OutOfRange = OutOfRange
 code_of causes.UnknownField = RefusedKey
 code_of causes.Memory = OutOfRange
 
--- the part of a value that is at fault: its key, where a key is missing or refused
+-- the part of a value that is at fault: its key, where that is refused
 abbrev pub part_of : ElementCause → SpanPart
-part_of (causes.Missing key) = parts.Key
 part_of causes.UnknownField = parts.Key
 part_of cause = parts.Value
 
@@ -90,7 +89,8 @@ lack_part (Some key) = parts.Key
 -- place. That a table lacks a key is at the key that it has in its place, if there is one. Of a
 -- table, delays are out of range.
 abbrev pub IsElementFinding :
-    List Layer → Option ℕ → ElementCause → List Step → Option (Bor (List ℕ)) → Finding → Type 0
+    List Layer → Option ℕ → ElementCause → List Step → Option (Bor (List ℕ)) → Finding →
+    Type 0
 IsElementFinding layers source (causes.Missing key) path stray finding =
     IsErrorAt layers source MissingKey (lack_part stray) (lack_path path stray) finding
 IsElementFinding layers source causes.OutOfRange path stray finding =

@@ -36,7 +36,7 @@ fn file_at<'l>(layers: &'l [Layer<'_>], place: usize) -> Option<&'l str> {
 
 /// The note that a lower file writes something else than a table at the path of a table that lacks
 /// a key, so that nothing is left of the tables below it.
-pub fn below_note(
+fn below_note(
     alloc: Global,
     source: SourceAt<'_, '_>,
     path: &[Step<'_>],
@@ -59,4 +59,17 @@ pub fn below_note(
     Ok(Some(format!(in alloc;
         "{name} is {kind} in line {line} of {file}, which leaves nothing of the tables below it"
     )?))
+}
+
+/// The notes about what a lower file writes at the path of a table that lacks a key.
+pub fn below_notes(
+    alloc: Global,
+    source: SourceAt<'_, '_>,
+    path: &[Step<'_>],
+) -> Result<Vec<String>, AllocError> {
+    let mut notes = Vec::new(alloc);
+    if let Some(note) = below_note(alloc, source, path)? {
+        notes.push(note)?;
+    }
+    Ok(notes)
 }

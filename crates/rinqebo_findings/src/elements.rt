@@ -2,7 +2,7 @@
 ghost use Rattle.std.specs.Prelude.{◌≡◌, IfOk, None};
 ghost use Rattle.rinqebo_findings.specs.Subjects.{IsElementFinding, IsErrorAt, code_of, lack_part, lack_path, part_of};
 
-use crate::below::below_note;
+use crate::below::below_notes;
 use crate::delays::delays_finding;
 use crate::expected::{expected_at, expected_name, expected_text};
 use crate::findings::{SourceAt, with_note};
@@ -87,13 +87,14 @@ fn wrong_element(
     }
 }
 
-/// Whether the key is wrong or the value, where a table or a value is refused.
+/// Whether the key is wrong or the value.
 fn wrong_part(cause: &ElementCause) -> SpanPart
     ensures { result ≡ part_of cause.now }
 {
     match cause {
-        ElementCause::Missing(_) | ElementCause::UnknownField => SpanPart::Key,
+        ElementCause::UnknownField => SpanPart::Key,
         ElementCause::WrongKind
+        | ElementCause::Missing(_)
         | ElementCause::BadValue { .. }
         | ElementCause::OutOfRange
         | ElementCause::Memory => SpanPart::Value,
@@ -184,16 +185,19 @@ fn advice(
     spelled(alloc, source, path)
 }
 
-/// The note about a value that is refused: the keys that its table has, where it is a key.
-fn element_note(
+/// The notes about a value that is refused: the keys that its table has, where it is a key.
+fn element_notes(
     alloc: Global,
     cause: &ElementCause,
     path: &[Step<'_>],
-) -> Result<Option<String>, AllocError> {
-    match (cause, path.split_last()) {
-        (ElementCause::UnknownField, Some((_key, table))) => keys_note(alloc, table),
-        _ => Ok(None),
+) -> Result<Vec<String>, AllocError> {
+    let mut notes = Vec::new(alloc);
+    if let (ElementCause::UnknownField, Some((_key, table))) = (cause, path.split_last()) {
+        if let Some(note) = keys_note(alloc, table)? {
+            notes.push(note)?;
+        }
     }
+    Ok(notes)
 }
 
 /// The finding of a value that is refused.
@@ -207,12 +211,12 @@ fn value_finding(
 {
     let alloc = refused.alloc;
     let wrong = wrong_element(alloc, refused.source, cause, path)?;
-    let note = element_note(alloc, cause, path)?;
     let code = element_code(cause);
     let mut found = refused.part_at(code, path, wrong_part(cause), wrong.as_str())?;
     found.expected = wanted(alloc, refused.source, cause, path)?;
     found.help = advice(alloc, refused.source, cause, path)?;
-    Ok(with_note(found, note)?)
+    found.notes = element_notes(alloc, cause, path)?;
+    Ok(found)
 }
 
 /// Whether there is a table at a path.
@@ -234,14 +238,6 @@ fn element_finding(
             Ok(delays_finding(refused, path)?)
         }
         cause => Ok(value_finding(refused, cause, path)?),
-    }
-}
-
-/// The key that a table has in place of another one, if it has one: that at the end of a path.
-fn stray_of<'p>(at: &[Step<'p>], has_stray: bool) -> Option<&'p str> {
-    match at.last() {
-        Some(Step::Key(key)) if has_stray => Some(*key),
-        _ => None,
     }
 }
 
@@ -287,21 +283,19 @@ fn lack_finding(
     table: &[Step<'_>],
     at: &[Step<'_>],
     part: SpanPart,
+    stray: Option<&str>,
 ) -> Result<Finding, AllocError>
     ensures { IfOk result (IsErrorAt refused.now.source.layers.now refused.now.source.position
         Code.MissingKey part at.now) }
 {
-    let has_stray = matches!(part, SpanPart::Key);
-    let stray = stray_of(at, has_stray);
     let wrong = lack_text(refused.alloc, key, table, stray)?;
-    let (help, help_place) = lack_help(refused, key, table, has_stray)?;
+    let (help, help_place) = lack_help(refused, key, table, stray.is_some())?;
     let note = keys_note(refused.alloc, table)?;
-    let below = below_note(refused.alloc, refused.source, table)?;
     let mut found = refused.part_at(Code::MissingKey, at, part, wrong.as_str())?;
     found.help = help;
     found.help_place = help_place;
-    let noted = with_note(found, note)?;
-    Ok(with_note(noted, below)?)
+    found.notes = below_notes(refused.alloc, refused.source, table)?;
+    Ok(with_note(found, note)?)
 }
 
 /// The finding that the table at a path lacks a key: at the key that it has in its place, if it has
@@ -318,9 +312,9 @@ fn missing_finding<'x>(
     match stray {
         Some(stray) => {
             let at = path_with(refused.alloc, table, stray)?;
-            Ok(lack_finding(refused, key, table, &at, SpanPart::Key)?)
+            Ok(lack_finding(refused, key, table, &at, SpanPart::Key, Some(stray))?)
         }
-        None => Ok(lack_finding(refused, key, table, table, SpanPart::Value)?),
+        None => Ok(lack_finding(refused, key, table, table, SpanPart::Value, None)?),
     }
 }
 

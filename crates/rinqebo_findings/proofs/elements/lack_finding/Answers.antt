@@ -1,5 +1,4 @@
 use Rattle.std.proofs.Common.{◌∙◌, subst, sym}
-use Rattle.rinqebo_files.specs.declared.places.SpanPart.TheVariants as parts
 use Rattle.rinqebo_findings.specs.Placed.{IsPlacedAt}
 use Rattle.rinqebo_findings.proofs.elements.lack_finding.Goals as goal
 
@@ -8,6 +7,6 @@ returns c =
     let source = c.args.refused.now.source in
     record {
       about = c.in_ok-with_note.ensures.about ∙ c.in_ok-found.ensures.about;
-      place = subst (IsPlacedAt parts.Key source.layers.now source.position c.args.at.now)
+      place = subst (IsPlacedAt c.args.part source.layers.now source.position c.args.at.now)
           (sym c.in_ok-with_note.ensures.place) c.in_ok-found.ensures.place;
     }
