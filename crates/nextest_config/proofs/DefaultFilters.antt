@@ -67,7 +67,7 @@ module _ {M K P : Type 0} (engines : Readings M K P) where
 
   -- so it is with the default filter of an override, if it writes one
   abbrev WritesRead : {V : Type 0} → (V → OverrideUse M) → V → Type 0
-  WritesRead use v = IfSome (use v).default_filter IsRead
+  WritesRead written v = IfSome (written v).default_filter IsRead
 
   -- and with those of a profile
   abbrev HasRead : LayerProfile M K → Type 0
@@ -106,13 +106,17 @@ module _ {M K P : Type 0} (engines : Readings M K P) where
       each_reversed Q (map (source_layer engines) ss)
       (each_mapped Q (source_layer engines) ss (of_sources Q each ss))
 
+  -- the default filter that a layer writes for a profile
+  abbrev written_in : Name → Layer M K → Option (WrittenFilter M)
+  written_in name l = option_and_then (λ p. p.default_filter) (at_name name l.profiles)
+
   choice_read : (profile : Name) (section : FilterSection) (o : Option (WrittenFilter M)) → IfSome o IsRead
       → IfSome (option_map (chosen_at profile section) o) (ReadsToFilter engines)
   choice_read profile section None h = tt
   choice_read profile section (Some w) h = h
 
   in_layers : (name : Name) (ls : List (Layer M K)) → Each (λ l. Each (λ p. HasRead p.1) l.profiles) ls
-      → Each (λ l. IfSome (option_and_then (λ p. p.default_filter) (at_name name l.profiles)) IsRead) ls
+      → Each (λ l. IfSome (written_in name l) IsRead) ls
   in_layers name [] h = tt
   in_layers name (l ∷ ls) h = (
     some_part IsRead (λ (p : LayerProfile M K). p.default_filter) (at_name name l.profiles)
@@ -124,10 +128,8 @@ module _ {M K P : Type 0} (engines : Readings M K P) where
       → Each (λ name. IfSome (filter_of_profile ls name) (ReadsToFilter engines)) names
   of_names ls h [] = tt
   of_names ls h (name ∷ names) = (
-    choice_read name at_profile
-        (first_of (λ layer. option_and_then (λ p. p.default_filter) (at_name name layer.profiles)) ls)
-        (first_holds IsRead (λ layer. option_and_then (λ p. p.default_filter) (at_name name layer.profiles)) ls
-        (in_layers name ls h)),
+    choice_read name at_profile (first_of (written_in name) ls)
+        (first_holds IsRead (written_in name) ls (in_layers name ls h)),
     of_names ls h names,
   )
 

@@ -71,7 +71,7 @@ abbrev pub filter_of_override : {M : Type 0} → EvaluatedRule M (OverrideUse M)
 filter_of_override rule =
     if rule.for_target
     then option_map (chosen_at rule.writes.id.profile (at_override rule.writes.id.index))
-        rule.writes.default_filter
+    rule.writes.default_filter
     else None
 
 -- The default filter that counts: that of the first override which has one and whose platforms
