@@ -1,3 +1,4 @@
 pub mod Failing
 pub mod Elements
 pub mod Ids
+pub mod Filters

@@ -11,9 +11,13 @@ use Rattle.nextest_lists.specs.declared.list.ListedTests.{ListedTests}
 use Rattle.rinqebo_load.specs.declared.fault.TripleSource.{TripleSource}
 use Rattle.rinqebo_load.specs.declared.fault.TripleSource.TheVariants as sources
 
--- a list without tests and triples
+-- a list without tests, triples and target directory
 abbrev pub no_list : TestList
-no_list = record { triples = record { host = None; target = None }; binaries = [] }
+no_list = record {
+  triples = record { host = None; target = None };
+  target_directory = None;
+  binaries = [];
+}
 
 -- tests are those that the text of a list says: without a text there are none
 abbrev pub IsListFor : Option (String Global) → ListedTests → Type 0

@@ -1,5 +1,5 @@
 //! The languages of filters and platforms, as a request has them.
-ghost use Rattle.std.specs.Prelude.{IfErr, IfOk, option_map, string_bytes};
+ghost use Rattle.std.specs.Prelude.{◌≡◌, IfErr, IfOk, option_map, string_bytes};
 ghost use Rattle.rinqebo_forms.specs.Machines.{AreOpenFiltersFor, ArePlatformsFor, IsMachineRefused, IsMetadataFault, IsPlatformBy, IsTargetFor};
 ghost use Rattle.rinqebo_load.specs.InputFaults.{IsBuildFault, IsEngineFault, IsTargetFault, OfEngine};
 ghost use Rattle.rinqebo_load.specs.Machines.{machine_of};
@@ -11,7 +11,7 @@ use nextest_config::BuildPlatforms;
 use platform_table::Platform;
 use rinqebo_files::Gathered;
 use rinqebo_forms::{EngineFault, open_filters_of, platform_of};
-use rinqebo_request::{FileOption, ListFile, NamedFile, Request};
+use rinqebo_request::{FileOption, ListFile, NamedFile, Question, Request};
 use std::alloc::{AllocError, Global};
 
 /// The language of filters, and the platforms of a build.
@@ -159,6 +159,17 @@ fn platforms_of(
     })
 }
 
+/// The language of filters for a request: only for a list so many names are matched that tables of
+/// searches pay.
+fn filters_for(question: &Question<'_>, filters: NextestFilters) -> NextestFilters
+    ensures { result.packages ≡ filters.packages }
+{
+    match question {
+        Question::List { .. } => filters,
+        _ => filters.for_few_names(),
+    }
+}
+
 impl Engines {
     /// The engines of a request for triples, over the files that were read.
     pub fn new(
@@ -176,8 +187,9 @@ impl Engines {
         ensures err { IfErr result (IsEngineFault (string_bytes triples.now.host)
             (option_map string_bytes triples.now.target) gathered.now) }
     {
+        let filters = filters_at(alloc, request.engines.metadata, &gathered.metadata)?;
         Ok(Engines {
-            filters: filters_at(alloc, request.engines.metadata, &gathered.metadata)?,
+            filters: filters_for(&request.question, filters),
             platforms: platforms_of(alloc, request, triples, gathered)?,
         })
     }

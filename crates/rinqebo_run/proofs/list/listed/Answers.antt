@@ -15,7 +15,7 @@ returns-clause-told g c =
     c.in_ok-on.ensures (c.in_ok-chain.ensures c.requires) (ap borrowed_view c.deref-2.ensures.value)
     c.in_ok-rows.ensures.tests c.in_ok-rows.ensures.unused
     (reported_in _ _ _ _ c.deref-3.ensures.value c.in_ok-unused_origins.ensures) c.in_ok-scripts_of_list.ensures
-    c.in_ok-objects.ensures
+    c.in_ok-objects.ensures.objects
 
 pub returns-clause-requested : goal.returns-clause-requested
 returns-clause-requested g c = record {
