@@ -43,6 +43,13 @@ pub struct RunSettings<'p> {
     pub run_extra_args: &'p [String],
 }
 
+/// The text of the default filter of a profile.
+fn filter_text<'p, F: Filters, S: Specs>(profile: &'p EvaluatableProfile<'p, F, S>) -> &'p str
+    ensures { result.now ≡ profile.now.default_filter.text }
+{
+    profile.default_filter().text
+}
+
 impl<'p> RunSettings<'p> {
     /// The values of a profile.
     pub fn of<F: Filters, S: Specs>(
@@ -61,7 +68,7 @@ impl<'p> RunSettings<'p> {
             benchmark_timeout: profile.global_timeout(NextestRunMode::Benchmark),
             status_level: profile.status_level(),
             final_status_level: profile.final_status_level(),
-            default_filter: profile.default_filter().text,
+            default_filter: filter_text(profile),
             junit,
             store_dir: profile.store_dir(),
             run_extra_args: profile.run_extra_args(),
