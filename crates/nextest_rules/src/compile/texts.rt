@@ -125,8 +125,7 @@ pub(crate) fn with_text<F: Filters>(
     ensures { option_map read_filter_view result
         ≡ with_text expr (option_map string_bytes text) }
 {
-    let (Some(expr), Some(text)) = (expr, text) else {
-        return None;
-    };
+    let text = text?;
+    let expr = expr?;
     Some(ReadFilter { expr, text })
 }
