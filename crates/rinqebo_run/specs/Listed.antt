@@ -75,9 +75,9 @@ directories_for root list = option_map (λ target. record {
   target = target;
 }) list.target_directory
 
--- A value is the objects of a profile, among profiles of these names, with some warnings, and with
--- the tests of a list that enable each setup script. Its programs are joined to the root and to the
--- target directory of the list, if that has one.
+-- A value is the objects of a profile, among profiles of these names, with some warnings
+-- (`HasObjects` says which), and with the tests of a list that enable each setup script. Its programs
+-- are joined to the root and to the target directory of the list, if that has one.
 pub record AreObjectsListed {M : Type 0} (matches : M → Test → M → Bool)
     (profile : EvaluatableModel M) (root : List ℕ) (list : TestList) (profiles : List Name)
     (value : Data) : Type 0 where

@@ -24,3 +24,6 @@ returns-clause-requested g c = record {
   requested = requested_on c.args.session.now c.args.profile.now c.args.mode _ _ _
       (ap borrowed_view c.deref.ensures.value) c.in_ok-requested.ensures;
 }
+
+pub returns-clause-objects : goal.returns-clause-objects
+returns-clause-objects g c = c.in_ok-objects.ensures.findings
