@@ -21,7 +21,7 @@ use Rattle.nextest_sources.specs.Sources.{Source}
 use Rattle.nextest_tables.specs.FileTexts.{OverrideText, ProfileText}
 use Rattle.nextest_tables.specs.Written.{Name}
 use Rattle.nextest_tree.specs.Schema.{first}
-use Rattle.nextest_config.specs.Laws.{AcceptedFiles, DefaultFiltersAreRead, ReadsToFilter, meant_by}
+use Rattle.nextest_config.specs.Laws.{AcceptedFiles, ReadsToFilter, meant_by, profile_by}
 
 -- what holds of each value holds of the one that is looked up
 looked_up : {K X : Type 0} (P : X → Type 0) (test : K → Bool) (es : List (K × X)) → Each (λ e. P e.1) es
@@ -147,12 +147,14 @@ module _ {M K P : Type 0} (engines : Readings M K P) where
     of_overrides rs h.1,
   )
 
-  pub filters_are_read : DefaultFiltersAreRead engines
+  pub filters_are_read : (platforms : BuildPlatforms P) (a : AcceptedFiles engines) (name : Name) (chain : List Name)
+      → let choice = (profile_by engines platforms a name chain).default_filter in
+      ReadsToFilter engines choice ⊎ (choice ≡ match_all_filter engines.match_all)
   filters_are_read platforms a name chain =
       let names = with_default chain in
       let ss = sources_in a.files in
       let layers = (meant_by engines a).config.layers in
-      let on = rule_on engines.meets platforms in
+      let on : Compiled M K (OverrideUse M) → EvaluatedRule M (OverrideUse M) = rule_on engines.meets platforms in
       let rules : List (Compiled M K (OverrideUse M)) = overrides_of layers names in
       let near : IfSome (nearest_filter layers names) (ReadsToFilter engines) =
       first_holds (ReadsToFilter engines) (filter_of_profile layers) names
