@@ -2,6 +2,7 @@
 use Rattle.std.proofs.Common.{◌≡◌, ◌∙◌, ℕ, true, List, [], ◌∷◌, Option, None, map, refl, sym, ap}
 use Rattle.nextest_elements.specs.declared.run_mode.NextestRunMode.{NextestRunMode}
 use Rattle.nextest_settings.specs.Queries.{fallback_origin}
+use Rattle.nextest_settings.specs.Settings.{setting_name}
 use Rattle.nextest_settings.specs.declared.setting.Setting.{Setting}
 use Rattle.nextest_settings.specs.declared.setting.Setting.TheVariants as at
 use Rattle.nextest_tables.specs.Written.{Name}
@@ -33,6 +34,7 @@ pub fallback_agrees : (layers : List Layer) (names : List Name) (s : Setting) (m
     → AreOriginsBy (record { layers = layers; chain = names }) None (key_table s mode) (key_name s) (fallback_origin s)
     row.origins.items
     → HasOriginsOf s fallback row
+unfolding setting_name
 fallback_agrees layers names at.Priority mode fallback row is are =
     ap (map origin_shown) (of_rules layers names (key_table at.Priority mode) (key_name at.Priority) (origins_of fallback)
     refl is ∙ sym are)

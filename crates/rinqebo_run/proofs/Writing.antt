@@ -244,6 +244,7 @@ pub writes_list : (session : Session) (profile : Name) (mode : NextestRunMode) (
     → IsIn (names_in loaded.config.profiles) profile → IsReportOf session head
     → IsLookedUp session profile → WritesPage session loaded profile mode asked head paper old new beside
     → WritesList session profile mode asked paper old new
+unfolding vec_of
 writes_list session profile mode asked paper head beside loaded old new accepted from there about looked writes =
     let content = content_of beside writes.tests writes.fit in
     record {

@@ -23,18 +23,18 @@ pub returns-clause-ok : goal.returns-clause-ok
 returns-clause-ok g c =
     let self = c.args.self.now in
     let list = self.list in
-    let written = c.in_ok-write_rows.ensures.tests in
+    let written = c.in_ok-count.ensures.tests in
     let same : length (list_tests (list_view self.session.now.tests)) ≡ length written.tests =
     sym (AllZip-long _ (list_tests (list_view self.session.now.tests)) written.tests written.are_reported) in
-    let all : c.in_ok-write_rows.field-0.0 ≡ length written.tests = c.in_ok-write_rows.ensures.count ∙ same in
+    let all : c.in_ok-count.count ≡ length written.tests = c.in_ok-count.ensures.count ∙ same in
     let names = borrowed_view c.in_ok-chain.chain.items in
     record {
       tests = written.tests;
-      fit = subst (λ n. n < 2 ^ 63) all c.in_ok-write_rows.ensures.fits;
+      fit = subst (λ n. n < 2 ^ 63) all c.in_ok-count.ensures.fits;
       told = listed_here self.session.now self.config.now list.profile.now list.mode list.settings.now c.in_ok-on.on
           names (borrowed_view c.deref-2.result.now) _ written.tests _ _ None c.in_ok-on.ensures
           (c.in_ok-chain.ensures c.requires) (ap borrowed_view c.deref-2.ensures.value) written.are_reported
-          c.in_ok-write_rows.ensures.unused c.in_ok-unused.ensures.origins c.in_ok-scripts.ensures tt;
+          c.in_ok-count.ensures.unused c.in_ok-unused.ensures.origins c.in_ok-scripts.ensures tt;
       chain = names;
       is_chain = c.in_ok-chain.ensures c.requires;
       requested = requested_on self.session.now self.list.profile.now self.list.mode _ _ _
@@ -55,8 +55,8 @@ returns-in_err-write_head-clause-err g c =
     (AreFirstBy self.session.now self.config.now list.profile.now list.mode list.settings.now self.paper old new)
     old new c.in_err-write_head.field-0.0 (λ _ none. none) (λ none. absurd none) c.in_err-write_head.ensures.err)
 
-pub returns-in_err-write_rows-clause-err : goal.returns-in_err-write_rows-clause-err
-returns-in_err-write_rows-clause-err g c =
+pub returns-in_err-count-clause-err : goal.returns-in_err-count-clause-err
+returns-in_err-count-clause-err g c =
     let self = c.args.self.now in
     let list = self.list in
     let old = g.O.Write.contents c.args.out.now in
@@ -71,13 +71,13 @@ returns-in_err-write_rows-clause-err g c =
     (borrowed_view c.in_ok-chain.chain.items) (borrowed_view c.deref-2.result.now) _ c.in_ok-asked.asked self.head.now
     self.paper old mid new c.in_ok-on.ensures (c.in_ok-chain.ensures c.requires) (ap borrowed_view c.deref-2.ensures.value)
     (ap borrowed_view c.deref.ensures.value) c.in_ok-asked.ensures c.in_ok-write_head.ensures.ok in
-    passed_stop _ c.from_residual-in_err-write_rows.result c.in_err-write_rows.field-0.0
-    c.from_residual-in_err-write_rows.ensures.1
+    passed_stop _ c.from_residual-in_err-count.result c.in_err-count.field-0.0
+    c.from_residual-in_err-count.ensures.1
     (stops_behind First
     (AreFirstBy self.session.now self.config.now list.profile.now list.mode list.settings.now self.paper old new)
-    old mid new c.in_err-write_rows.field-0.0 here
+    old mid new c.in_err-count.field-0.0 here
     (λ same. here (none_first basis list.mode profile list.settings.now self.head.now self.paper tests mid new same))
-    c.in_err-write_rows.ensures.err)
+    c.in_err-count.ensures.err)
 
 pub returns-in_err-scripts-clause-err : goal.returns-in_err-scripts-clause-err
 returns-in_err-scripts-clause-err g c =
@@ -95,7 +95,7 @@ returns-in_err-scripts-clause-err g c =
     self.paper old mid new c.in_ok-on.ensures (c.in_ok-chain.ensures c.requires) (ap borrowed_view c.deref-2.ensures.value)
     (ap borrowed_view c.deref.ensures.value) c.in_ok-asked.ensures c.in_ok-write_head.ensures.ok
     (all_first basis list.mode profile list.settings.now self.head.now self.paper tests mid new
-    c.in_ok-write_rows.ensures.tests)))
+    c.in_ok-count.ensures.tests)))
 
 pub returns-in_err-unused-clause-err : goal.returns-in_err-unused-clause-err
 returns-in_err-unused-clause-err g c =
@@ -119,5 +119,5 @@ returns-in_err-unused-clause-err g c =
     self.paper old mid last c.in_ok-on.ensures (c.in_ok-chain.ensures c.requires) (ap borrowed_view c.deref-2.ensures.value)
     (ap borrowed_view c.deref.ensures.value) c.in_ok-asked.ensures c.in_ok-write_head.ensures.ok
     (all_first basis list.mode profile list.settings.now self.head.now self.paper tests mid last
-    c.in_ok-write_rows.ensures.tests)))
+    c.in_ok-count.ensures.tests)))
     c.in_err-unused.ensures.err)

@@ -38,14 +38,14 @@ loop-place-preserved g c =
       rows = before.rows ++ shows.rows ∷ [];
       told = zip_more_by (λ basis test. IsTestReported basis (query_in filter_holds profile (list_test_view test).test)
           asking.mode profile asking.asked.now (list_test_view test)) c.args.origins.now c.loop-place.origins before.same listed
-          c.loop-place.place _ _ c.loop-place-test.true c.index-listed-place.is before.rows _ shows.rows before.told
+          c.loop-place.place _ _ c.loop-place-test.true refl before.rows _ shows.rows before.told
           shows.are_reported refl;
       page = one_more c.args.self.now.head.now c.args.self.now.paper before.rows (before.rows ++ shows.rows ∷ [])
           shows.rows c.as_str.result.now _ _ _ refl (c.as_str.ensures.value ∙ shows.shown) before.page
           c.in_ok-write_text.ensures.ok;
       marked = subst (λ tests. AreUsedIn tests asking.mode profile c.test_text.new.used)
           (map_more (λ test. query_in filter_holds profile (list_test_view test).test) listed c.loop-place.place _ _
-          c.loop-place-test.true c.index-listed-place.is)
+          c.loop-place-test.true refl)
           (c.in_ok-text.ensures.used _ before.marked);
     }
 
