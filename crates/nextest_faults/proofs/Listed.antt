@@ -28,7 +28,7 @@ abbrev pub entry_faults : (List ℕ → Option FaultCause) → Schema → List �
 entry_faults test s p k n = at (below p k) (test k) ++ faults s (below p k) n
 
 -- one item, and those after it
-pub items_next : (f : List ℕ → Node → List Fault) (p : List ℕ) (items : List Tree) (i : ℕ) (item : Tree)
+pub items_next : {A : Type 0} (f : List ℕ → Node → List A) (p : List ℕ) (items : List Tree) (i : ℕ) (item : Tree)
     → i < length items → item ≡ get_or items i item
     → each_item f p i (nodes_view (drop i items))
     ≡ f (below p (decimal i)) (tree_view item) ++ each_item f p (i + 1) (nodes_view (drop (i + 1) items))

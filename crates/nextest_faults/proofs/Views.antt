@@ -41,11 +41,11 @@ fields_view-append [] ys = refl
 fields_view-append (x ∷ xs) ys =
     ap (field x.key (need_test x.need) (place_view x.place)) (fields_view-append xs ys)
 
-view-Anything : place_view places.Anything ≡ any
+pub view-Anything : place_view places.Anything ≡ any
 view-Anything = search (rules, places.the_lemmas)
 
 -- the schema of a single value has its test
-schema-test : (l : Leaf) → leaf_schema l ≡ leaf (leaf_test l)
+pub schema-test : (l : Leaf) → leaf_schema l ≡ leaf (leaf_test l)
 unfolding a_text a_bool a_duration an_identifier a_test_group a_flaky_result a_status_level a_final_status_level a_test_output_display a_priority a_test_threads a_threads_required a_positive a_limit a_count a_backoff a_leak_result a_slow_result a_setup_result a_report_skip_policy a_junit_flaky_fail_status a_relative_to a_target_runner
 schema-test leaves.Text = refl
 schema-test leaves.Boolean = refl
@@ -74,25 +74,25 @@ schema-test leaves.CommandLine = refl
 schema-test leaves.Table = refl
 schema-test leaves.Array = refl
 
-view-Leaf : (l : Leaf) → place_view (places.Leaf l) ≡ leaf_schema l
+pub view-Leaf : (l : Leaf) → place_view (places.Leaf l) ≡ leaf_schema l
 view-Leaf l = search (rules, places.the_lemmas)
 
-view-Table : (how : Others) (other : Box Place Global) (fs : Vec (Field Place) Global) (across : Across)
+pub view-Table : (how : Others) (other : Box Place Global) (fs : Vec (Field Place) Global) (across : Across)
     → place_view (places.Table how other fs across)
     ≡ fields (others_view how) (place_view other.value) (fields_view fs.items) (across_test across)
 view-Table how other fs across = search (rules, places.the_lemmas)
 
-view-Map : (names : Names) (values : Box Place Global)
+pub view-Map : (names : Names) (values : Box Place Global)
     → place_view (places.Map names values) ≡ map_of (names_test names) (place_view values.value)
 view-Map names values = search (rules, places.the_lemmas)
 
-view-List : (other items : Box Place Global) (across : AcrossItems)
+pub view-List : (other items : Box Place Global) (across : AcrossItems)
     → place_view (places.List other items across)
     ≡ items_of (place_view other.value) (place_view items.value) (items_test across)
 view-List other items across = search (rules, places.the_lemmas)
 
 -- the node that has these entries
-table_of : (n : Node) (es : Entries) → Some es ≡ as_table n → n ≡ table es
+pub table_of : (n : Node) (es : Entries) → Some es ≡ as_table n → n ≡ table es
 table_of (table fs) es is = cc
 table_of (array ns) es is = absurd (cc)
 table_of (text t) es is = absurd (cc)
@@ -101,7 +101,7 @@ table_of (bool b) es is = absurd (cc)
 table_of opaque es is = absurd (cc)
 
 -- the node that has these items
-array_of : (n : Node) (ns : Nodes) → Some ns ≡ as_array n → n ≡ array ns
+pub array_of : (n : Node) (ns : Nodes) → Some ns ≡ as_array n → n ≡ array ns
 array_of (table es) ns is = absurd (cc)
 array_of (array ms) ns is = cc
 array_of (text t) ns is = absurd (cc)

@@ -44,7 +44,7 @@ fn add_unknown_key<'t>(
 }
 
 /// Adds each key of a table that is none of its fields.
-fn add_unknown<'t>(
+pub(crate) fn add_unknown<'t>(
     alloc: Global,
     fields: &[Field<Place>],
     path: &[Step<'t>],
