@@ -1,5 +1,5 @@
-//! All that is wrong with files that are refused: the faults of all values, and then what each
-//! later check finds in files without these.
+//! All that is wrong with files that are refused: the faults of all values, the unknown keys, and
+//! then what each later check finds in files without the faults.
 ghost use Rattle.std.specs.Prelude.{IfOk};
 ghost use Rattle.rinqebo_findings.specs.Faults.{ReportAll};
 
@@ -70,6 +70,11 @@ fn warning_mark(alloc: Global, warning: &Finding) -> Result<String, AllocError> 
     }
 }
 
+/// Whether a warning is about an unknown key.
+fn is_of_key(warning: &Finding) -> bool {
+    warning.code.as_str() == Code::UnknownKey.word()
+}
+
 impl<'s, 'g> Search<'s, 'g> {
     /// A search that has found nothing, in files with edits.
     fn new(
@@ -104,12 +109,16 @@ impl<'s, 'g> Search<'s, 'g> {
         }
     }
 
-    /// Adds warnings that are not among the findings.
+    /// Adds warnings that are not among the findings. Those of unknown keys are reported with the
+    /// values.
     fn add_warnings(&mut self, warnings: &DefaultConfigWarnings) -> Result<(), AllocError> {
         let alloc = self.alloc;
         for warning in warning_findings(alloc, &self.session.layers, warnings)? {
+            if is_of_key(&warning) || self.follows(&warning) {
+                continue;
+            }
             let mark = warning_mark(alloc, &warning)?;
-            if !self.follows(&warning) && self.warned.insert(mark)? {
+            if self.warned.insert(mark)? {
                 self.findings.push(warning)?;
             }
         }
