@@ -54,28 +54,21 @@ pub(crate) fn add_unknown_keys<'t>(
 {
     match place {
         Place::Anything => Ok(()),
-        Place::Leaf(_leaf) => Ok(()),
+        Place::Leaf(_) => Ok(()),
         Place::Table {
             others,
             other,
             fields,
-            across: _across,
+            ..
         } => match tree.as_table() {
             Some(members) => add_table(alloc, *others, fields, path, members, found),
             None => add_unknown_keys(alloc, other, path, tree, found),
         },
-        Place::Map {
-            names: _names,
-            values,
-        } => match tree.as_table() {
+        Place::Map { values, .. } => match tree.as_table() {
             Some(members) => add_entries(alloc, values, path, members, found),
             None => Ok(()),
         },
-        Place::List {
-            other,
-            items,
-            across: _across,
-        } => match tree.as_array() {
+        Place::List { other, items, .. } => match tree.as_array() {
             Some(values) => add_items(alloc, items, path, values, found),
             None => add_unknown_keys(alloc, other, path, tree, found),
         },

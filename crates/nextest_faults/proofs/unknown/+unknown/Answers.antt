@@ -106,7 +106,7 @@ pub add_unknown_keys-returns-in-Leaf : goal.add_unknown_keys-returns-in-Leaf
 add_unknown_keys-returns-in-Leaf t c =
     let p = path_text c.args.path.now in
     subst (λ ps. Adds c.args.found.now.items c.args.found.now.items (refused_at ps))
-    (of_leaf c.args.place.now p c.in-Leaf._leaf (tree_view c.args.tree.now) c.in-Leaf.is)
+    (of_leaf c.args.place.now p c.in-Leaf.field-0 (tree_view c.args.tree.now) c.in-Leaf.is)
     (adds_none c.args.found.now.items)
 
 pub add_unknown_keys-returns-in-Some : goal.add_unknown_keys-returns-in-Some
@@ -114,7 +114,7 @@ add_unknown_keys-returns-in-Some t c =
     let p = path_text c.args.path.now in
     let n = tree_view c.args.tree.now in
     subst (λ ps. OnOk c.add_table.result (Adds c.args.found.now.items c.add_table.new.found.items (refused_at ps)))
-    (of_table c.args.place.now p c.in-Table.others c.in-Table.other c.in-Table.fields c.in-Table._across n
+    (of_table c.args.place.now p c.in-Table.others c.in-Table.other c.in-Table.fields c.in-Table.across n
     (entries_view c.in-Some.members.now.entries) c.in-Table.is c.in-Some.ensures)
     c.add_table.ensures
 
@@ -125,7 +125,7 @@ add_unknown_keys-returns-in-None t c =
     subst (λ ps. OnOk c.add_unknown_keys.result
     (Adds c.args.found.now.items c.add_unknown_keys.new.found.items (refused_at ps)))
     (ap (λ s. unknown (place_view s) p n) c.deref.ensures
-    ∙ of_no_table c.args.place.now p c.in-Table.others c.in-Table.other c.in-Table.fields c.in-Table._across n
+    ∙ of_no_table c.args.place.now p c.in-Table.others c.in-Table.other c.in-Table.fields c.in-Table.across n
     c.in-Table.is (sym c.in-None.ensures))
     c.add_unknown_keys.ensures
 
@@ -136,7 +136,7 @@ add_unknown_keys-returns-in-Some-as_table t c =
     let es = entries_view c.in-Some-as_table.members.now.entries in
     subst (λ ps. OnOk c.add_entries.result (Adds c.args.found.now.items c.add_entries.new.found.items (refused_at ps)))
     (ap (λ s. each_entry (entry_unknown (place_view s) p) es) c.deref-in-Some-as_table.ensures
-    ∙ of_map c.args.place.now p c.in-Map._names c.in-Map.values n es c.in-Map.is c.in-Some-as_table.ensures)
+    ∙ of_map c.args.place.now p c.in-Map.names c.in-Map.values n es c.in-Map.is c.in-Some-as_table.ensures)
     c.add_entries.ensures
 
 pub add_unknown_keys-returns-in-None-as_table : goal.add_unknown_keys-returns-in-None-as_table
@@ -144,7 +144,7 @@ add_unknown_keys-returns-in-None-as_table t c =
     let p = path_text c.args.path.now in
     let n = tree_view c.args.tree.now in
     subst (λ ps. Adds c.args.found.now.items c.args.found.now.items (refused_at ps))
-    (of_no_map c.args.place.now p c.in-Map._names c.in-Map.values n c.in-Map.is (sym c.in-None-as_table.ensures))
+    (of_no_map c.args.place.now p c.in-Map.names c.in-Map.values n c.in-Map.is (sym c.in-None-as_table.ensures))
     (adds_none c.args.found.now.items)
 
 pub add_unknown_keys-returns-in-Some-as_array : goal.add_unknown_keys-returns-in-Some-as_array
@@ -154,7 +154,7 @@ add_unknown_keys-returns-in-Some-as_array t c =
     let ns = nodes_view c.in-Some-as_array.values.now in
     subst (λ ps. OnOk c.add_items.result (Adds c.args.found.now.items c.add_items.new.found.items (refused_at ps)))
     (ap (λ s. each_item (unknown (place_view s)) p 0 ns) c.deref-in-Some-as_array.ensures
-    ∙ of_list c.args.place.now p c.in-List.other c.in-List.items c.in-List._across n ns c.in-List.is
+    ∙ of_list c.args.place.now p c.in-List.other c.in-List.items c.in-List.across n ns c.in-List.is
     c.in-Some-as_array.ensures)
     c.add_items.ensures
 
@@ -165,7 +165,7 @@ add_unknown_keys-returns-in-None-as_array t c =
     subst (λ ps. OnOk c.add_unknown_keys-in-None-as_array.result
     (Adds c.args.found.now.items c.add_unknown_keys-in-None-as_array.new.found.items (refused_at ps)))
     (ap (λ s. unknown (place_view s) p n) c.deref-in-None-as_array.ensures
-    ∙ of_no_list c.args.place.now p c.in-List.other c.in-List.items c.in-List._across n c.in-List.is
+    ∙ of_no_list c.args.place.now p c.in-List.other c.in-List.items c.in-List.across n c.in-List.is
     (sym c.in-None-as_array.ensures))
     c.add_unknown_keys-in-None-as_array.ensures
 
