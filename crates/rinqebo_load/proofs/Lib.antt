@@ -1,3 +1,4 @@
 pub mod Failing
+pub mod Causes
 pub mod Elements
 pub mod Ids

@@ -1,17 +1,19 @@
 //! The languages of filters and platforms, as a request has them.
 ghost use Rattle.std.specs.Prelude.{IfErr, IfOk, option_map, string_bytes};
-ghost use Rattle.rinqebo_forms.specs.Machines.{AreOpenFiltersFor, ArePlatformsFor, IsMachineRefused, IsMetadataFault, IsPlatformBy, IsTargetFor};
-ghost use Rattle.rinqebo_load.specs.InputFaults.{IsBuildFault, IsEngineFault, IsTargetFault, OfEngine};
+ghost use Rattle.rinqebo_forms.specs.Machines.{AreOpenFiltersFor, ArePlatformsFor, IsPlatformBy, IsTargetFor};
+ghost use Rattle.rinqebo_load.specs.InputFaults.{IsAboutHost, IsAboutNamed, IsAboutTarget, IsBuildFault, IsEngineFault, IsGraphFault, IsMachineFault, IsTargetFault, IsTargetKnown, OrMemory};
+ghost use Rattle.rinqebo_load.specs.ListPath.{path_of};
 ghost use Rattle.rinqebo_load.specs.Machines.{machine_of};
 
 use crate::fault::{InputFault, Subject, TripleSource};
+use crate::list_path::list_path;
 use crate::triples::Triples;
 use filter_engine::NextestFilters;
 use nextest_config::BuildPlatforms;
 use platform_table::Platform;
 use rinqebo_files::Gathered;
-use rinqebo_forms::{EngineFault, open_filters_of, platform_of};
-use rinqebo_request::{FileOption, ListFile, NamedFile, Request};
+use rinqebo_forms::{open_filters_of, platform_of};
+use rinqebo_request::{FileOption, NamedFile, Request};
 use std::alloc::{AllocError, Global};
 
 /// The language of filters, and the platforms of a build.
@@ -40,7 +42,9 @@ struct MachineNames<'a> {
 impl MachineNames<'_> {
     /// The option that a fault of the machine's platform is about: the one with what the compiler
     /// prints for it, if a user names that, else the one with its triple.
-    fn subject(self, alloc: Global) -> Result<Subject, AllocError> {
+    fn subject(self, alloc: Global) -> Result<Subject, AllocError>
+        ensures { IfOk result (IsAboutNamed self.entry) }
+    {
         if self.cfg.is_some() {
             return Ok(Subject::File(NamedFile::new(alloc, self.cfg, self.option)?));
         }
@@ -49,30 +53,32 @@ impl MachineNames<'_> {
                 let file = NamedFile::new(alloc, self.list, FileOption::List)?;
                 Ok(Subject::File(file))
             }
-            TripleSource::Host
-            | TripleSource::RustcVersion
-            | TripleSource::Target
-            | TripleSource::Variable
-            | TripleSource::Fallback => Ok(Subject::Triple(self.source)),
+            source => Ok(Subject::Triple(source)),
         }
     }
 }
 
 /// How a request names its host.
-fn host_names<'a>(request: &Request<'a>, triples: &Triples) -> MachineNames<'a> {
+fn host_names<'a>(request: &Request<'a>, triples: &Triples) -> MachineNames<'a>
+    ensures { (subject : Subject) → IsAboutNamed result subject
+        → IsAboutHost request.now triples.now subject }
+{
     MachineNames {
         source: triples.host_source,
-        list: request.list().map(ListFile::path),
+        list: list_path(request),
         cfg: request.engines.host_cfg,
         option: FileOption::HostCfg,
     }
 }
 
 /// How a request names its target.
-fn target_names<'a>(request: &Request<'a>, triples: &Triples) -> MachineNames<'a> {
+fn target_names<'a>(request: &Request<'a>, triples: &Triples) -> MachineNames<'a>
+    ensures { (subject : Subject) → IsAboutNamed result subject
+        → IsAboutTarget request.now triples.now subject }
+{
     MachineNames {
         source: triples.target_source,
-        list: request.list().map(ListFile::path),
+        list: list_path(request),
         cfg: request.engines.target_cfg,
         option: FileOption::TargetCfg,
     }
@@ -86,15 +92,13 @@ fn filters_at(
     metadata: &Option<String>,
 ) -> Result<NextestFilters, InputFault>
     ensures ok { IfOk result (AreOpenFiltersFor (option_map string_bytes metadata.now)) }
-    ensures err { IfErr result
-        (OfEngine (IsMetadataFault (option_map string_bytes metadata.now))) }
+    ensures err { IfErr result (OrMemory (IsGraphFault (path_of path.entry) metadata.now)) }
 {
     match open_filters_of(alloc, metadata) {
         Ok(filters) => Ok(filters),
-        Err(EngineFault::Memory) => Err(InputFault::Memory),
         Err(fault) => {
             let file = NamedFile::new(alloc, path, FileOption::Metadata)?;
-            Err(InputFault::Engine(Subject::File(file), fault))
+            Err(InputFault::of_engine(Subject::File(file), fault))
         }
     }
 }
@@ -108,12 +112,11 @@ fn named_platform(
 ) -> Result<Platform, InputFault>
     ensures ok { IfOk result (IsPlatformBy triple.now (option_map string_bytes cfg.now)) }
     ensures err { IfErr result
-        (OfEngine (IsMachineRefused (machine_of cfg.now triple.now))) }
+        (OrMemory (IsMachineFault (IsAboutNamed names.entry) (machine_of cfg.now triple.now))) }
 {
     match platform_of(alloc, triple, cfg) {
         Ok(platform) => Ok(platform),
-        Err(EngineFault::Memory) => Err(InputFault::Memory),
-        Err(fault) => Err(InputFault::Engine(names.subject(alloc)?, fault)),
+        Err(fault) => Err(InputFault::of_engine(names.subject(alloc)?, fault)),
     }
 }
 
@@ -126,8 +129,10 @@ fn target_of(
 ) -> Result<Option<Platform>, InputFault>
     ensures ok { IfOk result
         (IsTargetFor (option_map (machine_of cfg.now) (option_map string_bytes triple.now))) }
-    ensures err { IfErr result
-        (IsTargetFault cfg.now (option_map string_bytes triple.now)) }
+    ensures known { IfOk result
+        (λ _. IsTargetKnown cfg.now (option_map string_bytes triple.now)) }
+    ensures err { IfErr result (OrMemory (IsTargetFault (IsAboutNamed names.entry) cfg.now
+        (option_map string_bytes triple.now))) }
 {
     match triple {
         Some(triple) => Ok(Some(named_platform(alloc, triple.as_str(), cfg, names)?)),
@@ -147,8 +152,8 @@ fn platforms_of(
         (ArePlatformsFor (machine_of gathered.now.host_cfg (string_bytes triples.now.host))
         (option_map (machine_of gathered.now.target_cfg)
         (option_map string_bytes triples.now.target))) }
-    ensures err { IfErr result (IsBuildFault (string_bytes triples.now.host)
-        (option_map string_bytes triples.now.target) gathered.now) }
+    ensures err { IfErr result
+        (OrMemory (IsBuildFault request.now triples.now gathered.now)) }
 {
     let names = target_names(request, triples);
     let target = target_of(alloc, &triples.target, &gathered.target_cfg, names)?;
@@ -173,8 +178,8 @@ impl Engines {
             (machine_of gathered.now.host_cfg (string_bytes triples.now.host))
             (option_map (machine_of gathered.now.target_cfg)
             (option_map string_bytes triples.now.target)) engines.platforms) }
-        ensures err { IfErr result (IsEngineFault (string_bytes triples.now.host)
-            (option_map string_bytes triples.now.target) gathered.now) }
+        ensures err { IfErr result
+            (OrMemory (IsEngineFault request.now triples.now gathered.now)) }
     {
         Ok(Engines {
             filters: filters_at(alloc, request.engines.metadata, &gathered.metadata)?,

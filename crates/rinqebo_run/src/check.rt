@@ -2,7 +2,7 @@
 ghost use Rattle.std.specs.Prelude.{◌≡◌, ◌⊎◌, IfOk, IfErr};
 ghost use Rattle.nextest_sources.specs.Endings.{IsMemory};
 ghost use Rattle.rinqebo_findings.specs.Reports.{IsReportOf};
-ghost use Rattle.rinqebo_load.specs.Beginning.{IsBeginningFailure};
+ghost use Rattle.rinqebo_load.specs.declared.failure.Failure.TheVariants.{Memory};
 ghost use Rattle.rinqebo_run.specs.Checked.{IsCheckStatus};
 
 use crate::answer::Answer;
@@ -84,7 +84,7 @@ fn checked(alloc: Global, session: &Session<'_>, deny_warnings: bool) -> Result<
 pub fn check(alloc: Global, session: &Session<'_>, deny_warnings: bool) -> Result<Answer, Failure>
     ensures ok { IfOk result (λ answer. IsCheckStatus session.now answer.status) }
     ensures about { IfOk result (λ answer. IsReportOf session.now answer.report) }
-    ensures err { IfErr result IsBeginningFailure }
+    ensures err { IfErr result (λ failure. failure ≡ Memory) }
 {
     match checked(alloc, session, deny_warnings) {
         Ok(answer) => Ok(answer),
