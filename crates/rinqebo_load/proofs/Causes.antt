@@ -1,6 +1,7 @@
 -- Causes of the faults of what a request names.
-use Rattle.std.proofs.Common.{◌≡◌, ◌≢◌, ◌⊎◌, ◌∙◌, ◌++◌, ℕ, inl, inr, List, [], Option, None, Some, IfSome, String, ap, drop, option_map, refl, string_bytes, subst, sym, take}
-use Rattle.std.specs.Str.{NoCharPasses, is_not_whitespace}
+use Rattle.std.proofs.Common.{◌≡◌, ◌≢◌, ◌⊎◌, ◌∙◌, ◌++◌, ℕ, inl, inr, List, [], Option, None, Some, IfSome, String, ap, drop, option_map, refl, string_bytes, subst, sym, take, unwrap_or}
+use Rattle.std.specs.Char.{is_not_whitespace}
+use Rattle.std.specs.Str.{NoCharPasses}
 use Rattle.std.specs.declared.alloc.Global.{Global}
 use Rattle.std.proofs.lemmas.List.{take-append-drop}
 use Rattle.std.proofs.lemmas.Str.{NoCharPasses-append}
@@ -18,8 +19,10 @@ use Rattle.rinqebo_forms.specs.declared.machines.EngineFault.{EngineFault}
 use Rattle.rinqebo_forms.specs.declared.machines.EngineFault.TheVariants as refused
 use Rattle.rinqebo_load.specs.Beginning.{failure_of}
 use Rattle.rinqebo_load.specs.FindTests.{AreNoTargets, IsNotOfMetadata, test_fault}
-use Rattle.rinqebo_load.specs.InputFaults.{HasGraph, IsAboutTriple, IsAnySubject, IsBlank, IsFaultOfList, IsMachineFault, IsTargetFault, OfEngine, OrMemory, engine_fault}
+use Rattle.rinqebo_load.specs.InputFaults.{HasGraph, IsAboutHost, IsAboutMachine, IsAboutNamed, IsAboutTarget, IsAboutTriple, IsAnySubject, IsBlank, IsFaultOfList, IsMachineFault, IsTargetFault, OfEngine, OrMemory, engine_fault}
+use Rattle.rinqebo_load.specs.ListPath.{list_path, path_of}
 use Rattle.rinqebo_load.specs.Machines.{machine_of}
+use Rattle.rinqebo_load.specs.declared.engines.MachineNames.{MachineNames}
 use Rattle.rinqebo_load.specs.declared.failure.Failure.TheVariants as failures
 use Rattle.rinqebo_load.specs.declared.fault.InputFault.{InputFault}
 use Rattle.rinqebo_load.specs.declared.fault.InputFault.TheVariants as faults
@@ -28,6 +31,10 @@ use Rattle.rinqebo_load.specs.declared.fault.Subject.TheVariants as subjects
 use Rattle.rinqebo_load.specs.declared.fault.TripleSource.{TripleSource}
 use Rattle.rinqebo_load.specs.declared.fault.TripleSource.TheVariants as sources
 use Rattle.rinqebo_load.specs.declared.missing.TestFault.TheVariants as tests
+use Rattle.rinqebo_load.specs.declared.triples.Triples.{Triples}
+use Rattle.rinqebo_request.specs.declared.named.FileOption.{FileOption}
+use Rattle.rinqebo_request.specs.declared.named.FileOption.TheVariants as options
+use Rattle.rinqebo_request.specs.declared.request.Request.{Request}
 
 -- what follows from a cause follows beside want of memory
 pub or_more : {P Q : InputFault → Type 0} (fault : InputFault) → (P fault → Q fault) → OrMemory P fault
@@ -54,6 +61,26 @@ pub about_source : (source : TripleSource) (list : Option (List ℕ)) → source
     → IsAboutTriple source list (subjects.Triple source)
 about_source sources.List list other = absurd (other refl)
 about_source source list other = refl
+
+-- what a fault of a machine is about, by names that are the same
+pub same_about : (path other : Option (List ℕ)) (option named : FileOption) (source given : TripleSource)
+    (list read : Option (List ℕ)) (subject : Subject) → path ≡ other → option ≡ named → source ≡ given → list ≡ read
+    → IsAboutMachine path option source list subject → IsAboutMachine other named given read subject
+same_about path other option named source given list read subject p o s l is = rw (p, o, s, l) at is
+
+pub about_host : (names : MachineNames) (request : Request) (triples : Triples) (subject : Subject)
+    → names.source ≡ triples.host_source → path_of names.list ≡ list_path request.question
+    → names.cfg ≡ request.engines.host_cfg → names.option ≡ options.HostCfg → IsAboutNamed names subject
+    → IsAboutHost request triples subject
+about_host names request triples subject source list cfg option is =
+    same_about _ _ _ _ _ _ _ _ subject (ap path_of cfg) option source list is
+
+pub about_target : (names : MachineNames) (request : Request) (triples : Triples) (subject : Subject)
+    → names.source ≡ triples.target_source → path_of names.list ≡ list_path request.question
+    → names.cfg ≡ request.engines.target_cfg → names.option ≡ options.TargetCfg → IsAboutNamed names subject
+    → IsAboutTarget request triples subject
+about_target names request triples subject source list cfg option is =
+    same_about _ _ _ _ _ _ _ _ subject (ap path_of cfg) option source list is
 
 -- what a fault of a machine is about, seen in another way
 pub about_more : (IsAbout IsOther : Subject → Type 0) (machine : MachineText) (fault : InputFault)
@@ -82,7 +109,8 @@ blank text trimmed (m, n, is, before, behind, rest) none =
     (NoCharPasses-append is_not_whitespace (take m text) (drop n (drop m text)) before behind)
 
 -- why a text is no list, other than for want of memory
-pub listed : (path text : List ℕ) (named : String Global) (fault : ListFault) → string_bytes named ≡ path
+pub listed : (path : Option (List ℕ)) (text : List ℕ) (named : String Global) (fault : ListFault)
+    → string_bytes named ≡ unwrap_or path []
     → fault ≢ lists.Memory → IfSome (fault_view fault) (IsFaultIn text) → IsFaultOfList path text (faults.List named fault)
 listed path text named lists.Memory at other cause = absurd (other refl)
 listed path text named fault at other cause = (at, cause)

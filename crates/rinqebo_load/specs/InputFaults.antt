@@ -1,6 +1,7 @@
 -- What is wrong with the list of tests, the metadata or the platforms that a request names.
 use Rattle.std.specs.Prelude.{◌≡◌, ◌⊎◌, ℕ, List, Option, None, Some, IsTrue, MatchOption, Ok, String, is_some, option_map, string_bytes, unwrap_or, []}
-use Rattle.std.specs.Str.{NoCharPasses, is_not_whitespace}
+use Rattle.std.specs.Char.{is_not_whitespace}
+use Rattle.std.specs.Str.{NoCharPasses}
 use Rattle.std.specs.declared.alloc.Global.{Global}
 use Rattle.filter_packages.specs.Graph.{Graph}
 use Rattle.filter_packages.specs.Metadata.{graph_of_text}
@@ -116,15 +117,15 @@ IsBlank text = NoCharPasses is_not_whitespace text
 
 -- The text of a list that was read at a path is no list of tests, for exactly this fault. A text of
 -- white space alone is empty.
-abbrev pub IsFaultOfList : List ℕ → List ℕ → InputFault → Type 0
+abbrev pub IsFaultOfList : Option (List ℕ) → List ℕ → InputFault → Type 0
 IsFaultOfList path text (faults.EmptyList file) =
-    IsFileAt (Some path) options.List file × IsBlank text × IsFaultIn text not_json
+    IsFileAt path options.List file × IsBlank text × IsFaultIn text not_json
 IsFaultOfList path text (faults.List told fault) =
-    (string_bytes told ≡ path) × MatchOption (fault_view fault) ⊥ (IsFaultIn text)
+    (string_bytes told ≡ unwrap_or path []) × MatchOption (fault_view fault) ⊥ (IsFaultIn text)
 IsFaultOfList path text fault = ⊥
 
 -- the same of the text of a list, if there is one
-abbrev pub IsListFault : List ℕ → Option (String Global) → InputFault → Type 0
+abbrev pub IsListFault : Option (List ℕ) → Option (String Global) → InputFault → Type 0
 IsListFault path (Some text) fault = IsFaultOfList path (string_bytes text) fault
 IsListFault path None fault = ⊥
 
@@ -205,5 +206,5 @@ pub record IsFaultBeside (request : Request) (gathered : Gathered) (fault : Inpu
 -- it is understood.
 abbrev pub IsInputFault : Request → Gathered → InputFault → Type 0
 IsInputFault request gathered fault =
-    IsListFault (unwrap_or (list_path request.question) []) gathered.list fault
+    IsListFault (list_path request.question) gathered.list fault
     ⊎ IsFaultBeside request gathered fault

@@ -1,8 +1,9 @@
 //! The languages of filters and platforms, as a request has them.
-ghost use Rattle.std.specs.Prelude.{IfErr, IfOk, option_map, string_bytes};
+ghost use Rattle.std.specs.Prelude.{◌≡◌, IfErr, IfOk, option_map, string_bytes};
 ghost use Rattle.rinqebo_forms.specs.Machines.{AreOpenFiltersFor, ArePlatformsFor, IsPlatformBy, IsTargetFor};
-ghost use Rattle.rinqebo_load.specs.InputFaults.{IsAboutHost, IsAboutNamed, IsAboutTarget, IsBuildFault, IsEngineFault, IsGraphFault, IsMachineFault, IsTargetFault, IsTargetKnown, OrMemory};
-ghost use Rattle.rinqebo_load.specs.ListPath.{path_of};
+ghost use Rattle.rinqebo_request.specs.declared.named.FileOption.TheVariants.{HostCfg, TargetCfg};
+ghost use Rattle.rinqebo_load.specs.InputFaults.{IsAboutNamed, IsBuildFault, IsEngineFault, IsGraphFault, IsMachineFault, IsTargetFault, IsTargetKnown, OrMemory};
+ghost use Rattle.rinqebo_load.specs.ListPath.{list_path, path_of};
 ghost use Rattle.rinqebo_load.specs.Machines.{machine_of};
 
 use crate::fault::{InputFault, Subject, TripleSource};
@@ -60,8 +61,10 @@ impl MachineNames<'_> {
 
 /// How a request names its host.
 fn host_names<'a>(request: &Request<'a>, triples: &Triples) -> MachineNames<'a>
-    ensures { (subject : Subject) → IsAboutNamed result subject
-        → IsAboutHost request.now triples.now subject }
+    ensures source { result.source ≡ triples.now.host_source }
+    ensures list { path_of result.list ≡ list_path request.now.question }
+    ensures cfg { result.cfg ≡ request.now.engines.host_cfg }
+    ensures option { result.option ≡ HostCfg }
 {
     MachineNames {
         source: triples.host_source,
@@ -73,8 +76,10 @@ fn host_names<'a>(request: &Request<'a>, triples: &Triples) -> MachineNames<'a>
 
 /// How a request names its target.
 fn target_names<'a>(request: &Request<'a>, triples: &Triples) -> MachineNames<'a>
-    ensures { (subject : Subject) → IsAboutNamed result subject
-        → IsAboutTarget request.now triples.now subject }
+    ensures source { result.source ≡ triples.now.target_source }
+    ensures list { path_of result.list ≡ list_path request.now.question }
+    ensures cfg { result.cfg ≡ request.now.engines.target_cfg }
+    ensures option { result.option ≡ TargetCfg }
 {
     MachineNames {
         source: triples.target_source,

@@ -60,8 +60,7 @@ impl<'g> Session<'g> {
         ensures err { IfErr result IsBeginningFailure }
         ensures cause { IfErr result (IsUnusable request.now gathered.now) }
     {
-        let path = list_path(request).unwrap_or("");
-        let tests = listed_tests(alloc, path, gathered)?;
+        let tests = listed_tests(alloc, list_path(request), gathered)?;
         let host = printed_host(alloc, request.engines.rustc_version, gathered)?;
         let triples = triples_for(alloc, &request.engines, host, &tests)?;
         let engines = Engines::new(alloc, request, &triples, gathered)?;

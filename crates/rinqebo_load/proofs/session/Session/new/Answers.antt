@@ -17,7 +17,7 @@ returns-in_err-tests-clause-cause c =
     let p = err_from_is_err_and c.from_residual.result c.from_residual.ensures.1 in
     rw (p.1, p.2)
     (unusable c.args.request.now c.args.gathered.now c.in_err-tests.field-0.0
-    (or_more c.in_err-tests.field-0.0 (λ why. inl (rw c.unwrap_or-path.ensures at why)) c.in_err-tests.ensures.err))
+    (or_more c.in_err-tests.field-0.0 (λ why. inl (rw c.list_path.ensures at why)) c.in_err-tests.ensures.err))
 
 pub returns-in_err-host-clause-err : goal.returns-in_err-host-clause-err
 returns-in_err-host-clause-err c =
