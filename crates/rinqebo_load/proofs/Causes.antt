@@ -11,6 +11,7 @@ use Rattle.nextest_lists.specs.Faults.{fault_view}
 use Rattle.nextest_lists.specs.Reading.{IsFaultIn}
 use Rattle.nextest_lists.specs.declared.fault.ListFault.{ListFault}
 use Rattle.nextest_lists.specs.declared.fault.ListFault.TheVariants as lists
+use Rattle.rinqebo_files.specs.declared.files.Gathered.{Gathered}
 use Rattle.platform_table.specs.declared.fault.PlatformFault.{PlatformFault}
 use Rattle.platform_table.specs.declared.fault.PlatformFault.TheVariants as platforms
 use Rattle.rinqebo_forms.specs.Machines.{AreOpenFiltersFor}
@@ -19,7 +20,7 @@ use Rattle.rinqebo_forms.specs.declared.machines.EngineFault.{EngineFault}
 use Rattle.rinqebo_forms.specs.declared.machines.EngineFault.TheVariants as refused
 use Rattle.rinqebo_load.specs.Beginning.{failure_of}
 use Rattle.rinqebo_load.specs.FindTests.{AreNoTargets, IsNotOfMetadata, test_fault}
-use Rattle.rinqebo_load.specs.InputFaults.{HasGraph, IsAboutHost, IsAboutMachine, IsAboutNamed, IsAboutTarget, IsAboutTriple, IsAnySubject, IsBlank, IsFaultOfList, IsMachineFault, IsTargetFault, OfEngine, OrMemory, engine_fault}
+use Rattle.rinqebo_load.specs.InputFaults.{HasGraph, IsAboutHost, IsAboutMachine, IsAboutNamed, IsAboutTarget, IsAboutTriple, IsAnySubject, IsBlank, IsBuildFault, IsFaultOfList, IsMachineFault, IsTargetFault, IsTargetKnown, OfEngine, OrMemory, engine_fault}
 use Rattle.rinqebo_load.specs.ListPath.{list_path, path_of}
 use Rattle.rinqebo_load.specs.Machines.{machine_of}
 use Rattle.rinqebo_load.specs.declared.engines.MachineNames.{MachineNames}
@@ -97,6 +98,29 @@ target_more IsAbout IsOther printed (Some triple) fault more is =
     about_more IsAbout IsOther (machine_of printed triple) fault more is
 target_more IsAbout IsOther printed None faults.NoTarget more is = is
 target_more IsAbout IsOther printed None fault more is = absurd is
+
+-- the target of a build has no platform
+pub target_fault : (names : MachineNames) (request : Request) (triples : Triples) (gathered : Gathered)
+    (fault : InputFault) → names.source ≡ triples.target_source → path_of names.list ≡ list_path request.question
+    → names.cfg ≡ request.engines.target_cfg → names.option ≡ options.TargetCfg
+    → OrMemory (IsTargetFault (IsAboutNamed names) gathered.target_cfg (option_map string_bytes triples.target)) fault
+    → OrMemory (IsBuildFault request triples gathered) fault
+target_fault names request triples gathered fault source list cfg option =
+    or_more fault (λ is. inl (target_more (IsAboutNamed names) (IsAboutTarget request triples) gathered.target_cfg
+    (option_map string_bytes triples.target) fault
+    (λ subject. about_target names request triples subject source list cfg option) is))
+
+-- the host of a build whose target is known has none
+pub host_fault : (names : MachineNames) (request : Request) (triples : Triples) (gathered : Gathered)
+    (fault : InputFault) → names.source ≡ triples.host_source → path_of names.list ≡ list_path request.question
+    → names.cfg ≡ request.engines.host_cfg → names.option ≡ options.HostCfg
+    → IsTargetKnown gathered.target_cfg (option_map string_bytes triples.target)
+    → OrMemory (IsMachineFault (IsAboutNamed names) (machine_of gathered.host_cfg (string_bytes triples.host))) fault
+    → OrMemory (IsBuildFault request triples gathered) fault
+host_fault names request triples gathered fault source list cfg option known =
+    or_more fault (λ is. inr (known, about_more (IsAboutNamed names) (IsAboutHost request triples)
+    (machine_of gathered.host_cfg (string_bytes triples.host)) fault
+    (λ subject. about_host names request triples subject source list cfg option) is))
 
 -- a text of which trimming leaves nothing
 pub blank : (text trimmed : List ℕ) → IsTrimResult text trimmed → trimmed ≡ [] → IsBlank text

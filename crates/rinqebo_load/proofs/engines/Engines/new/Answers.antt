@@ -1,0 +1,16 @@
+use Rattle.std.proofs.Common.{inl, inr}
+use Rattle.std.proofs.lemmas.Result.{err_from_is_err_and}
+use Rattle.rinqebo_load.proofs.Causes.{graph_of, or_more}
+use Rattle.rinqebo_load.proofs.engines.Engines.new.Goals as goal
+
+pub returns-in_err-filters_at-clause-err : goal.returns-in_err-filters_at-clause-err
+returns-in_err-filters_at-clause-err c =
+    let p = err_from_is_err_and c.from_residual.result c.from_residual.ensures.1 in
+    rw (p.1, p.2) (or_more c.in_err-filters_at.field-0.0 (λ is. inl is) c.in_err-filters_at.ensures.err)
+
+pub returns-in_err-platforms_of-clause-err : goal.returns-in_err-platforms_of-clause-err
+returns-in_err-platforms_of-clause-err c =
+    let p = err_from_is_err_and c.from_residual-in_err-platforms_of.result
+    c.from_residual-in_err-platforms_of.ensures.1 in
+    let known = graph_of c.args.gathered.now.metadata c.in_ok-filters_at.field-0 c.in_ok-filters_at.ensures.ok in
+    rw (p.1, p.2) (or_more c.in_err-platforms_of.field-0.0 (λ is. inr (known, is)) c.in_err-platforms_of.ensures.err)
