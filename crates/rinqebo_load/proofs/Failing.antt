@@ -1,16 +1,11 @@
--- Failures of what all commands begin with.
+-- Why a request has no session.
 use Rattle.std.proofs.Common.{◌≡◌, ◌⊎◌, inl, inr}
 use Rattle.rinqebo_files.specs.declared.files.Gathered.{Gathered}
 use Rattle.rinqebo_request.specs.declared.request.Request.{Request}
-use Rattle.rinqebo_load.specs.Beginning.{IsBeginningFailure, IsUnusable, failure_of}
+use Rattle.rinqebo_load.specs.Beginning.{IsUnusable, failure_of}
 use Rattle.rinqebo_load.specs.InputFaults.{IsInputFault, OrMemory}
 use Rattle.rinqebo_load.specs.declared.fault.InputFault.{InputFault}
 use Rattle.rinqebo_load.specs.declared.fault.InputFault.TheVariants as faults
-
--- the failure of a fault is one that all commands begin with
-pub begins : (fault : InputFault) → IsBeginningFailure (failure_of fault)
-begins faults.Memory = tt
-begins fault = tt
 
 -- the failure of a fault of what a request names
 pub unusable : (request : Request) (gathered : Gathered) (fault : InputFault)

@@ -1,4 +1,4 @@
--- What all commands begin with may fail.
+-- Why a request has no session, which all commands begin with.
 use Rattle.rinqebo_files.specs.declared.files.Gathered.{Gathered}
 use Rattle.rinqebo_request.specs.declared.request.Request.{Request}
 use Rattle.rinqebo_load.specs.InputFaults.{IsInputFault}
@@ -6,15 +6,6 @@ use Rattle.rinqebo_load.specs.declared.failure.Failure.{Failure}
 use Rattle.rinqebo_load.specs.declared.failure.Failure.TheVariants as failures
 use Rattle.rinqebo_load.specs.declared.fault.InputFault.{InputFault}
 use Rattle.rinqebo_load.specs.declared.fault.InputFault.TheVariants as faults
-
--- A failure of what all commands begin with: the engines, or want of memory.
-abbrev pub IsBeginningFailure : Failure → Type 0
-IsBeginningFailure (failures.Engines fault) = Unit {0}
-IsBeginningFailure (failures.Refused report) = ⊥
-IsBeginningFailure (failures.NoProfile report) = ⊥
-IsBeginningFailure (failures.NoTest report) = ⊥
-IsBeginningFailure (failures.SeveralTests report) = ⊥
-IsBeginningFailure failures.Memory = Unit {0}
 
 -- the failure of a fault: want of memory is one of its own
 abbrev pub failure_of : InputFault → Failure

@@ -6,7 +6,7 @@ use Rattle.rinqebo_report.specs.Rendered.{json_text}
 use Rattle.rinqebo_report.specs.declared.report.Report.{Report}
 use Rattle.rinqebo_request.specs.declared.request.Request.{Request}
 use Rattle.rinqebo_run.specs.Answered.{IsAnswer}
-use Rattle.rinqebo_run.specs.Refused.{AreRefusedFor, IsRefusedUse, LackProfileFor}
+use Rattle.rinqebo_run.specs.Refused.{AreRefusedFor, HasUsageFailure, LackProfileFor}
 use Rattle.rinqebo_run.specs.declared.answer.Answer.{Answer}
 use Rattle.rinqebo_load.specs.declared.failure.Failure.{Failure}
 use Rattle.rinqebo_load.specs.declared.failure.Failure.TheVariants as failures
@@ -46,7 +46,7 @@ ReportsNoProfileOf asked gathered =
 pub record LacksEngines (asked : RequestedText) (gathered : Gathered) : Type 0 where
   pub request : Request
   pub is_request : IsRequestFor asked request
-  pub cause : IsRefusedUse request gathered
+  pub cause : HasUsageFailure request gathered
 
 -- how what a run requests of files ends, want of memory aside
 abbrev pub IsEndingIn : RequestedText → Gathered → Ending → Type 0

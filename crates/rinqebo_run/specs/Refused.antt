@@ -56,8 +56,8 @@ abbrev pub Fails : Request → Gathered → Failure → Type 0
 Fails request gathered failure =
     IsUnusable request gathered failure ⊎ FailsInSession request gathered failure
 
--- A request cannot be used: for a failure with this exit status it has no result.
-pub record IsRefusedUse (request : Request) (gathered : Gathered) : Type 0 where
+-- The program cannot use what a request names: it has no result, for a failure with exit status 2.
+pub record HasUsageFailure (request : Request) (gathered : Gathered) : Type 0 where
   pub failure : Failure
   pub is_status : failure_status failure ≡ 2
   pub fails : Fails request gathered failure
@@ -105,7 +105,7 @@ pub record LackTestFor (request : Request) (gathered : Gathered) : Type 0 where
 -- the files; and 4 only where all do and the files lack the requested profile, or where there is no
 -- requested test.
 pub record IsReportedBy (request : Request) (gathered : Gathered) (status : ℕ) : Type 0 where
-  pub unusable : status ≡ 2 → IsRefusedUse request gathered
+  pub unusable : status ≡ 2 → HasUsageFailure request gathered
   pub refused : status ≡ 3 → AreRefusedFor request gathered
   pub lacking : status ≡ 4 → LackProfileFor request gathered ⊎ LackTestFor request gathered
 
