@@ -1,4 +1,5 @@
-// Rinqebo as a library: whole runs, and configurations that are loaded once and queried often.
+// Rinqebo as a library: whole runs, what changes between two of them, and configurations that are loaded once and
+// queried often.
 //
 // Names, types and the order of parameters are those of crates/rinqebo_c: scripts/compare-layouts compares them.
 // docs/LIBRARY.md says what each call does, and what is proved of it.
@@ -88,6 +89,32 @@ size_t rinqebo_run_length(const struct rinqebo_run *run);
 // end of the output and behind it. The rest of the buffer is unchanged. Consecutive pieces make up the output.
 size_t rinqebo_run_text(const struct rinqebo_run *run, size_t offset, uint8_t *out, size_t out_len);
 
+// ---- what changes between two runs
+
+// A side of a comparison.
+enum rinqebo_side {
+    RINQEBO_NO_SIDE = 0,
+    RINQEBO_FROM = 1, // the left side, from which something changes
+    RINQEBO_TO = 2    // the right side, to which something changes
+};
+
+// Returns what changes from one run to another, for the tests that both lists have and for the whole run. Each request
+// is one of rinqebo_resolve: the two may differ in anything. The output is written as rinqebo_resolve writes it. With
+// each status it is
+//   DONE             the document of `rinqebo diff --format json`, on a line, also where nothing changes
+//   another one      what rinqebo_resolve has with it, for the request of one side
+// *side is that side: RINQEBO_FROM or RINQEBO_TO, and RINQEBO_NO_SIDE with DONE and MEMORY. With SMALL it is already
+// that of a call with a buffer that is large enough. Both requests are read first, then the left side is loaded, then
+// the right one: the first failure is reported. Unless `origins` is 0, other origins of a value that is the same are a
+// change too.
+uint32_t rinqebo_diff(const uint8_t *from, size_t from_len, const uint8_t *to, size_t to_len, uint32_t origins,
+                      uint8_t *answer, size_t answer_len, size_t *needed, uint32_t *side);
+
+// The same, kept as a run, in room for a run, which rinqebo_run_status, _length, _text and _free take. It fills the
+// room, always. The requests may go as soon as it returns.
+void rinqebo_diff_new(const uint8_t *from, size_t from_len, const uint8_t *to, size_t to_len, uint32_t origins,
+                      struct rinqebo_run *room, uint32_t *side);
+
 // An index of no name: of the global group, or of no wrapper.
 #define RINQEBO_NO_NAME SIZE_MAX
 
@@ -144,8 +171,8 @@ enum rinqebo_text {
 // RINQEBO_OBJECTS is an object with the members "run", "groups", "setup-scripts", "wrappers" and "findings": what the
 // profile says for a whole run, the test groups in the order of RINQEBO_GROUP, the setup scripts in the order in which
 // they run, the wrapper scripts in the order of RINQEBO_WRAPPER, and the warnings of the load. docs/LIBRARY.md lists
-// their members. The document of a whole run has such an object as its member "objects", with programs as files write
-// them, and with the tests of the list that enable each setup script.
+// their members. The document of a whole run has such an object as its member "objects", with programs joined by the
+// target directory of the list, and with the tests of the list that enable each setup script.
 uint32_t rinqebo_profile_text(const struct rinqebo_profile *profile, uint32_t kind, size_t index, uint8_t *out,
                               size_t out_len, size_t *needed);
 

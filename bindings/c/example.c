@@ -271,6 +271,57 @@ static int check_run(void) {
     return 0;
 }
 
+// Whether the comparison of two requests ends with a status and a side, and its output has this text; and whether it is
+// the same where it is kept.
+static int compares(const char *from, const char *to, uint32_t origins, uint32_t wanted, uint32_t wanted_side,
+                    const char *text) {
+    static uint8_t answer[16384], kept_answer[16384];
+    const uint8_t *left = (const uint8_t *)from, *right = (const uint8_t *)to;
+    size_t needed = 0, length = strlen(text);
+    uint32_t side = 9, kept_side = 9;
+    uint32_t status =
+        rinqebo_diff(left, strlen(from), right, strlen(to), origins, answer, sizeof answer, &needed, &side);
+    if (status != wanted || side != wanted_side) return 0;
+    int found = length == 0;
+    for (size_t i = 0; i + length <= needed; i++) found = found || memcmp(answer + i, text, length) == 0;
+    struct rinqebo_run *kept = malloc(rinqebo_run_size());
+    if (kept == NULL) return 0;
+    rinqebo_diff_new(left, strlen(from), right, strlen(to), origins, kept, &kept_side);
+    int same = rinqebo_run_status(kept) == status && kept_side == side && rinqebo_run_length(kept) == needed;
+    same = same && rinqebo_run_text(kept, 0, kept_answer, sizeof kept_answer) == needed;
+    same = same && memcmp(kept_answer, answer, needed) == 0;
+    rinqebo_run_free(kept);
+    free(kept);
+    return found && same;
+}
+
+// What changes between two runs, with each status but that for want of memory. 0, or the number of the first check that
+// fails.
+static int check_diff(void) {
+    static const char *older = RUN_REQUEST("[profile.ci]\\nretries = 1\\n", "ci", LIST);
+    static const char *newer = RUN_REQUEST("[profile.ci]\\nretries = 2\\n", "ci", LIST);
+    static const char *elsewhere = RUN_REQUEST("[profile.ci]\\n[profile.default]\\nretries = 1\\n", "ci", LIST);
+    static const char *none = "\"changed\":0,\"changes\":[]";
+    static const char *one = "\"changed\":1,\"changes\":[{\"from\":{\"key\":\"retries\"";
+    if (!compares(older, newer, 0, RINQEBO_DONE, RINQEBO_NO_SIDE, one)) return 80;
+    if (!compares(older, older, 1, RINQEBO_DONE, RINQEBO_NO_SIDE, none)) return 81;
+    if (!compares(older, elsewhere, 0, RINQEBO_DONE, RINQEBO_NO_SIDE, none)) return 82;
+    if (!compares(older, elsewhere, 1, RINQEBO_DONE, RINQEBO_NO_SIDE, one)) return 83;
+    static const char *refused = RUN_REQUEST("[profile.ci", "ci", LIST), *lacking = RUN_REQUEST("", "cj", LIST);
+    if (!compares(refused, newer, 0, RINQEBO_REFUSED, RINQEBO_FROM, "\"level\":\"error\"")) return 84;
+    if (!compares(older, refused, 0, RINQEBO_REFUSED, RINQEBO_TO, "\"level\":\"error\"")) return 85;
+    if (!compares(older, lacking, 0, RINQEBO_NO_PROFILE, RINQEBO_TO, "cj")) return 86;
+    if (!compares(RUN_REQUEST("", "ci", "{}"), newer, 0, RINQEBO_NO_ENGINES, RINQEBO_FROM, "rust-suites")) return 87;
+    if (!compares(refused, "{}", 0, RINQEBO_NOT_UNDERSTOOD, RINQEBO_TO, "`profile`")) return 88;
+    if (!compares("\xff", "{}", 0, RINQEBO_NOT_TEXT, RINQEBO_FROM, "")) return 89;
+    uint8_t answer[4] = {'w', 'x', 'y', 'z'};
+    const uint8_t *left = (const uint8_t *)older, *right = (const uint8_t *)newer;
+    size_t needed = 0;
+    uint32_t side = 9;
+    if (rinqebo_diff(left, strlen(older), right, strlen(newer), 0, answer, 4, &needed, &side) != RINQEBO_SMALL) return 90;
+    return needed > 4 && side == RINQEBO_NO_SIDE && memcmp(answer, "wxyz", 4) == 0 ? 0 : 91;
+}
+
 // What came of reading files, in a session and in a run. 0, or the number of the first check that fails.
 static int check_outcomes(void) {
     static const char *missing = RUN_OVER(READ("/f", "not-found", "null"), "null", "default", LIST);
@@ -314,6 +365,7 @@ static int check(void) {
     if (failed == 0) failed = check_refused("{}", RINQEBO_NOT_UNDERSTOOD);
     if (failed == 0) failed = check_refused("\xff", RINQEBO_NOT_TEXT);
     if (failed == 0) failed = check_run();
+    if (failed == 0) failed = check_diff();
     return failed == 0 ? check_outcomes() : failed;
 }
 

@@ -32,7 +32,8 @@ pub struct Document {
     pub setup_scripts: Vec<String>,
     /// The list wrappers of the binaries that have one, in the order of the list's keys.
     pub list_wrappers: Vec<ListWrapper>,
-    /// What a runner needs of the profile beside the settings of tests. Programs are as files write them.
+    /// What a runner needs of the profile beside the settings of tests. Programs are joined to the target directory that
+    /// the list names.
     pub objects: Objects,
 }
 
@@ -138,6 +139,8 @@ pub enum OriginKind {
     Profile,
     Override,
     Script,
+    /// A table of a file beside its profiles, as that of a group.
+    File,
 }
 
 /// What is wrong with a file.

@@ -96,6 +96,15 @@ extern "C" {
     pub fn rinqebo_version_number() -> u32;
     pub fn rinqebo_run_size() -> usize;
     pub fn rinqebo_run_new(request: *const u8, request_len: usize, room: *mut u8);
+    pub fn rinqebo_diff_new(
+        from: *const u8,
+        from_len: usize,
+        to: *const u8,
+        to_len: usize,
+        origins: u32,
+        room: *mut u8,
+        side: *mut u32,
+    );
     pub fn rinqebo_run_status(run: *const u8) -> u32;
     pub fn rinqebo_run_length(run: *const u8) -> usize;
     pub fn rinqebo_run_text(run: *const u8, offset: usize, out: *mut u8, out_len: usize) -> usize;

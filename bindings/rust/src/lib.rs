@@ -1,5 +1,5 @@
-//! Safe types over Rinqebo's proved library: one call for a whole run, and nextest configurations that
-//! are loaded once and queried often.
+//! Safe types over Rinqebo's proved library: one call for a whole run, one for what changes between two, and
+//! nextest configurations that are loaded once and queried often.
 //!
 //! ```no_run
 //! # fn main() -> Result<(), rinqebo::Error> {
@@ -20,6 +20,7 @@
 //! on the thread of that one. Threads that ask at once have a configuration each, or share one in a
 //! `Mutex` and open its profiles under the lock.
 
+mod diff;
 mod document;
 mod error;
 mod ffi;
@@ -31,6 +32,9 @@ mod sources;
 mod spelled;
 mod version;
 
+pub use diff::{
+    diff, diff_json, Change, Diff, DiffError, DiffOptions, DiffSide, Given, RunChange, SideName, TestId,
+};
 pub use document::{
     Document, Finding, Level, ListWrapper, Origin, OriginKind, Range, Refusal, Runs, Setting, Source, SourceKind,
     TestRow,

@@ -1,9 +1,10 @@
-//! One call for a whole run.
+//! One call for a whole run, and the runs that the library keeps.
 
 use crate::document::{Document, Refusal};
 use crate::room::Room;
 use crate::version::check_version;
 use crate::{ffi, json_of, Error, Mode, Sources, DONE};
+use serde::de::DeserializeOwned;
 use serde::Serialize;
 
 /// The request of a run: all settings that a profile gives to each test of a list.
@@ -26,21 +27,16 @@ pub fn resolve(request: &RunRequest<'_>) -> Result<Document, Error> {
 /// Resolves a request in JSON.
 pub fn resolve_json(request: &[u8]) -> Result<Document, Error> {
     check_version()?;
-    let run = Run::new(request)?;
-    match (run.status(), run.text()) {
-        (DONE, document) => serde_json::from_slice(&document).map_err(Error::unreadable),
-        (1, document) => Err(Error::Refused(Refusal::read(&document)?)),
-        (7, document) => Err(Error::NoProfile(Refusal::read(&document)?)),
-        (status, reason) => Err(Error::of(status, String::from_utf8_lossy(&reason).into_owned())),
-    }
+    Run::new(request)?.document()
 }
 
 /// A run of the library, which keeps its output.
-struct Run {
+pub(crate) struct Run {
     room: Room,
 }
 
 impl Run {
+    /// The run of a request.
     fn new(request: &[u8]) -> Result<Run, Error> {
         // SAFETY: it takes nothing.
         let room = Room::new(unsafe { ffi::rinqebo_run_size() })?;
@@ -48,6 +44,29 @@ impl Run {
         // the size and the alignment of a run, and holds none.
         unsafe { ffi::rinqebo_run_new(request.as_ptr(), request.len(), room.as_ptr()) };
         Ok(Run { room })
+    }
+
+    /// The comparison of the runs of two requests, and the number of the side that has no result.
+    pub(crate) fn of_diff(from: &[u8], to: &[u8], with_origins: bool) -> Result<(Run, u32), Error> {
+        // SAFETY: it takes nothing.
+        let room = Room::new(unsafe { ffi::rinqebo_run_size() })?;
+        let (origins, mut side) = (u32::from(with_origins), 0);
+        // SAFETY: the bytes and the room as in `new`; the number is borrowed for the call.
+        unsafe {
+            let (left, right) = (from.as_ptr(), to.as_ptr());
+            ffi::rinqebo_diff_new(left, from.len(), right, to.len(), origins, room.as_ptr(), &mut side)
+        };
+        Ok((Run { room }, side))
+    }
+
+    /// The document of the run, or why there is none.
+    pub(crate) fn document<T: DeserializeOwned>(&self) -> Result<T, Error> {
+        match (self.status(), self.text()) {
+            (DONE, document) => serde_json::from_slice(&document).map_err(Error::unreadable),
+            (1, document) => Err(Error::Refused(Refusal::read(&document)?)),
+            (7, document) => Err(Error::NoProfile(Refusal::read(&document)?)),
+            (status, reason) => Err(Error::of(status, String::from_utf8_lossy(&reason).into_owned())),
+        }
     }
 
     fn status(&self) -> u32 {

@@ -26,7 +26,7 @@ pub struct Sources {
     pub host: Machine,
     /// The machine that is built for, where it is another one.
     pub target: Option<Machine>,
-    /// The target directory, to which programs of scripts may be relative.
+    /// The target directory, to which programs of scripts may be relative. A whole run takes that of its list.
     pub target_directory: Option<String>,
 }
 

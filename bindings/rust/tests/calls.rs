@@ -716,7 +716,8 @@ fn a_session_tells_its_warnings() {
 fn a_run_has_the_objects_of_its_profile() {
     let list = example("list.json");
     for profile in ["ci", "quick", "default"] {
-        let objects = runner(None).profile(profile).unwrap().objects().unwrap();
+        // The list names the target directory.
+        let objects = runner(Some("/w/target")).profile(profile).unwrap().objects().unwrap();
         let mut sources = Sources::of_file("/w", RUNNER, TRIPLE);
         for target in [None, Some("/t".to_owned())] {
             sources.target_directory = target;
@@ -729,6 +730,22 @@ fn a_run_has_the_objects_of_its_profile() {
             assert_eq!(listed, objects);
         }
     }
+}
+
+#[test]
+fn a_run_joins_programs_to_the_target_directory_of_its_list() {
+    let sources = Sources::of_file("/w", RUNNER, TRIPLE);
+    let programs = |list: &str| -> Vec<String> {
+        let request = RunRequest { sources: &sources, profile: "ci", mode: Mode::Test, list };
+        let objects = resolve(&request).unwrap().objects;
+        let setup = objects.setup_scripts.into_iter().map(|script| script.command.program);
+        setup.chain(objects.wrappers.into_iter().map(|script| script.command.program)).collect()
+    };
+    let list = example("list.json");
+    assert_eq!(programs(&list), ["/w/bin/seed", "plain", "/w/target/debug/box"]);
+    assert_eq!(programs(r#"{"rust-suites":{}}"#), ["bin/seed", "plain", "debug/box"]);
+    let list = r#"{"rust-build-meta":{"target-directory":7},"rust-suites":{}}"#;
+    assert_eq!(programs(list), ["bin/seed", "plain", "debug/box"]);
 }
 
 const SETUP: &str = r#"

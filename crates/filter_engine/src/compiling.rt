@@ -131,7 +131,7 @@ impl Matchers for NextestFilters {
         sign: Sign,
         text: &str,
     ) -> Result<Result<FieldMatcher, PatternFault>, AllocError> {
-        match NamePattern::compile(alloc, sign, text)? {
+        match NamePattern::compile(alloc, sign, text, self.table)? {
             Ok(pattern) => Ok(Ok(self.matcher(alloc, field, pattern)?)),
             Err(fault) => Ok(Err(fault)),
         }

@@ -12,6 +12,7 @@ ghost use Rattle.filter_engine.specs.Refusals.{IsSpanOf, Says, SaysFirstFault};
 
 use crate::compiling::FieldMatcher;
 use filter_language::{Field, Filterset, FiltersetFault, ParseFault};
+use filter_matchers::SearchTable;
 use filter_packages::PackageGraph;
 use nextest_engines::history::RuleHistory;
 use nextest_engines::{
@@ -57,6 +58,7 @@ pub enum Packages {
 #[derive(Debug, Drop)]
 pub struct NextestFilters {
     pub(crate) packages: Packages,
+    pub(crate) table: SearchTable,
 }
 
 impl NextestFilters {
@@ -66,6 +68,7 @@ impl NextestFilters {
     {
         NextestFilters {
             packages: Packages::Unknown,
+            table: SearchTable::Made,
         }
     }
 
@@ -75,6 +78,7 @@ impl NextestFilters {
     {
         NextestFilters {
             packages: Packages::Open,
+            table: SearchTable::Made,
         }
     }
 
@@ -84,6 +88,18 @@ impl NextestFilters {
     {
         NextestFilters {
             packages: Packages::Known(graph),
+            table: SearchTable::Made,
+        }
+    }
+
+    /// The same filters for a few names: patterns are read without tables of searches, which takes
+    /// less than reading them with tables, and matching takes more.
+    pub fn for_few_names(self) -> NextestFilters
+        ensures { result.packages ≡ self.packages }
+    {
+        NextestFilters {
+            packages: self.packages,
+            table: SearchTable::LeftOut,
         }
     }
 

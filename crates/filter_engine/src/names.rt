@@ -6,7 +6,7 @@ ghost use Rattle.filter_matchers.specs.Matches.{question_of};
 ghost use Rattle.filter_engine.specs.Names.{question_in, regex_question, glob_question, asks};
 
 use filter_language::{PatternFault, Sign};
-use filter_matchers::{GlobFault, PatternMatcher, RegexFault};
+use filter_matchers::{GlobFault, PatternMatcher, RegexFault, SearchTable};
 use nextest_engines::NameMatcher as NameTest;
 use std::alloc::{AllocError, Global};
 
@@ -34,11 +34,15 @@ fn contains(alloc: Global, text: &str) -> Result<NamePattern, AllocError>
 
 /// Asks for a name that the glob of this text takes.
 #[tactic(auto, using(crate::proofs::Asks::glob_asked, crate::proofs::Asks::glob_none, crate::proofs::Asks::glob_large))]
-fn glob(alloc: Global, text: &str) -> Result<Result<NamePattern, PatternFault>, AllocError>
+fn glob(
+    alloc: Global,
+    text: &str,
+    table: SearchTable,
+) -> Result<Result<NamePattern, PatternFault>, AllocError>
     ensures { IfOk result (λ found. result_map_both (λ p. question_of p.matcher) (λ f. f) found
         ≡ glob_question text.now) }
 {
-    match PatternMatcher::glob(alloc, text) {
+    match PatternMatcher::glob(alloc, text, table) {
         Ok(matcher) => Ok(Ok(NamePattern { matcher })),
         Err(GlobFault::Malformed) => Ok(Err(PatternFault::Malformed)),
         Err(GlobFault::TooLarge) => Ok(Err(PatternFault::TooLarge)),
@@ -48,11 +52,15 @@ fn glob(alloc: Global, text: &str) -> Result<Result<NamePattern, PatternFault>, 
 
 /// Asks for a name in which the regular expression of this text has a match.
 #[tactic(auto, using(crate::proofs::Asks::regex_asked, crate::proofs::Asks::regex_none, crate::proofs::Asks::regex_large))]
-fn regex(alloc: Global, text: &str) -> Result<Result<NamePattern, PatternFault>, AllocError>
+fn regex(
+    alloc: Global,
+    text: &str,
+    table: SearchTable,
+) -> Result<Result<NamePattern, PatternFault>, AllocError>
     ensures { IfOk result (λ found. result_map_both (λ p. question_of p.matcher) (λ f. f) found
         ≡ regex_question text.now) }
 {
-    match PatternMatcher::regex(alloc, text) {
+    match PatternMatcher::regex(alloc, text, table) {
         Ok(matcher) => Ok(Ok(NamePattern { matcher })),
         Err(RegexFault::Malformed) => Ok(Err(PatternFault::Malformed)),
         Err(RegexFault::TooLarge) => Ok(Err(PatternFault::TooLarge)),
@@ -61,11 +69,13 @@ fn regex(alloc: Global, text: &str) -> Result<Result<NamePattern, PatternFault>,
 }
 
 impl NamePattern {
-    /// Compiles the text behind a sign, or returns why it is not compiled.
+    /// Compiles the text behind a sign, with tables of searches or without, or returns why it is not
+    /// compiled.
     pub fn compile(
         alloc: Global,
         sign: Sign,
         text: &str,
+        table: SearchTable,
     ) -> Result<Result<NamePattern, PatternFault>, AllocError>
         ensures { IfOk result (λ found. result_map_both (λ p. question_of p.matcher) (λ f. f) found
             ≡ question_in sign text.now) }
@@ -73,8 +83,8 @@ impl NamePattern {
         match sign {
             Sign::Equal => Ok(Ok(equal(alloc, text)?)),
             Sign::Contains => Ok(Ok(contains(alloc, text)?)),
-            Sign::Glob => glob(alloc, text),
-            Sign::Regex => regex(alloc, text),
+            Sign::Glob => glob(alloc, text, table),
+            Sign::Regex => regex(alloc, text, table),
         }
     }
 }

@@ -12,7 +12,7 @@ mod place;
 mod row;
 mod size;
 
-use crate::machine::Machine;
+use crate::machine::{Machine, SearchTable};
 use crate::regex_size::is_too_large;
 use fault::RowFault;
 use part::is_plain;
@@ -77,7 +77,7 @@ impl GlobMatcher {
     ///
     /// [`GlobFault::Malformed`] where the text writes none, [`GlobFault::TooLarge`] where the
     /// automaton may take more than 16,384 states, and [`GlobFault::Memory`] where memory ran out.
-    pub fn parse(alloc: Global, text: &str) -> Result<GlobMatcher, GlobFault>
+    pub fn parse(alloc: Global, text: &str, table: SearchTable) -> Result<GlobMatcher, GlobFault>
         ensures text { IfOk result (λ glob. glob ≡ text.now) }
         ensures written { OnOk result (IsGlob text.now) }
         ensures small { OnOk result (sizes.glob_size text.now ≤ most_states) }
@@ -95,7 +95,7 @@ impl GlobMatcher {
                 machine: None,
             });
         }
-        let machine = compile(alloc, text)?;
+        let machine = compile(alloc, text, table)?;
         let text = String::from_str(alloc, text)?;
         Ok(GlobMatcher {
             text,
@@ -144,7 +144,7 @@ fn is_large(text: &str) -> bool
 }
 
 // The automaton for the glob of a text.
-fn compile(alloc: Global, text: &str) -> Result<Machine, GlobFault>
+fn compile(alloc: Global, text: &str, table: SearchTable) -> Result<Machine, GlobFault>
     ensures machine { IfOk result (λ machine. IsGlobMachine text.now machine.nfa) }
     ensures written { OnOk result (IsGlob text.now) }
     ensures small { OnOk result (sizes.glob_size text.now ≤ most_states) }
@@ -160,6 +160,6 @@ fn compile(alloc: Global, text: &str) -> Result<Machine, GlobFault>
     if is_large(text) {
         return Err(GlobFault::TooLarge);
     }
-    let machine = Machine::compile(alloc, &whole_pattern(alloc, patterns)?, 1)?;
+    let machine = Machine::compile(alloc, &whole_pattern(alloc, patterns)?, 1, table)?;
     Ok(machine)
 }

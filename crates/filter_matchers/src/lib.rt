@@ -12,6 +12,7 @@ mod regex_matcher;
 mod regex_size;
 
 pub use glob::{GlobFault, GlobMatcher};
+pub use machine::SearchTable;
 pub use name_matcher::{PatternMatcher, law_decided_globs, law_plain_glob};
 pub use part_matcher::PartMatcher;
 pub use regex_matcher::{RegexFault, RegexMatcher};

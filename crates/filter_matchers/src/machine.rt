@@ -33,6 +33,18 @@ const FEW_STATES: usize = 64;
 // The most bytes that the tables of an automaton may take.
 const TABLE_LIMIT: usize = 10 << 20;
 
+/// Whether a table of the first steps of searches is made for a pattern.
+///
+/// With a table it takes more to read the pattern, and less to match a name: it pays from some fifteen
+/// names on.
+#[derive(Clone, Copy, Debug, PartialEq, Eq)]
+pub enum SearchTable {
+    /// It is made.
+    Made,
+    /// It is not made.
+    LeftOut,
+}
+
 /// A compiled pattern: an automaton of at most 16,384 states, and perhaps a table of the first steps of
 /// its searches.
 #[derive(Drop)]
@@ -50,7 +62,12 @@ impl Machine {
     ///
     /// Where memory runs out, and where the automaton takes more than 10 MiB or 16,384 states, which
     /// is not known of any pattern that is no larger by its text.
-    pub fn compile(alloc: Global, pattern: &Hir, groups: u32) -> Result<Machine, AllocError>
+    pub fn compile(
+        alloc: Global,
+        pattern: &Hir,
+        groups: u32,
+        table: SearchTable,
+    ) -> Result<Machine, AllocError>
         ensures { IfOk result (λ machine.
             (name : List ℕ) → finds machine.nfa name
             ≡ is_some (find (meaning pattern.now) name 0)) }
@@ -61,7 +78,7 @@ impl Machine {
         if nfa.states.len() > MOST_STATES {
             return Err(AllocError);
         }
-        let table = table_of(alloc, &nfa)?;
+        let table = table_of(alloc, &nfa, table)?;
         Ok(Machine { nfa, table })
     }
 
@@ -119,12 +136,13 @@ impl Machine {
     }
 }
 
-// The table of an automaton, if all its assertions are on the start and the end of the name.
-fn table_of(alloc: Global, nfa: &Nfa) -> Result<Option<Table>, AllocError>
+// The table of an automaton, if one is made, and all assertions of the automaton are on the start and
+// the end of the name.
+fn table_of(alloc: Global, nfa: &Nfa, table: SearchTable) -> Result<Option<Table>, AllocError>
     requires { vec_len nfa.now.states ≤ 16384 }
     ensures { IfOk result (λ table. IsTabled nfa.now table) }
 {
-    if !sees_edges(nfa) {
+    if matches!(table, SearchTable::LeftOut) || !sees_edges(nfa) {
         return Ok(None);
     }
     let count = nfa.states.len();

@@ -9,6 +9,7 @@ ghost use Rattle.filter_matchers.specs.Matches as asked;
 ghost use Rattle.filter_matchers.specs.Matches.{Matches, question_of};
 
 use crate::glob::{GlobFault, GlobMatcher};
+use crate::machine::SearchTable;
 use crate::part_matcher::PartMatcher;
 use crate::regex_matcher::{RegexFault, RegexMatcher};
 use std::alloc::{AllocError, Global};
@@ -47,7 +48,7 @@ impl PatternMatcher {
     ///
     /// [`GlobFault::Malformed`] where the text writes no glob, [`GlobFault::TooLarge`] where its
     /// automaton may take more than 16,384 states, and [`GlobFault::Memory`] where memory ran out.
-    pub fn glob(alloc: Global, text: &str) -> Result<PatternMatcher, GlobFault>
+    pub fn glob(alloc: Global, text: &str, table: SearchTable) -> Result<PatternMatcher, GlobFault>
         ensures asks { IfOk result (λ matcher. question_of matcher ≡ asked.glob text.now) }
         ensures written { OnOk result (IsGlob text.now) }
         ensures small { OnOk result (glob_size text.now ≤ most_states) }
@@ -55,7 +56,7 @@ impl PatternMatcher {
         ensures large { result ≡ Err GlobFault.TooLarge
             → IsGlob text.now × (most_states < glob_size text.now) }
     {
-        Ok(PatternMatcher::Glob(GlobMatcher::parse(alloc, text)?))
+        Ok(PatternMatcher::Glob(GlobMatcher::parse(alloc, text, table)?))
     }
 
     /// Asks for a name in which the regular expression of this text has a match.
@@ -65,7 +66,11 @@ impl PatternMatcher {
     /// [`RegexFault::Malformed`] where the text writes no regular expression,
     /// [`RegexFault::TooLarge`] where its automaton may take more than 16,384 states, and
     /// [`RegexFault::Memory`] where memory ran out.
-    pub fn regex(alloc: Global, text: &str) -> Result<PatternMatcher, RegexFault>
+    pub fn regex(
+        alloc: Global,
+        text: &str,
+        table: SearchTable,
+    ) -> Result<PatternMatcher, RegexFault>
         ensures asks { IfOk result (λ matcher. question_of matcher ≡ asked.regex text.now) }
         ensures written { OnOk result (IsRegex text.now) }
         ensures small { OnOk result (regex_size text.now ≤ most_states) }
@@ -73,7 +78,7 @@ impl PatternMatcher {
         ensures large { result ≡ Err RegexFault.TooLarge
             → IsRegex text.now × (most_states < regex_size text.now) }
     {
-        Ok(PatternMatcher::Regex(RegexMatcher::parse(alloc, text)?))
+        Ok(PatternMatcher::Regex(RegexMatcher::parse(alloc, text, table)?))
     }
 
     /// Whether a name matches.

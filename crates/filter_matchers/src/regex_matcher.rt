@@ -4,7 +4,7 @@ ghost use Rattle.filter_matchers.specs.RegexTexts.{IsRegex, RegexMatches, IsRege
 ghost use Rattle.filter_matchers.specs.RegexSizes as sizes;
 ghost use Rattle.filter_matchers.specs.RegexSizes.{most_states};
 
-use crate::machine::Machine;
+use crate::machine::{Machine, SearchTable};
 use crate::regex_size::{is_too_large, regex_size};
 use regex_syntax::{Config, ErrorKind, parse};
 use std::alloc::{AllocError, Global};
@@ -58,7 +58,7 @@ impl RegexMatcher {
     ///
     /// [`RegexFault::Malformed`] where the text writes none, [`RegexFault::TooLarge`] where the
     /// automaton may take more than 16,384 states, and [`RegexFault::Memory`] where memory ran out.
-    pub fn parse(alloc: Global, text: &str) -> Result<RegexMatcher, RegexFault>
+    pub fn parse(alloc: Global, text: &str, table: SearchTable) -> Result<RegexMatcher, RegexFault>
         ensures text { IfOk result (λ regex. regex ≡ text.now) }
         ensures written { OnOk result (IsRegex text.now) }
         ensures small { OnOk result (sizes.regex_size text.now ≤ most_states) }
@@ -82,7 +82,7 @@ impl RegexMatcher {
         let Ok(groups) = u32::try_from(parsed.names.len()) else {
             return Err(RegexFault::Memory);
         };
-        let machine = Machine::compile(alloc, &parsed.hir, groups)?;
+        let machine = Machine::compile(alloc, &parsed.hir, groups, table)?;
         let text = String::from_str(alloc, text)?;
         Ok(RegexMatcher { text, machine })
     }

@@ -48,5 +48,6 @@ list_view list = record {
     host = option_map string_bytes list.host;
     target = option_map string_bytes list.target;
   };
+  target_directory = option_map string_bytes list.target_directory;
   binaries = map listed_view list.binaries.items;
 }

@@ -1,9 +1,9 @@
 -- Lists of tests, and the lists in documents.
-use Rattle.std.specs.Prelude.{◌≡◌, ℕ, Bool, false, List, map, Option, None, Some, MatchOption, option_map, codes, flat_map}
+use Rattle.std.specs.Prelude.{◌≡◌, ℕ, Bool, false, List, map, Option, None, Some, MatchOption, option_and_then, option_map, codes, flat_map}
 use Rattle.std.specs.List.{AllZip}
 use Rattle.nextest_engines.specs.Engines.{Binary, Test}
 use Rattle.serde_json.specs.Data.{Data, boolean, string, object, Members}
-use Rattle.serde_json.specs.Find.{get}
+use Rattle.serde_json.specs.Find.{as_str, get}
 use Rattle.nextest_lists.specs.Demands.{first_target, listed, platform_of, platforms_in, triple_in}
 
 -- A test of a binary: its name, and whether a list says that it is ignored.
@@ -27,9 +27,10 @@ pub record Triples : Type 0 where
   pub host : Option (List ℕ)
   pub target : Option (List ℕ)
 
--- A list of tests: the triples of the build, and the binaries.
+-- A list of tests: the triples of the build, the target directory if it is known, and the binaries.
 pub record TestList : Type 0 where
   pub triples : Triples
+  pub target_directory : Option (List ℕ)
   pub binaries : List Listed
 
 -- a test of a binary, as a test of a list
@@ -97,9 +98,18 @@ abbrev pub AreTriples : Data → Triples → Type 0
 AreTriples document triples = MatchOption (platforms_in document)
     (triples ≡ record { host = None; target = None }) (λ p. AreTriplesIn p triples)
 
--- A list is the one in a document: the triples of the build, and a binary for each suite, in order.
+-- the target directory of a document: the string at `target-directory` of `rust-build-meta`, if it
+-- has one
+abbrev pub target_directory_in : Data → Option (List ℕ)
+target_directory_in document =
+    option_and_then as_str (option_and_then (get (codes "target-directory"))
+    (get (codes "rust-build-meta") document))
+
+-- A list is the one in a document: the triples of the build, the target directory, and a binary for
+-- each suite, in order.
 pub record IsListOf (document : Data) (list : TestList) : Type 0 where
   pub triples : AreTriples document list.triples
+  pub target_directory : list.target_directory ≡ target_directory_in document
   pub suites : Members
   pub has_suites : get (codes "rust-suites") document ≡ Some (object suites)
   pub binaries : AllZip IsSuiteOf (values suites) list.binaries

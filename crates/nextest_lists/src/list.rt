@@ -79,13 +79,15 @@ impl ListedBinary {
     }
 }
 
-/// The tests of a list, by their binaries, and the triples of the build.
+/// The tests of a list, by their binaries, and the triples and the target directory of the build.
 #[derive(Debug, Drop)]
 pub struct ListedTests {
     /// The triple of the host, if the list has the platforms of the build.
     pub host: Option<String>,
     /// The triple of the target, if the list has one: the first, if there are several.
     pub target: Option<String>,
+    /// The target directory of the build, if the list has it.
+    pub target_directory: Option<String>,
     /// The binaries, in the order of their keys in the list.
     pub binaries: Vec<ListedBinary>,
 }

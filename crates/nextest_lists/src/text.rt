@@ -4,7 +4,7 @@ ghost use Rattle.serde_json.specs.Errors.{IsMemory};
 ghost use Rattle.serde_json.specs.View.{view};
 ghost use Rattle.nextest_lists.specs.Demands.{demands, first_fault, not_json};
 ghost use Rattle.nextest_lists.specs.Faults.{fault_view, TellsFirst};
-ghost use Rattle.nextest_lists.specs.Lists.{IsListOf};
+ghost use Rattle.nextest_lists.specs.Lists.{IsListOf, target_directory_in};
 ghost use Rattle.nextest_lists.specs.ListView.{list_view};
 ghost use Rattle.nextest_lists.specs.Reading.{IsListIn, IsFaultIn};
 
@@ -26,6 +26,14 @@ fn copied(alloc: Global, text: Option<&str>) -> Result<Option<String>, AllocErro
     }
 }
 
+/// Returns the target directory of the build, if a document has it.
+fn target_directory_in(document: &Value) -> Option<&str>
+    ensures { option_map (λ text. text.now) result ≡ target_directory_in (view document.now) }
+{
+    let meta = document.get("rust-build-meta")?;
+    meta.get("target-directory")?.as_str()
+}
+
 /// Reads the tests that a document lists.
 fn tests_in(alloc: Global, document: &Value) -> Result<ListedTests, ListFault>
     ensures ok { IfOk result (λ list. IsListOf (view document.now) (list_view list)) }
@@ -37,6 +45,7 @@ fn tests_in(alloc: Global, document: &Value) -> Result<ListedTests, ListFault>
     Ok(ListedTests {
         host: copied(alloc, triples.host)?,
         target: copied(alloc, triples.target)?,
+        target_directory: copied(alloc, target_directory_in(document))?,
         binaries,
     })
 }

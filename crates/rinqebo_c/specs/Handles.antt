@@ -6,6 +6,7 @@ use denote.Memory.{hidden_shr}
 use denote.RattleType.{RattleType}
 use denote.RawPtr.{Ptr, block_ptr, null_ptr, lies_at}
 use mir.Syntax.{erased}
+use Rattle.rinqebo_compare.specs.Comparisons.{IsComparedRun}
 use Rattle.rinqebo_resolve.specs.Pieces.{IsRunOf}
 use Rattle.rinqebo_resolve.specs.contracts.run.Run.{the_row as run_row}
 use Rattle.rinqebo_resolve.specs.declared.run.Run.{Run}
@@ -20,6 +21,12 @@ use Rattle.rinqebo_session.specs.declared.session.Session.{Session}
 abbrev pub finished : List ℕ → Ptr → Fml
 finished request p =
     fex Run (λ r. fex (IsRunOf request r) (λ _. lies_at run_row full_share p r))
+
+-- the run that has a comparison of two requests lies at p, beside the number of a side, and it is
+-- the program's
+abbrev pub compared : List ℕ → List ℕ → ℕ → ℕ → Ptr → Fml
+compared from to origins side p = fex Run (λ r. fex (IsComparedRun from to origins side r)
+    (λ _. lies_at run_row full_share p r))
 
 -- what a reader has of the run at p for the time κ, with the share q of the right to use that time
 abbrev pub lent_run : Lft → Share → Ptr → Run → Fml

@@ -1,5 +1,5 @@
-//! The exports: one call for a whole run, and those of runs and sessions. A run, a session and its
-//! profiles lie in room of the caller's, who never looks inside.
+//! The exports: one call for a whole run, one for what changes between two, and those of runs and
+//! sessions. A run, a session and its profiles lie in room of the caller's, who never looks inside.
 ghost use Rattle.std.specs.Prelude.{◌≡◌, [], ℕ, List, length, string_bytes, take};
 ghost use Rattle.std.specs.Mem.{type_size};
 ghost use base.Fml.{Share, flft};
@@ -7,6 +7,7 @@ ghost use base.Fraction.{full_share};
 ghost use contract.BorrowLft.{◌⊑◌};
 ghost use denote.RawPtr.{lies_at, room_at};
 ghost use types.Logic.{sem};
+ghost use Rattle.rinqebo_compare.specs.Comparisons.{IsCompared, IsDiffFor, counts_origins};
 ghost use Rattle.rinqebo_resolve.specs.Endings.{IsAnswerTo, IsResolved, IsSilent, ending_status, ending_text};
 ghost use Rattle.rinqebo_resolve.specs.Pieces.{IsPieceOf};
 ghost use Rattle.rinqebo_resolve.specs.contracts.run.Run.{the_row as run_row};
@@ -22,8 +23,9 @@ ghost use Rattle.rinqebo_session.specs.declared.version.TheConstants.{MAJOR, MIN
 ghost use Rattle.rinqebo_session.specs.contracts.session.Session.{the_row};
 ghost use Rattle.rinqebo_session.specs.declared.profile.Profile.{Profile};
 ghost use Rattle.rinqebo_session.specs.declared.session.Session.{Session};
-ghost use Rattle.rinqebo_c.specs.Handles.{finished, lent_run, loaded, lent, profile_row, opened, lent_profile};
+ghost use Rattle.rinqebo_c.specs.Handles.{compared, finished, lent_run, loaded, lent, profile_row, opened, lent_profile};
 
+use rinqebo_compare::{compare, compared_run};
 use rinqebo_resolve::{Run, resolve};
 use rinqebo_session::version::{copy_version, version_number};
 use rinqebo_session::{CallerTest, Profile, Session, SettingNumbers};
@@ -45,6 +47,30 @@ pub extern "C" fn rinqebo_resolve(
     ensures kept { IsSilent result → answer.new ≡ answer.old }
 {
     resolve(alloc, request, answer, needed)
+}
+
+/// Compares the runs of two requests in JSON: writes the document of what changes from the first
+/// to the second, or why there is none, at the start of a buffer, and returns a number for which it
+/// is. Where the buffer is too small it stays as it was, and `needed` says what it takes. `side`
+/// says which side has no result. Unless `origins` is 0, other origins of a value that is the same
+/// are a change too.
+#[unsafe(no_mangle)]
+pub extern "C" fn rinqebo_diff(
+    alloc: Global,
+    from: &[u8],
+    to: &[u8],
+    origins: u32,
+    answer: &mut [u8],
+    needed: &mut usize,
+    side: &mut u32,
+) -> u32
+    ensures compared { IsCompared from.now to.now origins answer.old answer.new needed.new side.new
+        result }
+    ensures done { result ≡ DONE → (side.new ≡ 0)
+        × IsDiffFor from.now to.now (counts_origins origins) (take needed.new answer.new) }
+    ensures kept { IsSilent result → answer.new ≡ answer.old }
+{
+    compare(alloc, from, to, origins, answer, needed, side)
 }
 
 /// Copies out the version of the library, as a text.
@@ -80,6 +106,24 @@ pub unsafe extern "C" fn rinqebo_run_new(alloc: Global, request: &[u8], room: *m
     ensures* { sem 𝓛 (finished request.now room) }
 {
     (room as *mut Run).write(Run::new(alloc, request));
+}
+
+/// Compares the runs of two requests in JSON, as `rinqebo_diff` does, and keeps how that ends as a
+/// run, in room for a run. It always leaves a run there, whose status says how it ended.
+#[unsafe(no_mangle)]
+pub unsafe extern "C" fn rinqebo_diff_new(
+    alloc: Global,
+    from: &[u8],
+    to: &[u8],
+    origins: u32,
+    room: *mut u8,
+    side: &mut u32,
+)
+    // The room has the size and the alignment of a run, and holds none.
+    requires* { sem 𝓛 (room_at run_row room) }
+    ensures* { sem 𝓛 (compared from.now to.now origins side.new room) }
+{
+    (room as *mut Run).write(compared_run(alloc, from, to, origins, side));
 }
 
 /// How a run ended.

@@ -1,13 +1,14 @@
 -- Classes of changes: a loop that takes them from a list, one after another, and what they are.
-use Rattle.std.proofs.Common.{◌≡◌, ℕ, ◌<◌, ◌≤◌, ◌+◌, ◌∙◌, Bool, true, false, cond, not, List, [], ◌∷◌, ◌++◌, length, map, filter, flat_map, zero, suc, take, Option, get_or, refl, sym, ap, subst, arith}
+use Rattle.std.proofs.Common.{◌≡◌, ℕ, ◌<◌, ◌≤◌, ◌+◌, ◌∙◌, Bool, true, false, cond, not, List, [], ◌∷◌, ◌++◌, length, map, filter, flat_map, zero, suc, take, Some, get_or, refl, sym, ap, subst, arith}
 use Rattle.std.specs.List.{AllByRecursion, Contains}
 use Rattle.std.proofs.lemmas.List.Sorted.{IsPermutation-refl, IsPermutation-trans, IsPermutation-filter_both, IsPermutation-append_right}
 use Rattle.std.proofs.lemmas.List.Filters.{length-filter_both}
 use Rattle.std.proofs.lemmas.Grind.{flat_map-append, take_at_read}
 use Rattle.std.proofs.lemmas.List.{append-nil, take_all}
-use Rattle.std.proofs.lemmas.List.Elements.{All-push}
+use Rattle.std.proofs.lemmas.List.Elements.{All-nil, All-push}
+use Rattle.std.proofs.lemmas.Option.{get_or_from_slice_get, slice_get_within}
 use Rattle.std.proofs.lemmas.List.{map-append}
-use Rattle.std.specs.List.{All, AllZip}
+use Rattle.std.specs.List.{All, AllZip, slice_get}
 use Rattle.rinqebo_report.specs.declared.report.TestId.{TestId}
 use Rattle.rinqebo_changes.specs.declared.change.RowChange.{RowChange}
 use Rattle.rinqebo_changes.specs.declared.change.TestChanges.{TestChanges}
@@ -95,7 +96,7 @@ abbrev pub place_of : Item → ℕ
 place_of item = item.row.now.place
 
 -- one that comes before the first one so far comes before all so far
-pub lower_all : (xs : List Item) (i : ℕ) (x first : Item) → i < length xs → x ≡ get_or xs i x
+lower_all : (xs : List Item) (i : ℕ) (x first : Item) → i < length xs → x ≡ get_or xs i x
     → place_of x < place_of first → All (λ y. place_of first ≤ place_of y) (take i xs)
     → All (λ y. place_of x ≤ place_of y) (take (i + 1) xs)
 lower_all xs i x first lt is lower all =
@@ -104,12 +105,43 @@ lower_all xs i x first lt is lower all =
     (λ k d below. let h : place_of first ≤ place_of (get_or (take i xs) k d) = all k d below in omega arith) (omega arith))
 
 -- one that no other comes before stays so before one more that it comes before
-pub same_all : (xs : List Item) (i : ℕ) (x first : Item) → i < length xs → x ≡ get_or xs i x
+same_all : (xs : List Item) (i : ℕ) (x first : Item) → i < length xs → x ≡ get_or xs i x
     → place_of first ≤ place_of x → All (λ y. place_of first ≤ place_of y) (take i xs)
     → All (λ y. place_of first ≤ place_of y) (take (i + 1) xs)
 same_all xs i x first lt is lower all =
     subst (All (λ y. place_of first ≤ place_of y)) (sym (one_behind xs i x lt is))
     (All-push (λ y. place_of first ≤ place_of y) (take i xs) x all lower)
+
+-- One of some changes is the first of those whose setting comes first among so many.
+pub record IsFirstOf (items : List Item) (n : ℕ) (head : Item) : Type 0 where
+  pub here : Contains items head
+  pub least : All (λ y. place_of head ≤ place_of y) (take n items)
+  pub first : All (λ y. place_of head < place_of y) (take here.0 items)
+
+-- the first element is the first one of none
+pub first_begun : (xs : List Item) (first : Item) → slice_get xs 0 ≡ Some first → IsFirstOf xs 0 first
+first_begun xs first is = record {
+  here = (0, slice_get_within xs 0 first is, get_or_from_slice_get xs 0 first first is);
+  least = All-nil (λ y. place_of first ≤ place_of y);
+  first = All-nil (λ y. place_of first < place_of y);
+}
+
+-- one more takes the place of the first one, or does not
+pub first_lower : (xs : List Item) (i : ℕ) (x first : Item) → i < length xs → x ≡ get_or xs i x
+    → place_of x < place_of first → IsFirstOf xs i first → IsFirstOf xs (i + 1) x
+first_lower xs i x first lt is lower so = record {
+  here = (i, lt, sym is);
+  least = lower_all xs i x first lt is lower so.least;
+  first = λ k d below. let h : place_of first ≤ place_of (get_or (take i xs) k d) = so.least k d below in omega arith;
+}
+
+pub first_same : (xs : List Item) (i : ℕ) (x first : Item) → i < length xs → x ≡ get_or xs i x
+    → place_of first ≤ place_of x → IsFirstOf xs i first → IsFirstOf xs (i + 1) first
+first_same xs i x first lt is lower so = record {
+  here = so.here;
+  least = same_all xs i x first lt is lower so.least;
+  first = so.first;
+}
 
 -- the changes of one more test
 pub items_more : (tests : List TestChanges) (i : ℕ) (test : TestChanges) → i < length tests → test ≡ get_or tests i test

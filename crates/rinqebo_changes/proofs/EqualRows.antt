@@ -1,18 +1,18 @@
 -- Nothing changes between rows that are one by one alike.
-use Rattle.std.proofs.Common.{◌≡◌, ◌∙◌, ℕ, ◌+◌, ◌<◌, ◌≤◌, ◌&&◌, ◌||◌, Bool, true, false, cond, not, List, [], ◌∷◌, ◌++◌, Option, option_map, filter, length, length-append, map, refl, sym, ap, subst, arith, bytes_eq, string_bytes}
+use Rattle.std.proofs.Common.{◌≡◌, ◌∙◌, ℕ, ◌+◌, ◌<◌, ◌||◌, Bool, true, false, cond, not, List, [], ◌∷◌, ◌++◌, option_map, length, length-append, map, refl, sym, ap, subst, arith, bytes_eq, string_bytes}
 use Rattle.std.proofs.lemmas.List.{append-nil}
 use Rattle.std.proofs.lemmas.List.Elements.{filter-append}
-use Rattle.std.specs.List.{All, AllZip, enumerate_from, zip}
+use Rattle.std.specs.List.{All, AllZip}
 use Rattle.std.specs.Option.{option_eq}
 use Rattle.rinqebo_report.specs.declared.origin.Source.{Source}
 use Rattle.rinqebo_report.specs.declared.report.SettingRow.{SettingRow}
-use Rattle.rinqebo_report.specs.declared.value.Value.{Value}
 use Rattle.rinqebo_changes.specs.Changes.{change_of, changed_rows, is_change, side_row}
-use Rattle.rinqebo_changes.specs.Keyed.{is_of, has_key, rows_of, KeepsOrder, HaveSameKey, AreAligned, AreAlike, AreKeyedChanges}
+use Rattle.rinqebo_changes.specs.Keyed.{is_of, has_key, rows_of, HaveSameKey, AreAligned, AreAlike, AreKeyedChanges}
 use Rattle.rinqebo_changes.specs.Same.{same_value}
 use Rattle.rinqebo_changes.specs.ValueViews.{value_view}
 use Rattle.rinqebo_changes.specs.declared.change.RowChange.{RowChange}
 use Rattle.rinqebo_changes.specs.declared.change.SideRow.{SideRow}
+use Rattle.rinqebo_changes.proofs.Exactly.{changed_from}
 use Rattle.rinqebo_changes.proofs.KeyedOrders.{none_of, of_its_key}
 use Rattle.rinqebo_changes.proofs.SameValues.{setting_decides}
 
@@ -31,12 +31,12 @@ stays from to a b alike =
     ((setting_decides a.row.value b.row.value).1 alike.same)
 
 none_from : (from to : List Source) (n : ℕ) (xs ys : List SideRow) → AllZip HaveSameValue xs ys
-    → filter (λ c. is_change from to false c.from c.to) (map change_of (enumerate_from n (zip xs ys))) ≡ []
+    → changed_from (is_change from to false) n xs ys ≡ []
 none_from from to n [] [] all = refl
 none_from from to n [] (y ∷ ys) all = absurd all
 none_from from to n (x ∷ xs) [] all = absurd all
 none_from from to n (x ∷ xs) (y ∷ ys) all =
-    let rest = filter (λ c. is_change from to false c.from c.to) (map change_of (enumerate_from (n + 1) (zip xs ys))) in
+    let rest = changed_from (is_change from to false) (n + 1) xs ys in
     ap (λ q. cond q (change_of (n, (x, y)) ∷ rest) rest) (stays from to x y all.0)
     ∙ none_from from to (n + 1) xs ys all.1
 

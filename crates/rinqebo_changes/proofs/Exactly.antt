@@ -1,5 +1,5 @@
 -- The rows that change are exactly those between which something changes, each once.
-use Rattle.std.proofs.Common.{◌≡◌, ℕ, ◌<◌, ◌≤◌, ◌+◌, ◌∙◌, Bool, true, false, cond, List, [], ◌∷◌, Option, None, Some, map, filter, zero, suc, refl, sym, ap, subst, arith}
+use Rattle.std.proofs.Common.{◌≡◌, ℕ, ◌<◌, ◌≤◌, ◌+◌, ◌∙◌, Bool, true, false, cond, List, [], ◌∷◌, None, Some, map, filter, zero, suc, refl, sym, ap, subst, arith}
 use Rattle.std.specs.List.{AllByRecursion, enumerate_from, zip}
 use Rattle.std.specs.Prelude.{slice_get}
 use Rattle.rinqebo_changes.specs.declared.change.RowChange.{RowChange}
@@ -8,7 +8,7 @@ use Rattle.rinqebo_changes.specs.Changes.{changed_rows, change_of}
 use Rattle.rinqebo_changes.specs.Laws.{IsOneOf, IsChangeAt, AreRising, AreExactly}
 
 -- the rows that change, with places from n on
-abbrev changed_from : (SideRow → SideRow → Bool) → ℕ → List SideRow → List SideRow → List RowChange
+abbrev pub changed_from : (SideRow → SideRow → Bool) → ℕ → List SideRow → List SideRow → List RowChange
 changed_from test n from to =
     filter (λ c. test c.from c.to) (map change_of (enumerate_from n (zip from to)))
 

@@ -1,9 +1,8 @@
 -- Nothing changes between equal rows, and swapped sides swap what changes.
-use Rattle.std.proofs.Common.{◌≡◌, ℕ, ◌+◌, ◌∙◌, Bool, true, false, cond, not, ◌&&◌, ◌||◌, List, [], ◌∷◌, Option, None, Some, option_map, map, filter, bytes_eq, string_bytes, refl, sym, ap}
+use Rattle.std.proofs.Common.{◌≡◌, ℕ, ◌+◌, ◌∙◌, Bool, true, false, cond, not, ◌&&◌, ◌||◌, List, [], ◌∷◌, Option, None, Some, option_map, map, bytes_eq, string_bytes, refl, sym, ap}
 use Rattle.std.specs.Prelude.{slice_get}
 use Rattle.std.specs.Bool.{beq, Decides}
-use Rattle.std.specs.List.{enumerate_from, zip}
-use Rattle.std.specs.Cmp.Lexicographic.{pointwise, bytes_decides}
+use Rattle.std.specs.Cmp.Lexicographic.{bytes_decides}
 use Rattle.std.specs.Option.{option_eq}
 use Rattle.std.proofs.lemmas.Bool.Decides.{Decides-like, same_from_decides}
 use Rattle.rinqebo_report.specs.declared.origin.Origin.{Origin}
@@ -15,11 +14,13 @@ use Rattle.rinqebo_report.specs.declared.origin.Written.{Written}
 use Rattle.rinqebo_report.specs.declared.value.Value.{Value}
 use Rattle.rinqebo_changes.specs.declared.change.RowChange.{RowChange}
 use Rattle.rinqebo_changes.specs.declared.change.SideRow.{SideRow}
-use Rattle.rinqebo_changes.specs.Changes.{changed_rows, change_of, is_change, like_source_of}
+use Rattle.rinqebo_changes.specs.Changes.{change_of, is_change, like_source_of}
 use Rattle.rinqebo_changes.specs.Laws.{swapped, AreFair}
 use Rattle.rinqebo_changes.specs.Same.{same_value}
 use Rattle.rinqebo_changes.specs.SameOrigin.{like_kind, like_optional, like_source, like_origin, like_origins, same_written}
 use Rattle.rinqebo_changes.specs.ValueViews.{value_view}
+use Rattle.rinqebo_changes.proofs.Exactly.{changed_from}
+use Rattle.rinqebo_changes.proofs.Reflexive.{both_hold, flag_itself}
 use Rattle.rinqebo_changes.proofs.SameOrigins.{written_decides}
 use Rattle.rinqebo_changes.proofs.SameValues.{setting_decides}
 
@@ -92,15 +93,12 @@ optional_swap None (Some b) = refl
 optional_swap (Some a) None = refl
 optional_swap (Some a) (Some b) = kinds_swap a.kind b.kind
 
-both_true : (p q : Bool) → p ≡ true → q ≡ true → (p && q) ≡ true
-both_true p q h k = rw (h, k)
-
 -- origins
 origin_same : (s : List Source) (a : Origin) → like_origin s s a a ≡ true
 origin_same s BuiltIn = refl
 origin_same s DefaultTable = refl
 origin_same s (InFile a) =
-    both_true (like_source s s a.place.source a.place.source) (same_written a a)
+    both_hold (like_source s s a.place.source a.place.source) (same_written a a)
     (optional_same (slice_get s a.place.source)) (written_same a)
 origin_same s (File a) = optional_same (slice_get s a.source)
 
@@ -126,7 +124,7 @@ origin_swap s t (File a) (File b) = optional_swap (slice_get s a.source) (slice_
 origins_same : (s : List Source) (xs : List Origin) → like_origins s s xs xs ≡ true
 origins_same s [] = refl
 origins_same s (x ∷ xs) =
-    both_true (like_origin s s x x) (like_origins s s xs xs) (origin_same s x) (origins_same s xs)
+    both_hold (like_origin s s x x) (like_origins s s xs xs) (origin_same s x) (origins_same s xs)
 
 origins_swap : (s t : List Source) (xs ys : List Origin) → like_origins t s ys xs ≡ like_origins s t xs ys
 origins_swap s t [] [] = refl
@@ -135,18 +133,14 @@ origins_swap s t (x ∷ xs) [] = refl
 origins_swap s t (x ∷ xs) (y ∷ ys) = λ i. origin_swap s t x y i && origins_swap s t xs ys i
 
 -- where values come from
-itself : (b : Bool) → beq b b ≡ true
-itself true = refl
-itself false = refl
-
 either_true : (p q : Bool) → q ≡ true → (p || q) ≡ true
 either_true true q h = refl
 either_true false q h = h
 
 source_same : (s : List Source) (r : SideRow) → like_source_of s s r r ≡ true
 source_same s r =
-    both_true (beq r.is_ignored r.is_ignored)
-    (r.is_ignored || like_origins s s r.row.origins.items r.row.origins.items) (itself r.is_ignored)
+    both_hold (beq r.is_ignored r.is_ignored)
+    (r.is_ignored || like_origins s s r.row.origins.items r.row.origins.items) (flag_itself r.is_ignored)
     (either_true r.is_ignored (like_origins s s r.row.origins.items r.row.origins.items)
     (origins_same s r.row.origins.items))
 
@@ -175,11 +169,6 @@ change_same s w r =
 change_swap : (s t : List Source) (w : Bool) (a b : SideRow) → is_change t s w b a ≡ is_change s t w a b
 change_swap s t w a b =
     λ i. not (settings_swap a.row.value b.row.value i) || (w && not (source_swap s t a b i))
-
--- the rows that change, with places from n on
-abbrev changed_from : (SideRow → SideRow → Bool) → ℕ → List SideRow → List SideRow → List RowChange
-changed_from test n from to =
-    filter (λ c. test c.from c.to) (map change_of (enumerate_from n (zip from to)))
 
 -- rows that do not change
 none_from : (test : SideRow → SideRow → Bool) → ((r : SideRow) → test r r ≡ false)

@@ -1,13 +1,13 @@
 -- Rows keep the order of those of each key.
-use Rattle.std.proofs.Common.{◌≡◌, ◌∙◌, ℕ, ◌+◌, ◌<◌, ◌≤◌, ◌||◌, Bool, true, false, cond, zero, suc, List, [], ◌∷◌, ◌++◌, filter, length, take, get_or, refl, sym, ap, subst, append_assoc, length-take, arith, bytes_eq, string_bytes}
+use Rattle.std.proofs.Common.{◌≡◌, ◌∙◌, ℕ, ◌+◌, ◌<◌, ◌||◌, Bool, true, false, cond, zero, suc, List, [], ◌∷◌, ◌++◌, length, take, get_or, refl, sym, ap, subst, length-take, arith, string_bytes}
 use Rattle.std.proofs.lemmas.List.{append-nil, get_or-take}
 use Rattle.std.proofs.lemmas.List.Elements.{filter-append}
 use Rattle.std.proofs.lemmas.List.Folds.{list_any_none}
 use Rattle.std.proofs.lemmas.List.Sums.{fails_before_first}
 use Rattle.std.specs.Cmp.Lexicographic.{bytes_decides}
-use Rattle.std.specs.List.{list_any, position_or_len, remove}
+use Rattle.std.specs.List.{position_or_len, remove}
 use Rattle.rinqebo_report.specs.declared.report.SettingRow.{SettingRow}
-use Rattle.rinqebo_changes.specs.Keyed.{is_of, has_key, rows_of, KeepsOrder}
+use Rattle.rinqebo_changes.specs.Keyed.{is_of, has_key, rows_of, no_more, with_row, without_row, AreSome, KeepsOrder}
 
 -- a row of a key
 pub is_of_key : (name : List ℕ) (row : SettingRow) → is_of name row ≡ true → string_bytes row.key ≡ name
@@ -20,7 +20,7 @@ neither_left : (p q : Bool) → (p || q) ≡ false → p ≡ false
 neither_left true q e = absurd (cc)
 neither_left false q e = refl
 
-neither_right : (p q : Bool) → (p || q) ≡ false → q ≡ false
+pub neither_right : (p q : Bool) → (p || q) ≡ false → q ≡ false
 neither_right true q e = absurd (cc)
 neither_right false q e = e
 
@@ -58,6 +58,23 @@ order_of_first name (r ∷ rows) (suc place) row below is same none other =
     of_its_key name r (is_of_key other r p ∙ sym (is_of_key other row q) ∙ same) in
     let no : true ≡ false = sym here ∙ not_here in absurd (cc))
     (order_of_first name rows place row (omega arith) is same later other)
+
+-- some of all rows, in their order
+pub some_all : (rows : List SettingRow) → AreSome rows rows
+some_all [] = no_more
+some_all (r ∷ rows) = with_row (some_all rows)
+
+pub some_trans : {one two three : List SettingRow} → AreSome one two → AreSome two three → AreSome one three
+some_trans first no_more = first
+some_trans (with_row first) (with_row second) = with_row (some_trans first second)
+some_trans (without_row first) (with_row second) = without_row (some_trans first second)
+some_trans first (without_row second) = without_row (some_trans first second)
+
+pub some_removed : (rows : List SettingRow) (place : ℕ) → AreSome (remove rows place) rows
+some_removed [] zero = no_more
+some_removed [] (suc n) = no_more
+some_removed (r ∷ rows) zero = without_row (some_all rows)
+some_removed (r ∷ rows) (suc n) = with_row (some_removed rows n)
 
 -- lists in the same order
 pub order_refl : (rows : List SettingRow) → KeepsOrder rows rows

@@ -1,5 +1,5 @@
 -- Rows of two sides that are put beside each other by their keys.
-use Rattle.std.proofs.Common.{◌≡◌, ◌∙◌, ℕ, ◌+◌, ◌<◌, ◌≤◌, ◌⊎◌, inl, inr, ◌||◌, Bool, true, false, cond, ltb, List, [], ◌∷◌, ◌++◌, Option, None, Some, MatchOption, length, take, get_or, refl, sym, ap, subst, append_assoc, arith, bytes_eq, string_bytes}
+use Rattle.std.proofs.Common.{◌≡◌, ◌∙◌, ℕ, ◌+◌, ◌<◌, ◌≤◌, inl, inr, ◌||◌, Bool, true, false, cond, ltb, List, [], ◌∷◌, ◌++◌, Option, None, Some, MatchOption, length, take, get_or, refl, sym, subst, append_assoc, arith, bytes_eq, string_bytes}
 use Rattle.std.proofs.lemmas.Bool.{ltb-true, ltb-false}
 use Rattle.std.proofs.lemmas.List.{append-nil}
 use Rattle.std.proofs.lemmas.List.Elements.{All-nil, All-cons, All-push, All-weaker, all_zip_more}
@@ -8,11 +8,11 @@ use Rattle.std.proofs.lemmas.List.Sorted.{IsPermutation-refl, IsPermutation-tran
 use Rattle.std.proofs.lemmas.List.Sums.{fails_before_first, passes_at_first}
 use Rattle.std.proofs.lemmas.Option.{get_or_from_slice_get, slice_get_read}
 use Rattle.std.specs.Cmp.Lexicographic.{bytes_decides}
-use Rattle.std.specs.List.{All, AllZip, list_any, position_or_len, remove}
+use Rattle.std.specs.List.{All, AllZip, position_or_len, remove}
 use Rattle.std.specs.List.Sorted.{IsPermutation}
 use Rattle.rinqebo_report.specs.declared.report.SettingRow.{SettingRow}
-use Rattle.rinqebo_changes.specs.Keyed.{is_of, has_key, KeepsOrder, HaveSameKey, IsAbsent, IsAbsentFor, SaysNothing, IsPlaceOf, IsFound, IsMissing, IsTaken, AreBeside, AreAligned}
-use Rattle.rinqebo_changes.proofs.KeyedOrders.{none_before, order_before, order_behind, order_of_first, order_refl, order_to_front, order_trans}
+use Rattle.rinqebo_changes.specs.Keyed.{is_of, has_key, AreSome, KeepsOrder, HaveSameKey, IsAbsentFor, SaysNothing, IsPlaceOf, IsFound, IsTaken, AreBeside, AreAligned}
+use Rattle.rinqebo_changes.proofs.KeyedOrders.{neither_right, none_before, order_before, order_behind, order_of_first, order_refl, order_to_front, order_trans, some_all, some_removed, some_trans}
 
 -- the first row of a key
 place_found : (name : List ℕ) (rows : List SettingRow) → position_or_len (is_of name) rows < length rows
@@ -57,6 +57,7 @@ found_at name rows old place row new same at is left =
         each = order_of_first name old place row here.below is
             (here.key row (slice_get_read old (length old) place row refl here.below is)) here.first;
       });
+      rest = subst (λ rs. AreSome rs old) (sym left) (some_removed old place);
     }
 
 -- no row is put beside none
@@ -68,17 +69,15 @@ beside_none to = record {
   order = subst (λ rs. KeepsOrder rs to) (sym (append-nil to)) (order_refl to);
   keys = tt;
   apart = All-nil (λ row. has_key to (string_bytes row.key) ≡ false);
+  left = some_all to;
 }
 
 -- rows of a key are among those that one was taken out of
 still_none : (name : List ℕ) (old : List SettingRow) (row : SettingRow) (new : List SettingRow)
     → IsPermutation old (row ∷ new) → has_key old name ≡ false → has_key new name ≡ false
 still_none name old row new kept none =
-    behind (is_of name row) (has_key new name) (sym (list_any-IsPermutation (is_of name) old (row ∷ new) kept) ∙ none)
-  where
-    behind : (p q : Bool) → (p || q) ≡ false → q ≡ false
-    behind true q e = absurd (cc)
-    behind false q e = e
+    neither_right (is_of name row) (has_key new name)
+    (sym (list_any-IsPermutation (is_of name) old (row ∷ new) kept) ∙ none)
 
 -- one more row is put beside one
 pub beside_more : (to from right rest new : List SettingRow) (i : ℕ) (row given : SettingRow) → i < length from
@@ -96,6 +95,7 @@ beside_more to from right rest new i row given lt is are (inl found) = record {
   keys = all_zip_more HaveSameKey from right i row given lt is are.keys (sym found.key);
   apart = All-weaker (λ a. has_key rest (string_bytes a.key) ≡ false) (λ a. has_key new (string_bytes a.key) ≡ false)
       (λ a none. still_none (string_bytes a.key) rest given new found.kept none) are.absent are.apart;
+  left = some_trans found.rest are.left;
 }
 beside_more to from right rest new i row given lt is are (inr missing) =
     let Apart : List SettingRow → SettingRow → Type 0 = λ rs a. has_key rs (string_bytes a.key) ≡ false in
@@ -128,6 +128,7 @@ beside_more to from right rest new i row given lt is are (inr missing) =
       keys = all_zip_more HaveSameKey from right i row given lt is are.keys (sym missing.absent.key);
       apart = subst (λ rs. All (Apart rs) (are.absent ++ given ∷ [])) (sym missing.same)
           (All-push (Apart rest) are.absent given are.apart none);
+      left = subst (λ rs. AreSome rs to) (sym missing.same) are.left;
     }
 
 -- two lists beside each other, and two more
@@ -175,4 +176,9 @@ aligned_all from to right rest absent left all are made lefts rights = record {
       (zip_behind HaveSameKey from absent right rest are.keys (absent_keys rest absent made)));
   apart = All-weaker (λ a. has_key rest (string_bytes a.key) ≡ false) (λ a. has_key absent (string_bytes a.key) ≡ false)
       (λ a none. absent_has (string_bytes a.key) rest absent made ∙ none) are.absent are.apart;
+  beside = right;
+  beside_keys = are.keys;
+  alone = rest;
+  alone_order = are.left;
+  right_parts = rights;
 }

@@ -1,5 +1,5 @@
 -- Each change is put together with itself.
-use Rattle.std.proofs.Common.{◌≡◌, ◌&&◌, ◌==◌, Bool, true, false, map, refl, ap, string_bytes}
+use Rattle.std.proofs.Common.{◌≡◌, ◌&&◌, ◌==◌, Bool, true, false, refl, string_bytes}
 use Rattle.std.specs.Bool.{beq}
 use Rattle.std.specs.Option.{option_eq}
 use Rattle.std.specs.Cmp.Lexicographic.{bytes_decides}
@@ -14,10 +14,11 @@ use Rattle.rinqebo_changes.specs.SameOrigin.{same_origins}
 use Rattle.rinqebo_changes.proofs.SameOrigins.{origins_decide}
 use Rattle.rinqebo_changes.proofs.SameValues.{setting_decides}
 
-both_hold : (p q : Bool) → p ≡ true → q ≡ true → (p && q) ≡ true
+-- two tests that hold
+pub both_hold : (p q : Bool) → p ≡ true → q ≡ true → (p && q) ≡ true
 both_hold p q h k = rw (h, k)
 
-flag_itself : (b : Bool) → beq b b ≡ true
+pub flag_itself : (b : Bool) → beq b b ≡ true
 flag_itself true = refl
 flag_itself false = refl
 

@@ -1,5 +1,5 @@
 -- The tests of origins of one side decide whether they are equal, without how they are kept.
-use Rattle.std.proofs.Common.{◌≡◌, ◌&&◌, ◌==◌, ℕ, Bool, true, false, List, Option, None, Some, option_map, map, refl, ap, string_bytes}
+use Rattle.std.proofs.Common.{◌≡◌, ◌&&◌, ◌==◌, ℕ, List, Option, None, Some, option_map, map, refl, ap, string_bytes}
 use Rattle.std.specs.Bool.{Decides}
 use Rattle.std.specs.Cmp.Lexicographic.{bytes_decides}
 use Rattle.std.specs.Option.{option_eq}
@@ -14,7 +14,7 @@ use Rattle.rinqebo_report.specs.declared.origin.Position.{Position}
 use Rattle.rinqebo_report.specs.declared.origin.Range.{Range}
 use Rattle.rinqebo_report.specs.declared.origin.Written.{Written}
 use Rattle.rinqebo_changes.specs.SameOrigin.{same_lines, same_position, same_range, same_place, same_part, same_written, same_origin, same_origins}
-use Rattle.rinqebo_changes.specs.OriginViews.{built_in, default_table, written, beside, lines_view, position_view, range_view, place_view, written_view, origin_view}
+use Rattle.rinqebo_changes.specs.OriginViews.{beside, lines_view, position_view, range_view, place_view, written_view, origin_view}
 use Rattle.rinqebo_changes.proofs.Deciding.{never, always, mapped_decides, pair_both, both_of_pair}
 
 lines_decides : (a b : FileLines) → Decides (same_lines a b) (lines_view a ≡ lines_view b)

@@ -1,5 +1,5 @@
 -- The tests of values decide whether the values are equal, without how they are kept.
-use Rattle.std.proofs.Common.{◌≡◌, ◌&&◌, Bool, true, false, List, Option, None, Some, option_map, map, refl, ap, String, string_bytes}
+use Rattle.std.proofs.Common.{◌≡◌, Option, None, Some, option_map, refl, ap, String, string_bytes}
 use Rattle.std.specs.Bool.{Decides}
 use Rattle.std.specs.Cmp.{booleans_Decides}
 use Rattle.std.specs.Cmp.Lexicographic.{bytes_decides}

@@ -1,12 +1,11 @@
 -- The document of a diff has no number that is a float, so that its text is known.
-use Rattle.std.proofs.Common.{◌≡◌, ℕ, ℤ, pos, negsuc, Bool, true, false, ◌||◌, List, [], ◌∷◌, ◌++◌, Option, None, Some, map, flat_map, String, string_bytes, refl, arith}
-use Rattle.std.specs.List.{AllByRecursion}
+use Rattle.std.proofs.Common.{◌≡◌, ℤ, pos, negsuc, Bool, true, false, ◌||◌, List, [], ◌∷◌, ◌++◌, Option, None, Some, map, flat_map, String, string_bytes, refl, arith}
 use Rattle.std.specs.declared.alloc.Global.{Global}
 use Rattle.serde_json.specs.Data.{Data, no_members, number}
 use Rattle.serde_json.specs.Find.{of_integer}
 use Rattle.serde_json.specs.View.{items_of}
 use Rattle.serde_json.specs.Written.{has_float, items_have_float}
-use Rattle.rinqebo_report.specs.Documents.{text_data, optional_text_data, list_data, lines_data, range_data, scalar_data, value_data, optional_value_data, part_data, kind_data, origin_data, tool_data, source_data, test_id_data}
+use Rattle.rinqebo_report.specs.Documents.{text_data, optional_text_data, list_data, lines_data, range_data, scalar_data, value_data, optional_value_data, part_data, origin_data, tool_data, source_data, test_id_data}
 use Rattle.rinqebo_report.specs.declared.origin.FileLines.{FileLines}
 use Rattle.rinqebo_report.specs.declared.origin.Origin.{Origin}
 use Rattle.rinqebo_report.specs.declared.origin.Origin.TheVariants as origins

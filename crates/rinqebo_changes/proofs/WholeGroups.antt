@@ -2,13 +2,12 @@
 use Rattle.std.proofs.Common.{◌≡◌, ◌∙◌, ◌&&◌, ◌==◌, ℕ, Bool, true, List, Option, [], ◌∷◌, ◌++◌, map, flat_map, option_map, refl, sym, ap, subst}
 use Rattle.std.specs.Bool.{beq, Decides}
 use Rattle.std.specs.Cmp.{booleans_Decides}
-use Rattle.std.specs.List.{All, AllByRecursion, AllZip, Contains}
+use Rattle.std.specs.List.{All, AllByRecursion, AllZip}
 use Rattle.std.specs.List.Sorted.{IsPermutation}
 use Rattle.std.specs.Option.{option_eq}
 use Rattle.std.proofs.lemmas.Bool.Decides.{Decides-and, Decides-eqb, Decides-like}
 use Rattle.std.proofs.lemmas.List.Elements.{All-contains, All-from_recursion, All-weaker}
 use Rattle.std.proofs.lemmas.List.Sorted.{All-permutation, IsPermutation-refl, IsPermutation-trans, IsPermutation-append, IsPermutation-map}
-use Rattle.rinqebo_report.specs.declared.report.TestId.{TestId}
 use Rattle.rinqebo_changes.specs.declared.change.RowChange.{RowChange}
 use Rattle.rinqebo_changes.specs.declared.change.SideRow.{SideRow}
 use Rattle.rinqebo_changes.specs.declared.change.TestChanges.{TestChanges}
@@ -16,9 +15,9 @@ use Rattle.rinqebo_changes.specs.declared.classes.ClassRule.TheVariants.{Row, Bi
 use Rattle.rinqebo_changes.specs.declared.classes.Class.{Class}
 use Rattle.rinqebo_changes.specs.declared.classes.Item.{Item}
 use Rattle.rinqebo_changes.specs.declared.groups.Group.{Group}
-use Rattle.rinqebo_changes.specs.Classes.{class_items, item_view, items_of, same_item, same_row, AreClasses}
+use Rattle.rinqebo_changes.specs.Classes.{class_items, item_view, same_item, same_row}
 use Rattle.rinqebo_changes.specs.Groups.{AreGroups, IsGroup}
-use Rattle.rinqebo_changes.specs.Laws.{AreWhole, IsUniform}
+use Rattle.rinqebo_changes.specs.Laws.{IsUniform}
 use Rattle.rinqebo_changes.specs.OriginViews.{PlainOrigin, origin_view}
 use Rattle.rinqebo_changes.specs.Same.{same_value}
 use Rattle.rinqebo_changes.specs.SameOrigin.{same_origins}

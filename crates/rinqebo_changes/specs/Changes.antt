@@ -1,11 +1,10 @@
 -- What changes for a test.
-use Rattle.std.specs.Prelude.{◌≡◌, ◌≢◌, ℕ, ◌&&◌, ◌||◌, not, Bool, true, false, List, [], ◌∷◌, ◌++◌, Option, Some, option_map, map, filter, slice_get}
+use Rattle.std.specs.Prelude.{◌≡◌, ◌≢◌, ℕ, ◌&&◌, ◌||◌, not, Bool, true, false, List, [], ◌∷◌, ◌++◌, Some, option_map, map, filter, slice_get}
 use Rattle.std.specs.Bool.{beq}
 use Rattle.std.specs.List.{enumerate_from, zip}
 use Rattle.std.specs.Option.{option_eq}
 use Rattle.rinqebo_report.specs.declared.origin.Source.{Source}
 use Rattle.rinqebo_report.specs.declared.report.SettingRow.{SettingRow}
-use Rattle.rinqebo_report.specs.declared.report.TestId.{TestId}
 use Rattle.rinqebo_report.specs.declared.report.TestRows.{TestRows}
 use Rattle.rinqebo_changes.specs.declared.change.RowChange.{RowChange}
 use Rattle.rinqebo_changes.specs.declared.change.SideRow.{SideRow}

@@ -1,5 +1,5 @@
 -- Changes that are the same for several tests.
-use Rattle.std.specs.Prelude.{◌≡◌, ℕ, ◌==◌, ◌≤◌, ◌&&◌, not, Bool, true, List, [], ◌∷◌, map, filter, flat_map, bytes_eq, string_bytes}
+use Rattle.std.specs.Prelude.{◌==◌, ◌<◌, ◌≤◌, ◌&&◌, not, Bool, List, [], ◌∷◌, map, filter, flat_map, take, bytes_eq, string_bytes}
 use Rattle.std.specs.List.{All, Contains}
 use Rattle.std.specs.Bool.{beq}
 use Rattle.std.specs.Option.{option_eq}
@@ -44,13 +44,15 @@ class_items class = class.items.items
 pub record HasHead (class : Class) : Type 0 where
   pub here : Contains class.items.items class.head
 
--- One of some changes is the first whose setting no other's comes before.
+-- One of some changes is the first of those whose setting comes first: the settings of all before
+-- it come later.
 pub record IsFirstLeast (items : List Item) (head : Item) : Type 0 where
   pub here : Contains items head
   pub least : All (λ item. head.row.now.place ≤ item.row.now.place) items
+  pub first : All (λ item. head.row.now.place < item.row.now.place) (take here.0 items)
 
--- Classes of some items: the first class is of the items that are put together with one whose
--- setting comes first, in their order, and the other classes are those of the other items.
+-- Classes of some items: the first class is of the items that are put together with the first of
+-- those whose setting comes first, in their order, and the other classes are those of the others.
 pub data AreClasses (same : Item → Item → Bool) : List Item → List (List Item) → Type 0 where
   none : AreClasses same [] []
   more : {items : List Item} {classes : List (List Item)} (head : Item) → IsFirstLeast items head

@@ -19,6 +19,14 @@ has_key rows name = list_any (is_of name) rows
 abbrev pub rows_of : List ℕ → List SettingRow → List SettingRow
 rows_of name rows = filter (is_of name) rows
 
+-- Rows are some of all, in the same order.
+pub data AreSome : List SettingRow → List SettingRow → Type 0 where
+  no_more : AreSome [] []
+  with_row : {row : SettingRow} {some all : List SettingRow} → AreSome some all
+      → AreSome (row ∷ some) (row ∷ all)
+  without_row : {row : SettingRow} {some all : List SettingRow} → AreSome some all
+      → AreSome some (row ∷ all)
+
 -- Two lists have the same rows, and those of each key in the same order.
 pub record KeepsOrder (old new : List SettingRow) : Type 0 where
   pub each : (name : List ℕ) → rows_of name old ≡ rows_of name new
@@ -54,6 +62,7 @@ pub record IsFound (name : List ℕ) (old : List SettingRow) (row : SettingRow)
   pub key : string_bytes row.key ≡ name
   pub kept : IsPermutation old (row ∷ new)
   pub order : KeepsOrder old (row ∷ new)
+  pub rest : AreSome new old
 
 -- No row is of a key, and a row says so.
 pub record IsMissing (name : List ℕ) (old : List SettingRow) (row : SettingRow)
@@ -67,7 +76,8 @@ abbrev pub IsTaken : List ℕ → List SettingRow → SettingRow → List Settin
 IsTaken name old row new = IsFound name old row new ⊎ IsMissing name old row new
 
 -- Rows of the right side are put beside those of the left side, and others are left: they have the
--- same keys, and where none of the right side was left for a key, a row says so.
+-- same keys, and where none of the right side was left for a key, a row has no value. Those that
+-- are left keep their order.
 pub record AreBeside (to from right rest : List SettingRow) : Type 0 where
   pub absent : List SettingRow
   pub nothing : All SaysNothing absent
@@ -75,12 +85,13 @@ pub record AreBeside (to from right rest : List SettingRow) : Type 0 where
   pub order : KeepsOrder (to ++ absent) (right ++ rest)
   pub keys : AllZip HaveSameKey from right
   pub apart : All (λ row. has_key rest (string_bytes row.key) ≡ false) absent
+  pub left : AreSome rest to
 
 -- Rows of two sides are put beside each other: the left ones are those of the left side and then
 -- rows without a value, the right ones are those of the right side, in another order, and rows
--- without a value, and two beside each other have the same key. Rows of one key keep their order.
--- No key has a row without a value on both sides: each row has one of the other side beside it,
--- unless those are used up.
+-- without a value, and two beside each other have the same key. Rows of one key keep their order,
+-- and so do those that the right side has alone, which are the last ones. No key has a row without
+-- a value on both sides: each row has one of the other side beside it, unless those are used up.
 pub record AreAligned (from to left right : List SettingRow) : Type 0 where
   pub left_absent : List SettingRow
   pub left_nothing : All SaysNothing left_absent
@@ -91,6 +102,11 @@ pub record AreAligned (from to left right : List SettingRow) : Type 0 where
   pub right_order : KeepsOrder (to ++ right_absent) right
   pub keys : AllZip HaveSameKey left right
   pub apart : All (λ row. has_key left_absent (string_bytes row.key) ≡ false) right_absent
+  pub beside : List SettingRow
+  pub beside_keys : AllZip HaveSameKey from beside
+  pub alone : List SettingRow
+  pub alone_order : AreSome alone to
+  pub right_parts : right ≡ beside ++ alone
 
 -- Changes are those between two lists of rows: rows of the same key are put beside each other, and
 -- those change whose values differ.

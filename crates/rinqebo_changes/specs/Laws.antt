@@ -1,5 +1,5 @@
 -- Laws of what changes.
-use Rattle.std.specs.Prelude.{◌≡◌, ℕ, ◌<◌, Bool, true, false, List, [], ◌∷◌, Some, map, flat_map, slice_get}
+use Rattle.std.specs.Prelude.{◌≡◌, ℕ, ◌<◌, Bool, true, List, [], ◌∷◌, Some, map, flat_map, slice_get}
 use Rattle.std.specs.List.{AllByRecursion}
 use Rattle.std.specs.List.Sorted.{IsPermutation}
 use Rattle.rinqebo_report.specs.declared.origin.Source.{Source}
@@ -8,7 +8,7 @@ use Rattle.rinqebo_changes.specs.declared.change.SideRow.{SideRow}
 use Rattle.rinqebo_changes.specs.declared.classes.ClassRule.{ClassRule}
 use Rattle.rinqebo_changes.specs.declared.classes.Item.{Item}
 use Rattle.rinqebo_changes.specs.Changes.{changed_rows, is_change}
-use Rattle.rinqebo_changes.specs.Classes.{AreClasses, same_item}
+use Rattle.rinqebo_changes.specs.Classes.{same_item}
 
 -- A change is one of some changes.
 pub record IsOneOf (changes : List RowChange) (change : RowChange) : Type 0 where

@@ -13,7 +13,6 @@ use Rattle.rinqebo_report.specs.Pieces.{Run, styled, repeated, numbered, ending,
 use Rattle.rinqebo_report.specs.TomlText.{value_text}
 use Rattle.rinqebo_changes.specs.declared.change.RowChange.{RowChange}
 use Rattle.rinqebo_changes.specs.declared.change.SideRow.{SideRow}
-use Rattle.rinqebo_changes.specs.declared.change.TestChanges.{TestChanges}
 use Rattle.rinqebo_changes.specs.declared.classes.Class.{Class}
 use Rattle.rinqebo_changes.specs.declared.classes.Item.{Item}
 use Rattle.rinqebo_changes.specs.declared.diff.BinaryTests.{BinaryTests}

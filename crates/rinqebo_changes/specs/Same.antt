@@ -1,5 +1,5 @@
 -- Whether two values are the same.
-use Rattle.std.specs.Prelude.{◌==◌, ◌&&◌, Bool, true, false, List, bytes_eq, string_bytes}
+use Rattle.std.specs.Prelude.{◌==◌, ◌&&◌, Bool, false, List, bytes_eq, string_bytes}
 use Rattle.std.specs.Cmp.Lexicographic.{pointwise}
 use Rattle.std.specs.Ordering.{int_eq}
 use Rattle.std.specs.String.{string_eq}

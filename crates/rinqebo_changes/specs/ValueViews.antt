@@ -1,5 +1,5 @@
 -- What values and origins are, without how they are kept.
-use Rattle.std.specs.Prelude.{ℕ, ℤ, Bool, List, Option, option_map, map, string_bytes}
+use Rattle.std.specs.Prelude.{ℕ, ℤ, Bool, List, map, string_bytes}
 use Rattle.rinqebo_report.specs.declared.value.TableMember.{TableMember}
 use Rattle.rinqebo_report.specs.declared.value.Scalar.{Scalar}
 use Rattle.rinqebo_report.specs.declared.value.Scalar.TheVariants as scalars

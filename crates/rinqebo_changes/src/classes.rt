@@ -77,7 +77,7 @@ pub fn items_of<'c>(alloc: Global, tests: &'c [TestChanges]) -> Result<Vec<Item<
     Ok(items)
 }
 
-/// The first of some changes whose setting no other's comes before.
+/// The first of those changes whose setting comes first.
 fn first_of<'c>(items: &[Item<'c>]) -> Option<Item<'c>>
     ensures { MatchOption result (items.now ≡ []) (IsFirstLeast items.now) }
 {

@@ -11,7 +11,9 @@ use std::alloc::{AllocError, Global};
 /// Rows of the left side beside rows of the right side, of the same keys.
 #[derive(Drop)]
 struct Aligned {
+    /// The rows of the left side, and then rows without a value for those that it lacks.
     left: Vec<SettingRow>,
+    /// The row beside each of them.
     right: Vec<SettingRow>,
 }
 

@@ -12,7 +12,7 @@ use Rattle.rinqebo_load.specs.declared.session.Session.{Session}
 use Rattle.rinqebo_run.specs.LookedUp.{IsFailureOn}
 use Rattle.rinqebo_run.specs.Statuses.{failure_status}
 use Rattle.rinqebo_diff.specs.Differences.{Differs, diff_status, HasResult}
-use Rattle.rinqebo_diff.specs.Failing.{SideFails, FailsAt, DiffFails, IsRefusedSide, HasUsageFailure, LacksItsProfile, HasCause}
+use Rattle.rinqebo_diff.specs.Failing.{SideFails, FailsAt, Loads, DiffFails, IsRefusedSide, HasUsageFailure, LacksItsProfile, HasCause}
 use Rattle.rinqebo_diff.specs.Statuses.{diff_failure_status, HasFailureStatus, ReportsDiffFailure, ReportsRefusal}
 use Rattle.rinqebo_diff.specs.Written.{IsRendered, ReportsDiff}
 use Rattle.rinqebo_diff.specs.declared.loaded.DiffFailure.{DiffFailure}
@@ -53,12 +53,12 @@ as_left request from to (failures.Side names.To failure) fails =
     let no : names.To ≡ names.From = fails.0 in absurd (cc)
 as_left request from to failures.Memory fails = tt
 
-as_right : (request : DiffRequest) (from to : Gathered) (failure : DiffFailure)
+as_right : (request : DiffRequest) (from to : Gathered) (failure : DiffFailure) → Loads request.from from
     → FailsAt names.To request.to to failure → DiffFails request from to failure
-as_right request from to (failures.Side names.From failure) fails =
+as_right request from to (failures.Side names.From failure) loads fails =
     let no : names.From ≡ names.To = fails.0 in absurd (cc)
-as_right request from to (failures.Side names.To failure) fails = fails.1
-as_right request from to failures.Memory fails = tt
+as_right request from to (failures.Side names.To failure) loads fails = (loads, fails.1)
+as_right request from to failures.Memory loads fails = tt
 
 pub left_fails : {A : Type 0} (request : DiffRequest) (from to : Gathered) (r : Result A DiffFailure)
     (failure : DiffFailure) → IsErrAnd r (λ other. other ≡ failure) → FailsAt names.From request.from from failure
@@ -67,10 +67,10 @@ left_fails request from to r failure same fails =
     handed_on (DiffFails request from to) r failure same (as_left request from to failure fails)
 
 pub right_fails : {A : Type 0} (request : DiffRequest) (from to : Gathered) (r : Result A DiffFailure)
-    (failure : DiffFailure) → IsErrAnd r (λ other. other ≡ failure) → FailsAt names.To request.to to failure
-    → IfErr r (DiffFails request from to)
-right_fails request from to r failure same fails =
-    handed_on (DiffFails request from to) r failure same (as_right request from to failure fails)
+    (failure : DiffFailure) → IsErrAnd r (λ other. other ≡ failure) → Loads request.from from
+    → FailsAt names.To request.to to failure → IfErr r (DiffFails request from to)
+right_fails request from to r failure same loads fails =
+    handed_on (DiffFails request from to) r failure same (as_right request from to failure loads fails)
 
 -- a diff has no result for want of memory
 pub diff_wants : {A : Type 0} (request : DiffRequest) (from to : Gathered) (r : Result A DiffFailure)
@@ -111,13 +111,13 @@ lacking_for side gathered causes.Memory fails four = absurd (omega arith)
 refused_in : (request : DiffRequest) (from to : Gathered) (failure : DiffFailure) → DiffFails request from to failure
     → diff_failure_status failure ≡ 3 → IsRefusedSide request.from from ⊎ IsRefusedSide request.to to
 refused_in request from to (failures.Side names.From failure) fails three = inl (refused_for request.from from failure fails three)
-refused_in request from to (failures.Side names.To failure) fails three = inr (refused_for request.to to failure fails three)
+refused_in request from to (failures.Side names.To failure) fails three = inr (refused_for request.to to failure fails.1 three)
 refused_in request from to failures.Memory fails three = absurd (omega arith)
 
 lacking_in : (request : DiffRequest) (from to : Gathered) (failure : DiffFailure) → DiffFails request from to failure
     → diff_failure_status failure ≡ 4 → LacksItsProfile request.from from ⊎ LacksItsProfile request.to to
 lacking_in request from to (failures.Side names.From failure) fails four = inl (lacking_for request.from from failure fails four)
-lacking_in request from to (failures.Side names.To failure) fails four = inr (lacking_for request.to to failure fails four)
+lacking_in request from to (failures.Side names.To failure) fails four = inr (lacking_for request.to to failure fails.1 four)
 lacking_in request from to failures.Memory fails four = absurd (omega arith)
 
 -- a failure of status 2 is that a side cannot be used
@@ -126,7 +126,7 @@ unusable_in : (request : DiffRequest) (from to : Gathered) (failure : DiffFailur
 unusable_in request from to (failures.Side names.From failure) fails two =
     inl (record { failure = failure; is_status = two; fails = fails })
 unusable_in request from to (failures.Side names.To failure) fails two =
-    inr (record { failure = failure; is_status = two; fails = fails })
+    inr (record { failure = failure; is_status = two; fails = fails.1 })
 unusable_in request from to failures.Memory fails two = absurd (omega arith)
 
 -- the status of a diff with no result has its cause

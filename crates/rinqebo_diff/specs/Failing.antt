@@ -9,8 +9,10 @@ use Rattle.rinqebo_load.specs.declared.failure.Failure.{Failure}
 use Rattle.rinqebo_load.specs.declared.session.Session.{Session}
 use Rattle.rinqebo_run.specs.LookedUp.{IsFailureOn}
 use Rattle.rinqebo_run.specs.Statuses.{failure_status}
+use Rattle.rinqebo_diff.specs.Loaded.{IsLoadedSide}
 use Rattle.rinqebo_diff.specs.declared.loaded.DiffFailure.{DiffFailure}
 use Rattle.rinqebo_diff.specs.declared.loaded.DiffFailure.TheVariants as failures
+use Rattle.rinqebo_diff.specs.declared.loaded.Loaded.{Loaded}
 use Rattle.rinqebo_diff.specs.declared.loaded.SideName.{SideName}
 use Rattle.rinqebo_diff.specs.declared.loaded.SideName.TheVariants as names
 use Rattle.rinqebo_diff.specs.declared.request.DiffRequest.{DiffRequest}
@@ -34,10 +36,16 @@ FailsAt name side gathered (failures.Side other failure) =
     (other ≡ name) × SideFails side gathered failure
 FailsAt name side gathered failures.Memory = Unit {0}
 
--- A diff has no result: one of its sides has none, or memory ran out.
+-- a side loads: it has a result
+abbrev pub Loads : DiffSide → Gathered → Type 0
+Loads side gathered = (loaded : Loaded) × IsLoadedSide side gathered loaded
+
+-- A diff has no result: its left side has none, or its right side has none and the left one loads,
+-- or memory ran out.
 abbrev pub DiffFails : DiffRequest → Gathered → Gathered → DiffFailure → Type 0
 DiffFails request from to (failures.Side names.From failure) = SideFails request.from from failure
-DiffFails request from to (failures.Side names.To failure) = SideFails request.to to failure
+DiffFails request from to (failures.Side names.To failure) =
+    Loads request.from from × SideFails request.to to failure
 DiffFails request from to failures.Memory = Unit {0}
 
 -- The program cannot use what a side names: it has no result, for a failure with exit status 2.

@@ -17,8 +17,8 @@ swapped_pair pair = record { from = pair.to; to = pair.from }
 pub record IsSwapped (changed other : TestChanges) : Type 0 where
   pub rows : other.rows.items ≡ map swapped changed.rows.items
 
--- What changes for tests from the right side to the left one is what changes the other way, with the
--- sides swapped.
+-- What changes for tests from the right side to the left one is what changes the other way, with
+-- the sides swapped.
 pub record HaveSwapped (left right : ListTest → TestRows → Type 0)
     (changes : SideRow → SideRow → Bool) (with_runs : Bool) (pairs : List TestPair)
     (changed : List TestChanges) : Type 0 where

@@ -1,9 +1,11 @@
 //! The configuration whose profile is requested.
-ghost use Rattle.std.specs.Prelude.{IfErr, IfOk};
+ghost use Rattle.std.specs.Prelude.{◌≡◌, ◌++◌, IfErr, IfOk};
+ghost use Rattle.nextest_sources.specs.WarningsView.{warnings_view};
 ghost use Rattle.nextest_tables.specs.FileTexts.{names_in, IsIn};
 ghost use Rattle.rinqebo_load.specs.Accepted.{AreAccepted};
 ghost use Rattle.rinqebo_findings.specs.Failures.{IsFailureAbout};
 ghost use Rattle.rinqebo_load.specs.Sessions.{files_view, readings, IsLoadedFrom};
+ghost use Rattle.rinqebo_load.specs.Warned.{warnings_met};
 
 use crate::failures::{failure_of_load, failure_of_profile};
 use nextest_config::DefaultConfigWarnings;
@@ -22,6 +24,8 @@ pub fn config_with(
     ensures means { IfOk result (IsLoadedFrom (readings session.now.engines.filters)
         (files_view session.now.gathered.now)) }
     ensures known { IfOk result (λ config. IsIn (names_in config.config.profiles) profile.now) }
+    ensures warnings { IfOk result (λ _. warnings_view warnings.new
+        ≡ warnings_view warnings.old ++ warnings_met session.now) }
     ensures err { IfErr result (IsFailureAbout session.now profile.now) }
 {
     let config = match session.load(alloc, warnings) {

@@ -2,3 +2,4 @@ pub mod Failing
 pub mod Causes
 pub mod Elements
 pub mod Ids
+pub mod Filters

@@ -7,6 +7,7 @@ pub mod Sessions
 pub mod SessionOf
 pub mod Accepted
 pub mod Meant
+pub mod Warned
 pub mod Beginning
 pub mod FoundTests
 pub mod FindTests

@@ -12,9 +12,13 @@ use Rattle.rinqebo_load.specs.declared.fault.TripleSource.{TripleSource}
 use Rattle.rinqebo_load.specs.declared.fault.TripleSource.TheVariants as sources
 use Rattle.rinqebo_load.specs.declared.triples.Triples.{Triples}
 
--- a list without tests and triples
+-- a list without tests, triples and target directory
 abbrev pub no_list : TestList
-no_list = record { triples = record { host = None; target = None }; binaries = [] }
+no_list = record {
+  triples = record { host = None; target = None };
+  target_directory = None;
+  binaries = [];
+}
 
 -- tests are those that the text of a list says: without a text there are none
 abbrev pub IsListFor : Option (String Global) → ListedTests → Type 0

@@ -14,7 +14,7 @@ use nextest_config::BuildPlatforms;
 use platform_table::Platform;
 use rinqebo_files::Gathered;
 use rinqebo_forms::{open_filters_of, platform_of};
-use rinqebo_request::{FileOption, NamedFile, Request};
+use rinqebo_request::{FileOption, NamedFile, Question, Request};
 use std::alloc::{AllocError, Global};
 
 /// The language of filters, and the platforms of a build.
@@ -169,6 +169,17 @@ fn platforms_of(
     })
 }
 
+/// The language of filters for a request: only for a list so many names are matched that tables of
+/// searches pay.
+fn filters_for(question: &Question<'_>, filters: NextestFilters) -> NextestFilters
+    ensures { result.packages ≡ filters.packages }
+{
+    match question {
+        Question::List { .. } => filters,
+        _ => filters.for_few_names(),
+    }
+}
+
 impl Engines {
     /// The engines of a request for triples, over the files that were read.
     pub fn new(
@@ -186,8 +197,9 @@ impl Engines {
         ensures err { IfErr result
             (OrMemory (IsEngineFault request.now triples.now gathered.now)) }
     {
+        let filters = filters_at(alloc, request.engines.metadata, &gathered.metadata)?;
         Ok(Engines {
-            filters: filters_at(alloc, request.engines.metadata, &gathered.metadata)?,
+            filters: filters_for(&request.question, filters),
             platforms: platforms_of(alloc, request, triples, gathered)?,
         })
     }

@@ -1,11 +1,13 @@
 //! What all commands begin with: a list of tests, engines, features, and the layers of the files.
-ghost use Rattle.std.specs.Prelude.{◌≡◌, IfOk, IfErr, option_map};
+ghost use Rattle.std.specs.Prelude.{◌≡◌, ◌++◌, IfOk, IfErr, option_map};
 ghost use Rattle.nextest_rules.specs.KnownView.{features_view};
 ghost use Rattle.nextest_sources.specs.Inputs.{load_inputs_view};
 ghost use Rattle.nextest_sources.specs.Sources.{file_view};
+ghost use Rattle.nextest_sources.specs.WarningsView.{warnings_view};
 ghost use Rattle.rinqebo_load.specs.SessionOf.{IsSessionOf};
 ghost use Rattle.rinqebo_load.specs.Sessions.{files_view, readings, IfLoaded, IsLoadedFrom};
 ghost use Rattle.rinqebo_load.specs.Beginning.{IsUnusable};
+ghost use Rattle.rinqebo_load.specs.Warned.{warnings_met};
 
 use crate::engines::Engines;
 use crate::failure::Failure;
@@ -114,7 +116,7 @@ impl<'g> Session<'g> {
         }
     }
 
-    /// Loads the configuration.
+    /// Loads the configuration. Warnings are reported as they are met.
     pub fn load(
         &self,
         alloc: Global,
@@ -124,6 +126,8 @@ impl<'g> Session<'g> {
             (features_view self.now.features) (files_view self.now.gathered.now) result }
         ensures means { IfOk result (IsLoadedFrom (readings self.now.engines.filters)
             (files_view self.now.gathered.now)) }
+        ensures warnings { IfOk result (λ _. warnings_view warnings.new
+            ≡ warnings_view warnings.old ++ warnings_met self.now) }
     {
         let inputs = self.inputs();
         let inputs = ConfigInputs {

@@ -77,6 +77,7 @@ pub fn listed_tests(
         return Ok(ListedTests {
             host: None,
             target: None,
+            target_directory: None,
             binaries: Vec::new(alloc),
         });
     };

@@ -1,4 +1,5 @@
 pub mod WholeTexts
+pub mod Printable
 pub mod Joined
 pub mod Prefixes
 pub mod Pages

@@ -1,7 +1,8 @@
 -- Pages: texts in styles, as they are shown with colours and without.
-use Rattle.std.specs.Prelude.{ℕ, List, [], ◌∷◌, ◌++◌, codes, flat_map, replicate, encode_utf8, decimal, if◌then◌else◌}
+use Rattle.std.specs.Prelude.{ℕ, Bool, List, [], ◌∷◌, ◌++◌, codes, flat_map, replicate, encode_utf8, decimal, if◌then◌else◌}
 use Rattle.std.specs.Char.{is_control}
 use Rattle.std.specs.Fmt.{digits}
+use Rattle.std.specs.Int.{is_in_range}
 use Rattle.std.specs.Str.{chars}
 use Rattle.std.specs.Prelude.{false}
 use Rattle.rinqebo_report.specs.declared.piece.Colour.{Colour}
@@ -23,6 +24,10 @@ escape_of c = 92 ∷ codes "u{" ++ (digits 16 false c ++ codes "}")
 -- a character as it is shown: a control character is spelled as its escape
 abbrev pub shown_char : ℕ → List ℕ
 shown_char c = if is_control c then escape_of c else encode_utf8 c
+
+-- a byte is a printable character of ASCII
+abbrev pub is_printable_byte : ℕ → Bool
+is_printable_byte = is_in_range 32 126
 
 -- a text as it is shown
 abbrev pub shown_text : List ℕ → List ℕ

@@ -1,7 +1,8 @@
 //! Pieces of a page, and how they are painted.
-ghost use Rattle.std.specs.Prelude.{◌≡◌, [], ◌∷◌, ◌++◌, OnOk, map, flat_map, replicate, string_bytes};
+ghost use Rattle.std.specs.Prelude.{◌≡◌, [], ◌∷◌, ◌++◌, IfSome, OnOk, map, flat_map, replicate, string_bytes};
+ghost use Rattle.std.specs.List.{list_all};
 ghost use Rattle.std.specs.Str.{chars};
-ghost use Rattle.rinqebo_report.specs.Pieces.{shown_char, shown_text, escape_of, style_code, painted_text, painted, page_text, ending};
+ghost use Rattle.rinqebo_report.specs.Pieces.{is_printable_byte, shown_char, shown_text, escape_of, style_code, painted_text, painted, page_text, ending};
 ghost use Rattle.rinqebo_report.specs.PieceView.{piece_view};
 
 use std::alloc::AllocError;
@@ -77,14 +78,36 @@ pub(crate) fn add_char(out: &mut String, c: char) -> Result<(), AllocError>
     }
 }
 
-/// Writes a text, in which control characters are spelled as escapes.
-fn add_shown(out: &mut String, text: &str) -> Result<(), AllocError>
+/// Whether each byte of a text is a printable character of ASCII.
+fn is_printable(text: &str) -> bool
+    ensures { result ≡ list_all is_printable_byte text.now }
+{
+    text.as_bytes()
+        .iter()
+        .all(|byte| matches!(*byte, b' '..=b'~'))
+}
+
+/// Writes a text character by character. Control characters are spelled as escapes.
+fn add_spelled(out: &mut String, text: &str) -> Result<(), AllocError>
     ensures { OnOk result (string_bytes out.new ≡ string_bytes out.old ++ shown_text text.now) }
 {
     for c in text.chars() {
         add_char(out, c)?;
     }
     Ok(())
+}
+
+/// Writes a text, in which control characters are spelled as escapes. Most texts have none, and are
+/// written as they are.
+#[tactic(auto, using(crate::proofs::Printable::shown_as_is))]
+fn add_shown(out: &mut String, text: &str) -> Result<(), AllocError>
+    ensures { OnOk result (string_bytes out.new ≡ string_bytes out.old ++ shown_text text.now) }
+{
+    if is_printable(text) {
+        out.push_str(text)
+    } else {
+        add_spelled(out, text)
+    }
 }
 
 /// Writes a text in its style.
@@ -102,8 +125,8 @@ fn add_text(out: &mut String, colour: Colour, style: Style, text: &str) -> Resul
     out.push_str("\u{1b}[0m")
 }
 
-/// Writes a character so many times.
-fn add_repeated(out: &mut String, c: char, count: usize) -> Result<(), AllocError>
+/// Writes a character so many times, one by one.
+fn add_each(out: &mut String, c: char, count: usize) -> Result<(), AllocError>
     ensures { OnOk result (string_bytes out.new
         ≡ string_bytes out.old ++ flat_map shown_char (replicate count c)) }
 {
@@ -111,6 +134,30 @@ fn add_repeated(out: &mut String, c: char, count: usize) -> Result<(), AllocErro
         add_char(out, c)?;
     }
     Ok(())
+}
+
+/// Some blanks: more than most rows have between their parts.
+const BLANKS: &str = "                                                                ";
+
+/// So many blanks, if there are as many.
+#[tactic(auto, using(crate::proofs::Printable::blanks_are))]
+fn blanks(count: usize) -> Option<&'static str>
+    ensures { IfSome result (λ text. text.now ≡ flat_map shown_char (replicate count 32)) }
+{
+    BLANKS.get(..count)
+}
+
+/// Writes a character so many times. Blanks are written at once.
+fn add_repeated(out: &mut String, c: char, count: usize) -> Result<(), AllocError>
+    ensures { OnOk result (string_bytes out.new
+        ≡ string_bytes out.old ++ flat_map shown_char (replicate count c)) }
+{
+    if c == ' '
+        && let Some(text) = blanks(count)
+    {
+        return out.push_str(text);
+    }
+    add_each(out, c, count)
 }
 
 /// Writes a piece.

@@ -84,6 +84,7 @@ Exit status:
 const SCHEMA_NOTES: &str = "\
 Examples:
   rinqebo schema > nextest.schema.json
+  rinqebo schema --document > rinqebo.schema.json
 
 Exit status:
   0  success
@@ -382,11 +383,16 @@ fn show_command<'a>(alloc: Global) -> Result<Command<'a>, AllocError> {
     with_output(alloc, command, ANSWER_FORMATS, ANSWER_FORMATS_HELP)
 }
 
-/// The command that prints the schema of a file.
-fn schema_command<'a>(alloc: Global) -> Command<'a> {
+/// The command that prints a schema.
+fn schema_command<'a>(alloc: Global) -> Result<Command<'a>, AllocError> {
     Command::new(alloc, "schema")
         .about("Print the JSON schema of a configuration file, for editors")
         .after_help(SCHEMA_NOTES)
+        .arg(flag(
+            alloc,
+            "document",
+            "Print that of the output of --format json",
+        ))
 }
 
 /// The command that checks files.
@@ -435,5 +441,5 @@ pub fn program<'a>(alloc: Global) -> Result<Command<'a>, AllocError> {
         .subcommand(check_command(alloc)?)?
         .subcommand(list_command(alloc)?)?
         .subcommand(show_command(alloc)?)?
-        .subcommand(schema_command(alloc))
+        .subcommand(schema_command(alloc)?)
 }

@@ -233,6 +233,8 @@ impl<'a> Request<'a> {
 pub enum Command<'a> {
     /// The JSON schema of a file. The program reads no file for it.
     Schema,
+    /// The JSON schema of the program's documents. The program reads no file for it.
+    DocumentSchema,
     /// The list of the codes of findings. The program reads no file for it.
     Codes,
     /// The page of a code. The program reads no file for it.

@@ -422,6 +422,15 @@ fn check_request<'a>(
     })
 }
 
+/// The schema that a command line names.
+fn schema_command<'a>(matches: &ArgMatches<'a>) -> Command<'a> {
+    if matches.get_flag("document") {
+        Command::DocumentSchema
+    } else {
+        Command::Schema
+    }
+}
+
 /// The command of a command line that clap accepts.
 pub fn command_of<'a>(
     alloc: Global,
@@ -432,7 +441,7 @@ pub fn command_of<'a>(
         Some(("explain", matches)) => explain_request(alloc, matches, environment)?,
         Some(("list", matches)) => list_request(alloc, matches, environment)?,
         Some(("show-config", matches)) => show_request(alloc, matches, environment)?,
-        Some(("schema", _)) => return Ok(Command::Schema),
+        Some(("schema", matches)) => return Ok(schema_command(matches)),
         Some((_, matches)) => return check_command(alloc, matches, environment),
         None => return Err(usage(alloc, "no command", None)?),
     };

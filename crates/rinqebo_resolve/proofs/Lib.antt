@@ -1,3 +1,4 @@
 mod Taking
 mod Reporting
+pub mod Silent
 mod Reading

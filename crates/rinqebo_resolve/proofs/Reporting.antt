@@ -1,5 +1,5 @@
 -- From what the program answers to how a run ends.
-use Rattle.std.proofs.Common.{◌≡◌, ◌∙◌, ◌⊎◌, ◌<◌, ◌≤◌, ◌++◌, inl, inr, ℕ, List, [], Result, Ok, Err, IfOk, IfErr, ap, arith, drop, length, refl, string_bytes, subst, sym, take}
+use Rattle.std.proofs.Common.{◌≡◌, ◌∙◌, ◌⊎◌, ◌<◌, ◌≤◌, inl, inr, ℕ, List, Result, Ok, Err, IfOk, IfErr, ap, arith, drop, length, refl, string_bytes, subst, sym, take}
 use Rattle.std.proofs.Math.Seq.{take-append_seam}
 use Rattle.std.proofs.lemmas.Bool.{cases_lt}
 use Rattle.rinqebo_files.specs.declared.files.Gathered.{Gathered}
@@ -18,7 +18,7 @@ use Rattle.rinqebo_run.proofs.Refused.{failure_reported}
 use Rattle.rinqebo_forms.specs.Runs.{RunText}
 use Rattle.rinqebo_resolve.specs.Asking.{RequestedText, AreFilesOf, AsksForAll, IsRequestFor, requested_of}
 use Rattle.rinqebo_session.specs.declared.status.TheConstants.{DONE}
-use Rattle.rinqebo_resolve.specs.Endings.{IsAnswerTo, IsAnswerOf, IsEndingFor, IsEndingIn, IsEndingOf, IsResolved, IsSilent, ReportsFailure, ReportsOutcome, ending_status, ending_text}
+use Rattle.rinqebo_resolve.specs.Endings.{IsAnswerTo, IsAnswerOf, IsEndingFor, IsEndingIn, IsEndingOf, IsResolved, ReportsFailure, ReportsOutcome, ending_status, ending_text}
 use Rattle.rinqebo_resolve.specs.declared.ending.Ending.{Ending}
 use Rattle.rinqebo_resolve.specs.declared.ending.Ending.TheVariants as ends
 
@@ -180,38 +180,3 @@ pub reported_answer : (request old new : List ℕ) (needed status : ℕ) → IsR
     → status ≡ DONE → IsAnswerTo request (take needed new)
 reported_answer request old new needed status r =
     answer_in request old new needed status r (cases_lt (length old) (length (ending_text r.ending)))
-
--- an ending with a status beside which nothing is told has no text
-silent_text : (ending : Ending) → IsSilent (ending_status ending) → ending_text ending ≡ []
-silent_text (ends.Answered text) (inl is) = absurd (omega arith)
-silent_text (ends.Answered text) (inr (inl is)) = absurd (omega arith)
-silent_text (ends.Answered text) (inr (inr is)) = absurd (omega arith)
-silent_text (ends.Refused text) (inl is) = absurd (omega arith)
-silent_text (ends.Refused text) (inr (inl is)) = absurd (omega arith)
-silent_text (ends.Refused text) (inr (inr is)) = absurd (omega arith)
-silent_text (ends.NoProfile text) (inl is) = absurd (omega arith)
-silent_text (ends.NoProfile text) (inr (inl is)) = absurd (omega arith)
-silent_text (ends.NoProfile text) (inr (inr is)) = absurd (omega arith)
-silent_text (ends.NoEngines reason) (inl is) = absurd (omega arith)
-silent_text (ends.NoEngines reason) (inr (inl is)) = absurd (omega arith)
-silent_text (ends.NoEngines reason) (inr (inr is)) = absurd (omega arith)
-silent_text (ends.NotUnderstood reason) (inl is) = absurd (omega arith)
-silent_text (ends.NotUnderstood reason) (inr (inl is)) = absurd (omega arith)
-silent_text (ends.NotUnderstood reason) (inr (inr is)) = absurd (omega arith)
-silent_text ends.NotText is = refl
-silent_text ends.Memory is = refl
-
-kept_in : (request old new : List ℕ) (needed status : ℕ) (r : IsResolved request old new needed status)
-    → (length old < length (ending_text r.ending)) ⊎ (length (ending_text r.ending) ≤ length old) → IsSilent status
-    → new ≡ old
-kept_in request old new needed status r (inl less) silent = (r.is_told.small less).1
-kept_in request old new needed status r (inr room) silent =
-    let told = r.is_told.written room in
-    let none = silent_text r.ending (subst IsSilent told.0 silent) in
-    told.1 ∙ ap (λ text. text ++ drop (length text) old) none
-
--- where nothing is told, the buffer is as it was
-pub reported_kept : (request old new : List ℕ) (needed status : ℕ) → IsResolved request old new needed status
-    → IsSilent status → new ≡ old
-reported_kept request old new needed status r =
-    kept_in request old new needed status r (cases_lt (length old) (length (ending_text r.ending)))

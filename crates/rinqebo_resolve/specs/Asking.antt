@@ -16,7 +16,7 @@ use Rattle.rinqebo_load.specs.Sessions.{files_view}
 use Rattle.rinqebo_session.specs.Loading.{files_of, is_on}
 use Rattle.rinqebo_forms.specs.Runs.{RunText}
 use Rattle.rinqebo_forms.specs.declared.request.Switches.{Switches}
-use Rattle.rinqebo_resolve.specs.declared.asking.Asked.{Asked}
+use Rattle.rinqebo_resolve.specs.declared.asking.RequestedRun.{RequestedRun}
 
 -- What a run requests of files: a profile and a mode, the triples of the machines, and features.
 pub record RequestedText : Type 0 where
@@ -27,7 +27,7 @@ pub record RequestedText : Type 0 where
   pub features : Switches
 
 -- what contracts see of a request
-abbrev pub requested_view : Asked → RequestedText
+abbrev pub requested_view : RequestedRun → RequestedText
 requested_view asked = record {
   profile = string_bytes asked.profile;
   mode = asked.mode;

@@ -21,7 +21,7 @@ pub const LIST: &str = "list";
 
 /// The request of a run, without its files.
 #[derive(Drop)]
-pub struct Asked {
+pub struct RequestedRun {
     /// The name of the profile.
     pub profile: String,
     /// What the tests are run for.
@@ -55,7 +55,7 @@ fn text_of(text: &Option<String>) -> Option<&str>
     }
 }
 
-impl Asked {
+impl RequestedRun {
     /// The question: all settings of each test of the list.
     fn question(&self, alloc: Global) -> Result<Question<'_>, AllocError>
         ensures { IfOk result (AsksForAll (requested_view self.now)) }
@@ -125,7 +125,7 @@ fn target_parts(target: Option<Machine>) -> (Option<String>, Option<String>)
 }
 
 /// Parts the request of a run from the files that it has.
-pub fn parted(run: RunRequest) -> (Asked, Gathered)
+pub fn parted(run: RunRequest) -> (RequestedRun, Gathered)
     ensures asked { requested_view result.0 ≡ requested_of (run_view run) }
     ensures files { AreFilesOf (run_view run) result.1 }
 {
@@ -148,7 +148,7 @@ pub fn parted(run: RunRequest) -> (Asked, Gathered)
     } = load;
     let Machine { triple, cfg } = host;
     let (target, target_cfg) = target_parts(target);
-    let asked = Asked {
+    let asked = RequestedRun {
         profile,
         mode,
         host: triple,

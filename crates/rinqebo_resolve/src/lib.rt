@@ -7,6 +7,7 @@ mod ending;
 mod resolving;
 mod run;
 
+pub use asking::{RequestedRun, parted};
 pub use ending::Ending;
-pub use resolving::resolve;
+pub use resolving::{ending_of_failure, resolve};
 pub use run::Run;

@@ -6,7 +6,7 @@ ghost use Rattle.rinqebo_session.specs.declared.status.TheConstants.{DONE};
 ghost use Rattle.rinqebo_resolve.specs.Asking.{requested_view};
 ghost use Rattle.rinqebo_resolve.specs.Endings.{IsAnswerTo, IsSilent, IsEndingFor, IsEndingIn, IsEndingOf, IsResolved, ReportsFailure, ReportsOutcome};
 
-use crate::asking::{Asked, LIST, parted};
+use crate::asking::{LIST, RequestedRun, parted};
 use crate::ending::Ending;
 use rinqebo_files::Gathered;
 use rinqebo_forms::{RequestFault, RunRequest};
@@ -44,7 +44,7 @@ fn reason_of(alloc: Global, fault: &InputFault) -> Result<String, AllocError> {
 }
 
 /// The ending of a run that has no result.
-fn failed(alloc: Global, failure: &Failure) -> Result<Ending, AllocError>
+pub fn ending_of_failure(alloc: Global, failure: &Failure) -> Result<Ending, AllocError>
     ensures { IfOk result (ReportsFailure failure.now) }
 {
     match failure {
@@ -64,12 +64,12 @@ fn ended(alloc: Global, outcome: &Result<Answer, Failure>) -> Result<Ending, All
 {
     match outcome {
         Ok(answer) => Ok(Ending::Answered(document_of(alloc, &answer.report)?)),
-        Err(failure) => failed(alloc, failure),
+        Err(failure) => ending_of_failure(alloc, failure),
     }
 }
 
 /// How what a run requests of files ends.
-fn ending_in(alloc: Global, asked: &Asked, gathered: &Gathered) -> Result<Ending, AllocError>
+fn ending_in(alloc: Global, asked: &RequestedRun, gathered: &Gathered) -> Result<Ending, AllocError>
     ensures { IfOk result (IsEndingIn (requested_view asked.now) gathered.now) }
 {
     let request = asked.request(alloc)?;

@@ -21,3 +21,5 @@ pub mod ScriptRules
 pub mod Selecting
 pub mod OpenFilters
 pub mod Moved
+pub mod Passing
+pub mod Marked

@@ -24,3 +24,4 @@ pub mod EvaluatedFilters
 pub mod Rows
 pub mod Scripts
 pub mod SpelledLeaves
+pub mod Passed

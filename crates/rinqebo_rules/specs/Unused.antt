@@ -1,11 +1,14 @@
 -- Rules that hold for none of some tests.
 use Rattle.std.specs.Prelude.{◌≡◌, ℕ, List, Bool, false, map, not, Some, filter, slice_get}
-use Rattle.std.specs.List.{list_any}
+use Rattle.std.specs.List.{AllZip, list_any}
+use Rattle.nextest_elements.specs.declared.run_mode.NextestRunMode.{NextestRunMode}
 use Rattle.nextest_rules.specs.View.{id_view, script_rule_id_view}
 use Rattle.nextest_settings.specs.Deciding.{QueryContext, rule_holds}
 use Rattle.nextest_settings.specs.Platforms.{EvaluatedRule}
 use Rattle.nextest_settings.specs.Profile.{EvaluatableModel}
+use Rattle.rinqebo_rules.specs.Passed.{IsWritten}
 use Rattle.rinqebo_rules.specs.declared.unused.UnusedRules.{UnusedRules}
+use Rattle.rinqebo_rules.specs.declared.unused.UsedRules.{UsedRules}
 
 -- whether a rule holds for some of the tests
 abbrev pub is_used : {M W : Type 0} → List (QueryContext M) → EvaluatedRule M W → Bool
@@ -29,3 +32,11 @@ pub record AreUnusedIn {M : Type 0} (tests : List (QueryContext M)) (profile : E
       ≡ map (λ rule. rule.writes.id) (unused_among tests profile.overrides)
   pub script_rules : map (λ id. script_rule_id_view id.now) unused.script_rules.items
       ≡ map (λ rule. rule.writes.id) (unused_among tests profile.script_rules)
+
+-- Rules of a profile are marked by whether they hold for some of the tests, and of each override a
+-- setting is known that it writes in a mode, if it writes one.
+pub record AreUsedIn {M : Type 0} (tests : List (QueryContext M)) (mode : NextestRunMode)
+    (profile : EvaluatableModel M) (used : UsedRules) : Type 0 where
+  pub overrides : used.overrides.items ≡ map (is_used tests) profile.overrides
+  pub script_rules : used.script_rules.items ≡ map (is_used tests) profile.script_rules
+  pub written : AllZip (IsWritten mode) profile.overrides used.written.items

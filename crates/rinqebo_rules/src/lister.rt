@@ -1,20 +1,23 @@
 //! Lists what a profile gives to tests, one test after another.
-ghost use Rattle.std.specs.Prelude.{◌≡◌, IfOk, map};
+ghost use Rattle.std.specs.Prelude.{◌≡◌, ◌++◌, ◌∷◌, [], IfOk, List, map};
 ghost use Rattle.nextest_engines.specs.Engines.{test_view};
 ghost use Rattle.nextest_lists.specs.ListView.{list_test_view};
 ghost use Rattle.nextest_profiles.specs.Meaning.{profile_meaning};
+ghost use Rattle.nextest_profiles.specs.SettingsOf.{AreSettingsOf};
+ghost use Rattle.nextest_settings.specs.Deciding.{QueryContext};
 ghost use Rattle.nextest_settings.specs.Queries.{query_in};
 ghost use Rattle.rinqebo_rules.specs.Rows.{AreTestsReported, IsTestReported};
-ghost use Rattle.rinqebo_rules.specs.Unused.{AreUnusedIn};
+ghost use Rattle.rinqebo_rules.specs.Unused.{AreUnusedIn, AreUsedIn};
 
 use crate::origins::Origins;
 use crate::progress::Progress;
 use crate::rows::rows_of;
 use crate::runs::{is_selected, runs_if, runs_row, shows_runs};
-use crate::unused::{UnusedRules, unused_rules};
+use crate::unused::{UnusedRules, UsedRules};
+use crate::values::SourcedSettings;
 use nextest_elements::NextestRunMode;
 use nextest_engines::{BuildPlatform, Filters, Specs};
-use nextest_lists::{ListedTest, queries_of};
+use nextest_lists::ListedTest;
 use nextest_profiles::EvaluatableProfile;
 use rinqebo_report::{BuiltFor, TestRows};
 use rinqebo_request::RequestedSettings;
@@ -49,6 +52,35 @@ pub fn reported_platform(platform: BuildPlatform) -> BuiltFor {
 }
 
 impl<'l, 'c, F: Filters, S: Specs> Lister<'l, 'c, F, S> {
+    /// Returns whether a test runs, and the settings that the profile gives it.
+    fn rows_by(
+        &self,
+        alloc: Global,
+        test: &ListedTest<'_>,
+        settings: &SourcedSettings<'c, F, S>,
+        tally: &mut F::Tally,
+        origins: &mut Origins<'_, '_, 'c>,
+    ) -> Result<TestRows, AllocError>
+        ensures same { origins.new ≡ origins.old }
+        ensures told { let profile = profile_meaning F.meaning self.now.profile.now in
+            let query = query_in F.holds profile (test_view test.now.query) in
+            AreSettingsOf F.meaning query self.now.mode profile settings.now
+            → IfOk result (IsTestReported origins.old query self.now.mode profile self.now.asked.now
+            (list_test_view test.now)) }
+    {
+        let query = &test.query;
+        let runs = runs_if(is_selected(self.profile, query, tally), test.ignored);
+        Ok(TestRows {
+            binary: String::from_str(alloc, query.binary_query.binary_id)?,
+            name: String::from_str(alloc, query.test_name)?,
+            platform: reported_platform(query.binary_query.platform),
+            runs: runs_row(alloc, self.profile, runs, origins)?,
+            is_ignored: test.ignored,
+            shows_runs: shows_runs(self.asked, runs),
+            settings: rows_of(alloc, settings, self.asked, self.mode, origins)?,
+        })
+    }
+
     /// Returns whether a test runs, and its settings. It takes as much memory as they do, and loads
     /// nothing.
     pub fn rows_of(
@@ -64,20 +96,47 @@ impl<'l, 'c, F: Filters, S: Specs> Lister<'l, 'c, F, S> {
             (query_in F.holds profile (test_view test.now.query))
             self.now.mode profile self.now.asked.now (list_test_view test.now)) }
     {
-        let query = &test.query;
-        let runs = runs_if(is_selected(self.profile, query, tally), test.ignored);
         let settings = self
             .profile
-            .settings_with_source_for(self.mode, query, tally);
-        Ok(TestRows {
-            binary: String::from_str(alloc, query.binary_query.binary_id)?,
-            name: String::from_str(alloc, query.test_name)?,
-            platform: reported_platform(query.binary_query.platform),
-            runs: runs_row(alloc, self.profile, runs, origins)?,
-            is_ignored: test.ignored,
-            shows_runs: shows_runs(self.asked, runs),
-            settings: rows_of(alloc, &settings, self.asked, self.mode, origins)?,
-        })
+            .settings_with_source_for(self.mode, &test.query, tally);
+        self.rows_by(alloc, test, &settings, tally, origins)
+    }
+
+    /// The rules of the profile, before any test.
+    pub fn before_tests(&self, alloc: Global) -> Result<UsedRules, AllocError>
+        ensures { IfOk result
+            (AreUsedIn [] self.now.mode (profile_meaning F.meaning self.now.profile.now)) }
+    {
+        UsedRules::new(alloc, self.profile, self.mode)
+    }
+
+    /// Returns whether a test runs, and its settings, and adds the test to those for which rules
+    /// hold.
+    pub fn next_test(
+        &self,
+        alloc: Global,
+        test: &ListedTest<'_>,
+        used: &mut UsedRules,
+        tally: &mut F::Tally,
+        origins: &mut Origins<'_, '_, 'c>,
+    ) -> Result<TestRows, AllocError>
+        ensures same { origins.new ≡ origins.old }
+        ensures told { let profile = profile_meaning F.meaning self.now.profile.now in
+            IfOk result (IsTestReported origins.old
+            (query_in F.holds profile (test_view test.now.query))
+            self.now.mode profile self.now.asked.now (list_test_view test.now)) }
+        ensures used { (tests : List (QueryContext F.Meaning))
+            → let profile = profile_meaning F.meaning self.now.profile.now in
+            let query = query_in F.holds profile (test_view test.now.query) in
+            AreUsedIn tests self.now.mode profile used.old
+            → IfOk result (λ _. AreUsedIn (tests ++ query ∷ []) self.now.mode profile used.new) }
+    {
+        let settings = self
+            .profile
+            .settings_with_source_for(self.mode, &test.query, tally);
+        used.add(alloc, self.profile, &test.query, &settings, tally)?;
+        let rows = self.rows_by(alloc, test, &settings, tally, origins)?;
+        Ok(rows)
     }
 
     /// Returns the rows of tests, one test after another, and the rules of the profile that hold
@@ -98,12 +157,12 @@ impl<'l, 'c, F: Filters, S: Specs> Lister<'l, 'c, F, S> {
             (map (λ t. t.test) (map list_test_view listed.now))) profile rows.unused) }
     {
         let mut tests = Vec::new(alloc);
+        let mut used = self.before_tests(alloc)?;
         for test in listed {
-            tests.push(self.rows_of(alloc, test, tally, origins)?)?;
+            tests.push(self.next_test(alloc, test, &mut used, tally, origins)?)?;
             progress.asked(tests.len(), listed.len());
         }
-        let queries = queries_of(alloc, listed)?;
-        let unused = unused_rules(alloc, self.profile, &queries, tally)?;
+        let unused = used.unused(alloc, self.profile)?;
         Ok(ListedRows { tests, unused })
     }
 }

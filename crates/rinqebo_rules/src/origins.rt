@@ -31,7 +31,7 @@ fn is_same_kind(kind: &ConfigSourceKind, other: &ConfigSourceKind) -> bool
 }
 
 /// Whether two sources are the same: of one kind, at one path.
-fn is_same_source(source: &ConfigSource, other: &ConfigSource) -> bool
+pub(crate) fn is_same_source(source: &ConfigSource, other: &ConfigSource) -> bool
     ensures { IsTrue result ↔ (source_view source.now ≡ source_view other.now) }
 {
     is_same_kind(source.kind(), other.kind())
@@ -91,7 +91,8 @@ pub(crate) struct KnownOrigins<'c> {
 }
 
 impl KnownOrigins<'_> {
-    /// Whether they are those of a rule, or without one those of the profile, at a key.
+    /// Whether they are those of a rule, or without one those of the profile, at a key. Most rules
+    /// differ in their positions.
     fn are_of(&self, rule: Option<RulePlace<'_>>, key: SettingKey) -> bool
         ensures rule { IsTrue result
             → option_map place_view self.now.rule ≡ option_map place_view rule.entry }
@@ -99,9 +100,9 @@ impl KnownOrigins<'_> {
             ≡ option_map (λ table. table.now) key.table }
         ensures key { IsTrue result → self.now.key.key.now ≡ key.key.now }
     {
-        self.key.key == key.key
+        is_same_ground(self.rule, rule)
+            && self.key.key == key.key
             && is_same_table(self.key.table, key.table)
-            && is_same_ground(self.rule, rule)
     }
 }
 

@@ -52,7 +52,7 @@ fn decided_settings<'c, F: Filters, S: Specs>(
 }
 
 /// What decides a setting of a test, if it has a value.
-fn source_of<'c, F: Filters, S: Specs>(
+pub(crate) fn source_of<'c, F: Filters, S: Specs>(
     settings: &SourcedSettings<'c, F, S>,
     setting: Setting,
 ) -> Option<SettingSource<'c, F, S>>

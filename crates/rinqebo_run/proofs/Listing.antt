@@ -129,8 +129,8 @@ pub listed_here : (session : Session) (loaded : Loaded (Filterset FieldMatcher) 
     (profile_meaning (marks_view names_of) on) (all_tests (list_view session.tests))
     (all_binaries (list_view session.tests)) scripts
     → IfSome objects (λ exact. AreObjectsListed (readings session.engines.filters).matches_test
-    (profile_meaning (marks_view names_of) on) (all_tests (list_view session.tests))
-    (names_in loaded.config.profiles) (view exact.value))
+    (profile_meaning (marks_view names_of) on) (string_bytes session.gathered.now.paths.workspace_root)
+    (list_view session.tests) (names_in loaded.config.profiles) (view exact.value))
     → listed_by session loaded name mode asked tests unused scripts objects
 listed_here session loaded name mode asked on names chain ids tests unused scripts objects is ends same told are origins
     scripted beside =

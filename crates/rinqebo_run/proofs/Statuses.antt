@@ -187,7 +187,7 @@ pub is_answered : (request : Request) (gathered : Gathered) (session : Session) 
     → IfOk answer (λ a. AnswersQuestion request.question session a.report a.status)
     → IfOk answer (λ a. IsReportOf session a.report)
     → IfOk answer (λ _. AreLookedUp session request.question)
-    → IfOk answer (λ a. HasObjectsFor request.question a.report.content)
+    → IfOk answer (λ a. HasObjectsFor session request.question a.report.content)
     → IfOk answer (λ a. IsAnswer request gathered a.report a.status)
 is_answered request gathered session (Ok answer) begun answers about looked_up objects = record {
   session = session;

@@ -1,10 +1,11 @@
 -- Lists that are written as their tests are asked.
-use Rattle.std.proofs.Common.{◌≡◌, ◌∙◌, ◌⊎◌, inl, inr, ℕ, List, [], ◌∷◌, ◌++◌, Option, Result, Ok, Err, IfErr, IsErrAnd, ap, arith, flat_map, length, map, refl, string_bytes, subst, sym, take}
+use Rattle.std.proofs.Common.{◌≡◌, ◌∙◌, ◌⊎◌, ◌<◌, ◌^◌, inl, inr, ℕ, List, [], ◌∷◌, ◌++◌, Option, None, Result, Ok, Err, IfErr, IsErrAnd, ap, arith, flat_map, length, map, refl, string_bytes, subst, sym, take}
 use Rattle.std.proofs.KnownBytes.{Appends-nil, Appends-trans}
 use Rattle.std.proofs.lemmas.Grind.{flat_map-append}
 use Rattle.std.proofs.lemmas.List.{append-nil, take-map, take_all}
 use Rattle.std.specs.Io.KnownBytes.{Appends}
 use Rattle.std.specs.List.{AllZip}
+use Rattle.std.specs.declared.vec.Vec.{Vec}
 use Rattle.filter_language.specs.Filtersets.{marks_view}
 use Rattle.filter_language.specs.declared.filterset.Filterset.{Filterset}
 use Rattle.nextest_elements.specs.declared.run_mode.NextestRunMode.{NextestRunMode}
@@ -24,17 +25,15 @@ use Rattle.rinqebo_files.specs.declared.files.Gathered.{Gathered}
 use Rattle.rinqebo_rules.specs.TestOrigins.{Basis}
 use Rattle.rinqebo_rules.specs.Rows.{AreTestsReported, IsTestReported}
 use Rattle.rinqebo_report.specs.Headers.{list_head_runs}
-use Rattle.rinqebo_report.specs.Pages.{content_runs, list_end_runs, list_runs, listed_runs}
+use Rattle.rinqebo_report.specs.Pages.{list_end_runs, list_runs, listed_runs}
 use Rattle.rinqebo_report.specs.Pieces.{painted, page_text}
 use Rattle.rinqebo_report.specs.Rendered.{rendered}
 use Rattle.rinqebo_report.specs.declared.format.Format.TheVariants as formats
-use Rattle.rinqebo_report.specs.declared.exact_value.ExactValue.{ExactValue}
 use Rattle.rinqebo_report.specs.declared.origin.Origin.{Origin}
 use Rattle.rinqebo_report.specs.declared.layout.Paper.{Paper}
 use Rattle.rinqebo_report.specs.declared.report.Asked.{Asked}
 use Rattle.rinqebo_report.specs.declared.report.Content.{Content}
 use Rattle.rinqebo_report.specs.declared.report.Content.TheVariants as contents
-use Rattle.rinqebo_report.specs.declared.report.ListScripts.{ListScripts}
 use Rattle.rinqebo_report.specs.declared.report.Report.{Report}
 use Rattle.rinqebo_report.specs.declared.report.TestRows.{TestRows}
 use Rattle.rinqebo_request.specs.declared.request.RequestedSettings.{RequestedSettings}
@@ -51,12 +50,12 @@ use Rattle.rinqebo_run.proofs.Listing.{given_means, tells_tests, zip_mapped}
 use Rattle.rinqebo_run.proofs.Refused.{failure_reported}
 use Rattle.rinqebo_run.proofs.Statuses.{failed_silent, failed_status}
 use Rattle.rinqebo_run.specs.Answered.{AnswersQuestion, Reports}
-use Rattle.rinqebo_run.specs.Begun.{tests_text, AreFirstOf, AreFirstWritten, BeginsList, BeginsPage, IsBegun}
+use Rattle.rinqebo_run.specs.Begun.{tests_text, AreFirstOf, AreFirstWritten, AreWritten, BeginsList, BeginsPage, IsBegun}
 use Rattle.rinqebo_load.specs.Accepted.{AreAccepted}
 use Rattle.rinqebo_rules.specs.Conditions.{is_met_by}
-use Rattle.rinqebo_run.specs.Listed.{IfListed, IsProfileOn, ReportsTests}
-use Rattle.rinqebo_run.specs.ListedBy.{basis_of, listed_by, read_by}
-use Rattle.rinqebo_run.specs.Requested.{IsRequestedIn, IsRequestedOf}
+use Rattle.rinqebo_run.specs.Listed.{IsProfileOn, ReportsTests}
+use Rattle.rinqebo_run.specs.ListedBy.{basis_of, read_by}
+use Rattle.rinqebo_run.specs.Requested.{IsRequestedOf}
 use Rattle.rinqebo_run.proofs.Requests.{requested_on}
 use Rattle.rinqebo_run.specs.Refused.{Fails, IsFailureIn, IsReportedBy}
 use Rattle.rinqebo_run.specs.LookedUp.{AreLookedUp, IsFailureOn, IsLookedUp}
@@ -64,11 +63,12 @@ use Rattle.rinqebo_load.specs.SessionOf.{IsSessionOf}
 use Rattle.rinqebo_load.specs.Sessions.{files_view, readings, IsLoadedFrom}
 use Rattle.rinqebo_run.specs.Statuses.{IsAnswerStatus, IsStatus}
 use Rattle.rinqebo_findings.specs.Reports.{IsReportOf}
-use Rattle.rinqebo_run.specs.Written.{AreFirstBy, AsksList, IsStopStatus, StopsList, WritesList}
+use Rattle.rinqebo_run.specs.Written.{AreFirstBy, AsksList, IsStopStatus, StopsList, WritesList, WritesPage}
 use Rattle.rinqebo_load.specs.declared.failure.Failure.{Failure}
 use Rattle.rinqebo_load.specs.declared.failure.Failure.TheVariants as failures
 use Rattle.rinqebo_run.specs.declared.list_fault.ListFault.{ListFault}
 use Rattle.rinqebo_run.specs.declared.list_fault.ListFault.TheVariants as faults
+use Rattle.rinqebo_run.specs.declared.list_page.BesideTests.{BesideTests}
 use Rattle.rinqebo_run.specs.declared.list_page.RequestedList.{RequestedList}
 use Rattle.rinqebo_load.specs.declared.session.Session.{Session}
 
@@ -143,15 +143,15 @@ first_so_far basis mode profile asked head paper listed i tests old new told pag
 
 -- all tests went out
 pub all_first : (basis : Basis) (mode : NextestRunMode) (profile : EvaluatableModel Filter) (asked : RequestedSettings)
-    (head : Report) (paper : Paper) (list : List ListTest) (tests : List TestRows) (old new : Option (List ℕ))
-    → AreTestsReported basis filter_holds mode profile asked list tests → Appends old new (tests_text head paper tests)
+    (head : Report) (paper : Paper) (list : List ListTest) (old new : Option (List ℕ))
+    → AreWritten basis filter_holds mode profile asked list head paper old new
     → AreFirstWritten basis filter_holds mode profile asked list head paper old new
-all_first basis mode profile asked head paper list tests old new told page = record {
+all_first basis mode profile asked head paper list old new written = record {
   count = length list;
-  tests = tests;
-  are_reported = subst (λ first. AreTestsReported basis filter_holds mode profile asked first tests)
-      (sym (take_all (length list) list (omega arith))) told;
-  page = page;
+  tests = written.tests;
+  are_reported = subst (λ first. AreTestsReported basis filter_holds mode profile asked first written.tests)
+      (sym (take_all (length list) list (omega arith))) written.are_reported;
+  page = written.page;
 }
 
 -- no test went out yet
@@ -219,33 +219,40 @@ begins_list session profile mode asked paper loaded old new accepted from there 
       first = subst First from.means first;
     }
 
--- the page of a list does not speak of what else its report has
-page_of_list : (head : Report) (paper : Paper) (content : Content)
-    (P : List TestRows → List Origin → ListScripts → Option ExactValue → Type 0) (old new : Option (List ℕ))
-    → IfListed content P
-    → Appends old new (page_text paper.colour (content_runs paper.columns head content))
-    → Appends old new (rendered (record head { content = content }) formats.Text paper)
-page_of_list head paper (contents.List asked tests unused scripts objects) P old new listed page = page
-page_of_list head paper _ P old new listed page = absurd listed
+-- a list of values in the room of another one
+vec_of : {A B Z : Type 0} (room : Vec B Z) (xs : List A) → length xs < 2 ^ 63 → Vec A Z
+vec_of room xs fit = record {
+  ptr = room.ptr;
+  len = length xs;
+  cap = length xs;
+  alloc = room.alloc;
+  items = xs;
+  ok = (refl, omega arith);
+  small = fit;
+}
+
+-- what a report lists whose page went out
+abbrev content_of : BesideTests → (tests : List TestRows) → length tests < 2 ^ 63 → Content
+content_of beside tests fit =
+    contents.List beside.asked (vec_of beside.unused tests fit) beside.unused beside.scripts None
 
 -- the page of a list went out by what was loaded
 pub writes_list : (session : Session) (profile : Name) (mode : NextestRunMode) (asked : RequestedSettings) (paper : Paper)
-    (head : Report) (content : Content) (loaded : Loaded (Filterset FieldMatcher) TargetSpec)
+    (head : Report) (beside : BesideTests) (loaded : Loaded (Filterset FieldMatcher) TargetSpec)
     (old new : Option (List ℕ)) → AreAccepted session
     → IsLoadedFrom (readings session.engines.filters) (files_view session.gathered.now) loaded
     → IsIn (names_in loaded.config.profiles) profile → IsReportOf session head
-    → IfListed content (listed_by session loaded profile mode asked)
-    → IsRequestedIn session (parents_in (config_parents loaded.config)) profile mode content
-    → IsLookedUp session profile → Appends old new (page_text paper.colour (content_runs paper.columns head content))
+    → IsLookedUp session profile → WritesPage session loaded profile mode asked head paper old new beside
     → WritesList session profile mode asked paper old new
-writes_list session profile mode asked paper head content loaded old new accepted from there about listed requested looked
-    page = record {
+writes_list session profile mode asked paper head beside loaded old new accepted from there about looked writes =
+    let content = content_of beside writes.tests writes.fit in
+    record {
       report = record head { content = content };
       about = record { root = about.root; sources = about.sources };
       tells = tells_tests session profile mode asked (record head { content = content }) content loaded accepted from there
-          refl listed requested;
+          refl writes.told (record { chain = writes.chain; is_chain = writes.is_chain; requested = writes.requested });
       looked_up = looked;
-      page = page_of_list head paper content (listed_by session loaded profile mode asked) old new listed page;
+      page = writes.page;
     }
 
 -- why a list was not written whole, in other words

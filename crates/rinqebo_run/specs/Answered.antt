@@ -22,6 +22,7 @@ use Rattle.rinqebo_request.specs.declared.request.Question.TheVariants as questi
 use Rattle.rinqebo_request.specs.declared.request.Request.{Request}
 use Rattle.rinqebo_request.specs.declared.request.RequestedTest.{RequestedTest}
 use Rattle.rinqebo_load.specs.declared.found_test.FoundTest.{FoundTest}
+use Rattle.rinqebo_load.specs.Warned.{warnings_met}
 use Rattle.rinqebo_load.specs.declared.session.Session.{Session}
 
 -- Something holds of the test that a request names, as a session finds it.
@@ -49,14 +50,15 @@ AnswersQuestion (questions.ShowConfig profile keys with_hidden) session report s
 AnswersQuestion (questions.Check deny_warnings) session report status =
     IsCheckStatus session status
 
--- the result of a list has objects
-abbrev pub HasObjectsFor : Question → Content → Type 0
-HasObjectsFor (questions.Explain profile test asked) content = Unit {0}
-HasObjectsFor (questions.Why profile test setting) content = Unit {0}
-HasObjectsFor (questions.WhyRuns profile test) content = Unit {0}
-HasObjectsFor (questions.List profile mode list asked) content = HasObjects content
-HasObjectsFor (questions.ShowConfig profile keys with_hidden) content = Unit {0}
-HasObjectsFor (questions.Check deny_warnings) content = Unit {0}
+-- the result of a list has objects, whose findings are the warnings of the load
+abbrev pub HasObjectsFor : Session → Question → Content → Type 0
+HasObjectsFor session (questions.Explain profile test asked) content = Unit {0}
+HasObjectsFor session (questions.Why profile test setting) content = Unit {0}
+HasObjectsFor session (questions.WhyRuns profile test) content = Unit {0}
+HasObjectsFor session (questions.List profile mode list asked) content =
+    HasObjects (warnings_met session) content
+HasObjectsFor session (questions.ShowConfig profile keys with_hidden) content = Unit {0}
+HasObjectsFor session (questions.Check deny_warnings) content = Unit {0}
 
 -- A report and a status are the result of a request over the files that were read: the report is
 -- one of a session of the request, and the two are the result of the request in it. Each filter
@@ -68,7 +70,8 @@ pub record IsAnswer (request : Request) (gathered : Gathered) (report : Report) 
   pub about : IsReportOf session report
   pub answers : AnswersQuestion request.question session report status
   pub looked_up : AreLookedUp session request.question
-  pub objects : request.format ≡ formats.Json → HasObjectsFor request.question report.content
+  pub objects : request.format ≡ formats.Json
+      → HasObjectsFor session request.question report.content
 
 -- A writer received the page of a result: known bytes grew by exactly the report, in the format and
 -- on the paper of the request.

@@ -44,6 +44,16 @@ tests_text head paper tests =
     page_text paper.colour
     (flat_map (listed_runs paper.columns (string_bytes head.root) head.sources.items) tests)
 
+-- The program wrote the tests of a list, each whole and with the settings that a profile gives it:
+-- known bytes grew by their lines on the page of a report, and by nothing else.
+pub record AreWritten {M : Type 0} (basis : Basis) (matches : M → Test → M → Bool)
+    (mode : NextestRunMode) (profile : EvaluatableModel M) (asked : RequestedSettings)
+    (list : List ListTest) (head : Report) (paper : Paper) (old new : Option (List ℕ))
+    : Type 0 where
+  pub tests : List TestRows
+  pub are_reported : AreTestsReported basis matches mode profile asked list tests
+  pub page : Appends old new (tests_text head paper tests)
+
 -- The program wrote the first tests of a list, each whole and with the settings that a profile
 -- gives it: known bytes grew by their lines on the page of a report, and by nothing else.
 pub record AreFirstWritten {M : Type 0} (basis : Basis) (matches : M → Test → M → Bool)

@@ -1,5 +1,5 @@
 -- The tests of a list and the rules that hold for none of them, as a report lists them.
-use Rattle.std.specs.Prelude.{◌≡◌, ◌++◌, [], Bool, List, map, None, Option, Some, IfSome}
+use Rattle.std.specs.Prelude.{◌≡◌, ◌++◌, [], ℕ, Bool, List, codes, map, option_map, None, Option, Some, IfSome}
 use Rattle.std.specs.List.{AllZip}
 use Rattle.nextest_elements.specs.declared.run_mode.NextestRunMode.{NextestRunMode}
 use Rattle.nextest_engines.specs.Engines.{Test}
@@ -19,6 +19,8 @@ use Rattle.nextest_tables.specs.Written.{Name}
 use Rattle.rinqebo_files.specs.declared.layers.Layer.{Layer}
 use Rattle.rinqebo_objects.specs.Enabling.{enabling_in}
 use Rattle.rinqebo_objects.specs.Objects.{AreObjectsOf}
+use Rattle.rinqebo_objects.specs.Scripts.{Directories}
+use Rattle.rinqebo_objects.specs.WarningObjects.{warnings_data}
 use Rattle.rinqebo_rules.specs.Rows.{AreTestsReported}
 use Rattle.rinqebo_rules.specs.Scripts.{AreScriptsReported}
 use Rattle.rinqebo_rules.specs.Unused.{unused_among}
@@ -41,6 +43,7 @@ use Rattle.rinqebo_run.specs.Requested.{IsRequestedIn}
 use Rattle.rinqebo_run.specs.ReportsReasons.{configured_by}
 use Rattle.rinqebo_load.specs.declared.session.Session.{Session}
 use Rattle.serde_json.specs.Data.{Data}
+use Rattle.serde_json.specs.Find.{get}
 use Rattle.serde_json.specs.View.{view}
 
 -- A profile on the platforms of a build is that of a name: it is the one of the name's chain.
@@ -64,14 +67,23 @@ abbrev pub AreUnused : {M : Type 0} → List Layer → List (QueryContext M) →
 AreUnused layers tests profile unused =
     AllZip (λ place. IsOriginOf layers place []) (unused_places tests profile) unused
 
--- A value is the objects of a profile, among profiles of these names, with some warnings, and with
--- the tests that enable each setup script. Its programs are as files write them.
+-- the directories that programs are relative to: the root of the workspace, and the target directory
+-- of a list, if it has one
+abbrev pub directories_for : List ℕ → TestList → Option Directories
+directories_for root list = option_map (λ target. record {
+  root = root;
+  target = target;
+}) list.target_directory
+
+-- A value is the objects of a profile, among profiles of these names, with some warnings
+-- (`HasObjects` says which), and with the tests of a list that enable each setup script. Its programs
+-- are joined to the root and to the target directory of the list, if that has one.
 pub record AreObjectsListed {M : Type 0} (matches : M → Test → M → Bool)
-    (profile : EvaluatableModel M) (tests : List Test) (profiles : List Name) (value : Data)
-    : Type 0 where
+    (profile : EvaluatableModel M) (root : List ℕ) (list : TestList) (profiles : List Name)
+    (value : Data) : Type 0 where
   pub warnings : List Warning
-  pub are : AreObjectsOf profile.facts profiles warnings None
-      (enabling_in matches profile (Some tests)) value
+  pub are : AreObjectsOf profile.facts profiles warnings (directories_for root list)
+      (enabling_in matches profile (Some (all_tests list))) value
 
 -- A report lists tests as the profile of a name gives them settings on the platforms of a build,
 -- with the origins of these in the layers of the files and in the chain of the profile, the rules
@@ -93,7 +105,7 @@ pub record AreTestsOf {M K P : Type 0} (meets : K → P → Option Bool) (matche
   pub scripts_reported : AreScriptsReported matches matches_binary profile (all_tests list)
       (all_binaries list) scripts
   pub objects_reported : IfSome objects (λ exact. AreObjectsListed matches profile
-      (all_tests list) (names_in configured.config.profiles) (view exact.value))
+      configured.root list (names_in configured.config.profiles) (view exact.value))
 
 -- a fact of the tests, of the rules, of the scripts and of the objects that a report lists
 abbrev pub IfListed : Content
@@ -102,10 +114,15 @@ IfListed (contents.List asked tests unused scripts objects) P =
     P tests.items unused.items scripts objects
 IfListed _ P = ⊥
 
--- a report lists tests beside objects
-abbrev pub HasObjects : Content → Type 0
-HasObjects (contents.List asked tests unused scripts (Some objects)) = Unit {0}
-HasObjects _ = ⊥
+-- the findings of objects are warnings
+abbrev pub FindsWarnings : List Warning → Data → Type 0
+FindsWarnings warnings value = get (codes "findings") value ≡ Some (warnings_data warnings)
+
+-- a report lists tests beside objects, whose findings are warnings
+abbrev pub HasObjects : List Warning → Content → Type 0
+HasObjects warnings (contents.List asked tests unused scripts (Some objects)) =
+    FindsWarnings warnings (view objects.value)
+HasObjects warnings _ = ⊥
 
 -- A report lists the tests of a list in a profile, by what the files mean.
 pub record ReportsTests (session : Session) (profile : Name) (mode : NextestRunMode)

@@ -1,20 +1,23 @@
 -- Lists that the program writes as it resolves their tests.
-use Rattle.std.specs.Prelude.{◌≡◌, ◌⊎◌, ◌++◌, [], ◌∷◌, ℕ, List, Option, string_bytes}
+use Rattle.std.specs.Prelude.{◌≡◌, ◌⊎◌, ◌<◌, ◌^◌, ℕ, List, Option, None, length, string_bytes}
 use Rattle.std.specs.Io.KnownBytes.{Appends}
 use Rattle.filter_language.specs.Filtersets.{marks_view}
 use Rattle.filter_language.specs.declared.filterset.Filterset.{Filterset}
 use Rattle.nextest_elements.specs.declared.run_mode.NextestRunMode.{NextestRunMode}
 use Rattle.filter_engine.specs.Compiling.{names_of}
 use Rattle.filter_engine.specs.declared.compiling.FieldMatcher.{FieldMatcher}
+use Rattle.nextest_inheritance.specs.Parents.{parents_in}
+use Rattle.nextest_load.specs.Config.{config_parents}
 use Rattle.nextest_load.specs.Load.{Loaded}
 use Rattle.nextest_profiles.specs.Meaning.{configured_meaning}
+use Rattle.nextest_profiles.specs.Profiles.{IsChainAndDefault}
 use Rattle.nextest_settings.specs.Deciding.{QueryContext}
 use Rattle.nextest_settings.specs.Profile.{EvaluatableModel}
 use Rattle.nextest_tables.specs.Written.{Name}
 use Rattle.rinqebo_rules.specs.TestOrigins.{Basis}
 use Rattle.rinqebo_rules.specs.Rows.{IsTestReported}
 use Rattle.rinqebo_findings.specs.Reports.{IsReportOf}
-use Rattle.rinqebo_report.specs.Pages.{listed_runs}
+use Rattle.rinqebo_report.specs.Pages.{list_runs, listed_runs}
 use Rattle.rinqebo_report.specs.Pieces.{page_text}
 use Rattle.rinqebo_report.specs.Rendered.{rendered}
 use Rattle.rinqebo_report.specs.declared.format.Format.TheVariants as formats
@@ -30,7 +33,7 @@ use Rattle.nextest_lists.specs.ListView.{list_view}
 use Rattle.nextest_lists.specs.Lists.{ListTest, list_tests}
 use Rattle.rinqebo_run.specs.Begun.{AreFirstOf}
 use Rattle.rinqebo_run.specs.Listed.{ReportsTests}
-use Rattle.rinqebo_run.specs.ListedBy.{read_by}
+use Rattle.rinqebo_run.specs.ListedBy.{listed_by, read_by}
 use Rattle.rinqebo_run.specs.Requested.{IsRequestedOf}
 use Rattle.rinqebo_run.specs.LookedUp.{IsLookedUp}
 use Rattle.rinqebo_load.specs.Sessions.{readings}
@@ -38,6 +41,7 @@ use Rattle.rinqebo_run.specs.Statuses.{failure_status}
 use Rattle.rinqebo_load.specs.declared.failure.Failure.{Failure}
 use Rattle.rinqebo_run.specs.declared.list_fault.ListFault.{ListFault}
 use Rattle.rinqebo_run.specs.declared.list_fault.ListFault.TheVariants as faults
+use Rattle.rinqebo_run.specs.declared.list_page.BesideTests.{BesideTests}
 use Rattle.rinqebo_run.specs.declared.list_page.RequestedList.{RequestedList}
 use Rattle.rinqebo_load.specs.declared.session.Session.{Session}
 
@@ -47,13 +51,12 @@ AsksList (questions.List profile mode list settings) asked =
     (asked.profile.now ≡ profile.now) × (asked.mode ≡ mode) × (asked.settings.now ≡ settings)
 AsksList _ asked = ⊥
 
--- A report has one more test, and these are its lines on the page.
-pub record AddsTest {M : Type 0} (basis : Basis) (query : QueryContext M) (mode : NextestRunMode)
+-- These are the lines of a test on the page of a report, with the settings that a profile gives it.
+pub record ShowsTest {M : Type 0} (basis : Basis) (query : QueryContext M) (mode : NextestRunMode)
     (profile : EvaluatableModel M) (asked : RequestedSettings) (test : ListTest) (head : Report)
-    (paper : Paper) (old new : List TestRows) (lines : List ℕ) : Type 0 where
+    (paper : Paper) (lines : List ℕ) : Type 0 where
   pub rows : TestRows
   pub are_reported : IsTestReported basis query mode profile asked test rows
-  pub added : new ≡ old ++ rows ∷ []
   pub shown : lines ≡ page_text paper.colour
       (listed_runs paper.columns (string_bytes head.root) head.sources.items rows)
 
@@ -66,6 +69,22 @@ AreFirstBy session loaded profile mode asked =
     (configured_meaning (marks_view names_of) spec_view (read_by session loaded)) profile mode
     (IsRequestedOf session profile mode) asked session.layers.items
     (list_tests (list_view session.tests))
+
+-- The program wrote the page of a list by a configuration that was loaded: the header of the
+-- request, the tests as the profile gives them settings, and what follows them. Known bytes grew by
+-- the page, and by nothing else.
+pub record WritesPage (session : Session) (loaded : Loaded (Filterset FieldMatcher) TargetSpec)
+    (profile : Name) (mode : NextestRunMode) (asked : RequestedSettings) (head : Report)
+    (paper : Paper) (old new : Option (List ℕ)) (beside : BesideTests) : Type 0 where
+  pub tests : List TestRows
+  -- A report can have as many.
+  pub fit : length tests < 2 ^ 63
+  pub told : listed_by session loaded profile mode asked tests beside.unused.items beside.scripts None
+  pub chain : List Name
+  pub is_chain : IsChainAndDefault (parents_in (config_parents loaded.config)) profile chain
+  pub requested : IsRequestedOf session profile mode chain beside.asked
+  pub page : Appends old new (page_text paper.colour (list_runs paper.columns
+      (string_bytes head.root) head.sources.items beside.asked tests beside.unused.items))
 
 -- The program wrote the page of a list whole. It looked up each filter that it evaluates for the
 -- list.

@@ -12,8 +12,11 @@ use std::alloc::{AllocError, Global};
 /// What a list or metadata say of a binary, and its id may not.
 const FIELDS: [Field; 3] = [Field::Kind, Field::BinaryName, Field::Package];
 
-/// The places of the filters that a profile evaluates and that use the kind, the name or the
-/// package of a binary, with commas between them.
+/// How many places of filters a note lists at most.
+const MOST_PLACES: usize = 8;
+
+/// The places of the first filters that a profile evaluates and that use the kind, the name or the
+/// package of a binary, with commas between them, and how many more there are.
 fn asking_places(
     alloc: Global,
     session: &Session<'_>,
@@ -25,12 +28,18 @@ fn asking_places(
     let on = profile_on(alloc, session, config, profile)?;
     let chain = chain_of_profile(alloc, config, profile)?;
     let mut places = String::new(alloc);
-    for asking in &filters_asking(alloc, &on, &FIELDS)? {
+    let filters = filters_asking(alloc, &on, &FIELDS)?;
+    for asking in filters.iter().take(MOST_PLACES) {
         if !places.is_empty() {
             places.push_str(", ")?;
         }
         let place = place_text(alloc, session, &chain, asking.place)?;
         places.push_str(place.as_str())?;
+    }
+    let more = filters.len().saturating_sub(MOST_PLACES);
+    if more > 0 {
+        let rest = format!(in alloc; " and {more} more")?;
+        places.push_str(rest.as_str())?;
     }
     Ok(places)
 }

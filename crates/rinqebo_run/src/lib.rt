@@ -43,6 +43,8 @@ pub use looked_up::config_looked_up;
 pub use printing::{print_text, refuse_for_memory};
 pub use progress::ProgressLine;
 pub use refusing::refuse_in;
-pub use run::{answer_of, perform, print_schema, refuse_gathering, refuse_words};
+pub use run::{
+    answer_of, perform, print_document_schema, print_schema, refuse_gathering, refuse_words,
+};
 pub use show::entries_in;
 pub use status::Status;

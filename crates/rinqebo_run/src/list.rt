@@ -9,9 +9,11 @@ ghost use Rattle.nextest_inheritance.specs.View.{borrowed_view};
 ghost use Rattle.nextest_load.specs.Config.{config_parents};
 ghost use Rattle.nextest_profiles.specs.Meaning.{profile_meaning};
 ghost use Rattle.nextest_settings.specs.Queries.{query_in};
+ghost use Rattle.nextest_sources.specs.WarningsView.{warnings_view};
 ghost use Rattle.nextest_tables.specs.FileTexts.{names_in, IsIn};
 ghost use Rattle.nextest_lists.specs.ListView.{list_view};
 ghost use Rattle.nextest_lists.specs.Lists.{all_tests, list_tests};
+ghost use Rattle.rinqebo_load.specs.Warned.{warnings_met};
 ghost use Rattle.rinqebo_rules.specs.Rows.{AreTestsReported};
 ghost use Rattle.rinqebo_rules.specs.Unused.{AreUnusedIn};
 ghost use Rattle.rinqebo_rules.specs.Conditions.{is_met_by};
@@ -105,7 +107,7 @@ fn listed<'c, P: Progress>(
         (listed_by session.now config.now profile.now mode asked.now)) }
     ensures requested { IfOk result (IsRequestedIn session.now
         (parents_in (config_parents config.now.config)) profile.now mode) }
-    ensures objects { IfOk result HasObjects }
+    ensures objects { IfOk result (HasObjects (warnings_view warnings.now)) }
 {
     let chain = chain_of_profile(alloc, config, profile)?;
     let requested = requested_of(alloc, session, profile, &chain, mode)?;
@@ -134,7 +136,8 @@ pub fn list<P: Progress>(
     ensures ok { IfOk result (ReportsTests session.now profile.now mode asked.now) }
     ensures about { IfOk result (IsReportOf session.now) }
     ensures looked_up { IfOk result (λ _. IsLookedUp session.now profile.now) }
-    ensures objects { IfOk result (λ report. HasObjects report.content) }
+    ensures objects { IfOk result (λ report.
+        HasObjects (warnings_met session.now) report.content) }
     ensures err { IfErr result (IsFailureOn session.now profile.now) }
 {
     let mut warnings = DefaultConfigWarnings::new(alloc);

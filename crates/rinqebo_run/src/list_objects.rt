@@ -1,20 +1,21 @@
 //! The objects of a profile beside a list: what a runner needs beside the settings of tests.
-ghost use Rattle.std.specs.Prelude.{◌≡◌, IfOk, None, map, string_bytes};
+ghost use Rattle.std.specs.Prelude.{◌≡◌, IfOk, map, string_bytes};
 ghost use Rattle.filter_language.specs.Filtersets.{marks_view};
 ghost use Rattle.filter_engine.specs.Compiling.{names_of};
 ghost use Rattle.filter_engine.specs.Engine.{filter_holds};
 ghost use Rattle.nextest_lists.specs.ListView.{list_view};
-ghost use Rattle.nextest_lists.specs.Lists.{all_tests};
 ghost use Rattle.nextest_profiles.specs.Meaning.{profile_meaning};
+ghost use Rattle.nextest_sources.specs.WarningsView.{warnings_view};
 ghost use Rattle.nextest_tables.specs.FileTexts.{names_in};
 ghost use Rattle.serde_json.specs.View.{view};
-ghost use Rattle.rinqebo_run.specs.Listed.{AreObjectsListed};
+ghost use Rattle.rinqebo_objects.specs.Scripts.{directories_view};
+ghost use Rattle.rinqebo_run.specs.Listed.{AreObjectsListed, FindsWarnings, directories_for};
 
 use crate::list::Profile;
 use filter_engine::NextestTally;
 use nextest_config::{DefaultConfigWarnings, MergedProfile};
 use rinqebo_load::{Config, Session};
-use rinqebo_objects::{Surroundings, objects_json};
+use rinqebo_objects::{Directories, Surroundings, objects_json};
 use rinqebo_report::ExactValue;
 use std::alloc::{AllocError, Global};
 use std::collections::BTreeMap;
@@ -43,21 +44,50 @@ fn profile_names(alloc: Global, config: &Config) -> Result<Vec<String>, AllocErr
     Ok(names)
 }
 
-/// What the objects of a profile have from its configuration, with programs as files write them.
-fn as_written<'a>(profiles: &'a [String], warnings: &'a DefaultConfigWarnings) -> Surroundings<'a>
+/// Directories that programs are relative to.
+fn directories<'a>(root: &'a str, target: &'a str) -> Directories<'a>
+    ensures root { result.root.now ≡ root.now }
+    ensures target { result.target.now ≡ target.now }
+{
+    Directories { root, target }
+}
+
+/// The directories that programs are relative to: the root of the workspace, and the target
+/// directory of the list of a session, if that has one.
+fn directories_of<'a>(session: &'a Session<'_>) -> Option<Directories<'a>>
+    ensures { directories_view result
+        ≡ directories_for (string_bytes session.now.gathered.now.paths.workspace_root)
+        (list_view session.now.tests) }
+{
+    match &session.tests.target_directory {
+        Some(target) => {
+            let root = session.gathered.paths.workspace_root.as_str();
+            Some(directories(root, target.as_str()))
+        }
+        None => None,
+    }
+}
+
+/// What the objects of a profile have from its configuration and from the list.
+fn surroundings<'a>(
+    profiles: &'a [String],
+    warnings: &'a DefaultConfigWarnings,
+    directories: Option<Directories<'a>>,
+) -> Surroundings<'a>
     ensures profiles { result.profiles.now ≡ profiles.now }
     ensures warnings { result.warnings.now ≡ warnings.now }
-    ensures directories { result.directories ≡ None }
+    ensures directories { result.directories ≡ directories.entry }
 {
     Surroundings {
         profiles,
         warnings,
-        directories: None,
+        directories,
     }
 }
 
 /// The objects of a profile of a configuration, with the warnings of its load, and with the tests of
-/// the list of a session that enable each setup script. Programs are as files write them.
+/// the list of a session that enable each setup script. Programs are joined to the root and to the
+/// target directory of the list, if that has one.
 pub fn objects_of_list(
     alloc: Global,
     session: &Session<'_>,
@@ -65,15 +95,18 @@ pub fn objects_of_list(
     warnings: &DefaultConfigWarnings,
     profile: &Profile<'_>,
 ) -> Result<ExactValue, AllocError>
-    ensures { let profile = profile_meaning (marks_view names_of) profile.now in
+    ensures objects { let profile = profile_meaning (marks_view names_of) profile.now in
         IfOk result (λ objects. AreObjectsListed filter_holds profile
-        (all_tests (list_view session.now.tests)) (names_in config.now.config.profiles)
+        (string_bytes session.now.gathered.now.paths.workspace_root)
+        (list_view session.now.tests) (names_in config.now.config.profiles)
         (view objects.value)) }
+    ensures findings { IfOk result (λ objects.
+        FindsWarnings (warnings_view warnings.now) (view objects.value)) }
 {
     let names = profile_names(alloc, config)?;
     let tests = session.tests.queries(alloc)?;
     let mut tally = NextestTally::new();
-    let around = as_written(&names, &*warnings);
+    let around = surroundings(&names, &*warnings, directories_of(session));
     let objects = objects_json(alloc, profile, around, Some(&tests), &mut tally)?;
     Ok(objects)
 }

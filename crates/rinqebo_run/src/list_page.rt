@@ -1,30 +1,26 @@
 //! The page of a list. The program writes it test after test, as it resolves them.
-ghost use Rattle.std.specs.Prelude.{◌≡◌, [], IfErr, IfOk, OnErr, OnOk, map, string_bytes};
+ghost use Rattle.std.specs.Prelude.{◌≡◌, ◌<◌, ◌^◌, ◌++◌, ◌∷◌, [], IfErr, IfOk, List, OnOk, length, map, string_bytes};
 ghost use Rattle.std.specs.Io.KnownBytes.{Appends};
 ghost use Rattle.std.specs.List.{AllZip};
 ghost use Rattle.filter_language.specs.Filtersets.{marks_view};
 ghost use Rattle.nextest_engines.specs.Engines.{test_view};
 ghost use Rattle.filter_engine.specs.Compiling.{names_of};
-ghost use Rattle.filter_engine.specs.Engine.{filter_holds};
-ghost use Rattle.nextest_inheritance.specs.Parents.{parents_in};
+ghost use Rattle.filter_engine.specs.Engine.{Filter, filter_holds};
 ghost use Rattle.nextest_inheritance.specs.View.{borrowed_view};
-ghost use Rattle.nextest_load.specs.Config.{config_parents};
 ghost use Rattle.nextest_profiles.specs.Meaning.{profile_meaning};
+ghost use Rattle.nextest_settings.specs.Deciding.{QueryContext};
 ghost use Rattle.nextest_settings.specs.Queries.{query_in};
 ghost use Rattle.nextest_tables.specs.FileTexts.{names_in, IsIn};
 ghost use Rattle.nextest_lists.specs.ListView.{list_test_view, list_view};
 ghost use Rattle.nextest_lists.specs.Lists.{all_tests, list_tests};
-ghost use Rattle.rinqebo_rules.specs.Rows.{AreTestsReported};
-ghost use Rattle.rinqebo_rules.specs.Unused.{AreUnusedIn};
+ghost use Rattle.rinqebo_rules.specs.Unused.{AreUnusedIn, AreUsedIn};
 ghost use Rattle.rinqebo_report.specs.Headers.{list_head_runs};
-ghost use Rattle.rinqebo_report.specs.Pages.{content_runs, list_end_runs};
+ghost use Rattle.rinqebo_report.specs.Pages.{list_end_runs};
 ghost use Rattle.rinqebo_report.specs.Pieces.{page_text};
-ghost use Rattle.rinqebo_run.specs.Listed.{IfListed};
-ghost use Rattle.rinqebo_run.specs.ListedBy.{basis_of, listed_by, places_of};
-ghost use Rattle.rinqebo_run.specs.Requested.{IsRequestedIn};
+ghost use Rattle.rinqebo_run.specs.ListedBy.{basis_of, places_of};
 ghost use Rattle.rinqebo_rules.specs.Origins.{IsOriginOf};
-ghost use Rattle.rinqebo_run.specs.Begun.{tests_text, AreFirstWritten};
-ghost use Rattle.rinqebo_run.specs.Written.{AddsTest, AreFirstBy, StopsList};
+ghost use Rattle.rinqebo_run.specs.Begun.{AreFirstWritten, AreWritten};
+ghost use Rattle.rinqebo_run.specs.Written.{AreFirstBy, ShowsTest, StopsList, WritesPage};
 ghost use Rattle.rinqebo_run.specs.declared.list_fault.ListFault.TheVariants as faults;
 
 use crate::asked::requested_of;
@@ -34,15 +30,14 @@ use crate::list_origins::unused_origins;
 use crate::list_scripts::scripts_of_list;
 use filter_engine::{NextestFilters, NextestTally};
 use nextest_config::NextestRunMode;
-use nextest_lists::{ListedTest, queries_of};
+use nextest_lists::ListedTest;
 use platform_language::TargetSpecs;
 use rinqebo_load::{Config, Session, chain_of_profile};
 use rinqebo_report::{
-    Asked, Content, Origin, Paper, Report, TestRows, render_list_end, render_list_head,
-    render_listed,
+    Asked, ListScripts, Origin, Paper, Report, render_list_end, render_list_head, render_listed,
 };
 use rinqebo_request::RequestedSettings;
-use rinqebo_rules::{ListedRows, Lister, Origins, Progress, UnusedRules, unused_rules};
+use rinqebo_rules::{Lister, Origins, Progress, UnusedRules, UsedRules};
 use std::alloc::{AllocError, Global};
 use std::io::Write;
 
@@ -73,6 +68,17 @@ pub struct ListPage<'c, 'g> {
     pub paper: Paper,
 }
 
+/// What the report of a list has beside the tests.
+#[derive(Drop)]
+pub struct BesideTests {
+    /// The request.
+    pub asked: Asked,
+    /// The rules that hold for none of the tests.
+    pub unused: Vec<Origin>,
+    /// The scripts of the list.
+    pub scripts: ListScripts,
+}
+
 /// Writes a text.
 pub fn write_text<W: Write>(text: &str, out: &mut W) -> Result<(), ListFault>
     ensures ok { OnOk result (Appends (W.contents out.old) (W.contents out.new) text.now) }
@@ -97,33 +103,36 @@ pub fn write_last<W: Write>(text: &str, out: &mut W) -> Result<(), ListFault>
 }
 
 impl<'c> ListPage<'c, '_> {
-    /// Resolves a test, adds its rows to those of other tests, and returns its lines.
-    fn take_test(
+    /// Resolves a test, and returns its lines. Adds it to the tests for which rules hold.
+    fn test_text(
         &self,
         alloc: Global,
         asking: &TestLister<'_, 'c>,
         test: &ListedTest<'_>,
+        used: &mut UsedRules,
         tally: &mut NextestTally,
         origins: &mut Origins<'_, '_, 'c>,
-        tests: &mut Vec<TestRows>,
     ) -> Result<String, AllocError>
         ensures same { origins.new ≡ origins.old }
-        ensures ok { let profile = profile_meaning (marks_view names_of)
+        ensures shown { let profile = profile_meaning (marks_view names_of)
             asking.now.profile.now in
-            IfOk result (λ text. AddsTest origins.old
+            IfOk result (λ text. ShowsTest origins.old
             (query_in filter_holds profile (test_view test.now.query)) asking.now.mode profile
             asking.now.asked.now (list_test_view test.now) self.now.head.now self.now.paper
-            tests.old.items tests.new.items (string_bytes text)) }
-        ensures err { OnErr result (tests.new.items ≡ tests.old.items) }
+            (string_bytes text)) }
+        ensures used { (tests : List (QueryContext Filter))
+            → let profile = profile_meaning (marks_view names_of) asking.now.profile.now in
+            let query = query_in filter_holds profile (test_view test.now.query) in
+            AreUsedIn tests asking.now.mode profile used.old
+            → IfOk result (λ _. AreUsedIn (tests ++ query ∷ []) asking.now.mode profile used.new) }
     {
-        let rows = asking.rows_of(alloc, test, tally, origins)?;
+        let rows = asking.next_test(alloc, test, used, tally, origins)?;
         let text = render_listed(alloc, self.head, self.paper, &rows)?;
-        tests.push(rows)?;
         Ok(text)
     }
 
-    /// Writes the tests one after another, and returns their rows and the rules of the profile that
-    /// hold for none of them.
+    /// Writes the tests one after another, and returns the rules of the profile that hold for none
+    /// of them. The rows of a test are dropped once they are written.
     fn write_tests<O: Write, P: Progress>(
         &self,
         alloc: Global,
@@ -132,37 +141,34 @@ impl<'c> ListPage<'c, '_> {
         origins: &mut Origins<'_, '_, 'c>,
         progress: &mut P,
         out: &mut O,
-    ) -> Result<ListedRows<'c>, ListFault>
-        ensures tests { let profile = profile_meaning (marks_view names_of)
-            asking.now.profile.now in
-            IfOk result (λ rows. AreTestsReported origins.old filter_holds asking.now.mode profile
-            asking.now.asked.now (map list_test_view listed.now) rows.tests.items) }
+    ) -> Result<UnusedRules<'c>, ListFault>
+        ensures tests { IfOk result (λ _. AreWritten origins.old filter_holds asking.now.mode
+            (profile_meaning (marks_view names_of) asking.now.profile.now) asking.now.asked.now
+            (map list_test_view listed.now) self.now.head.now self.now.paper
+            (O.contents out.old) (O.contents out.new)) }
         ensures unused { let profile = profile_meaning (marks_view names_of)
             asking.now.profile.now in
-            IfOk result (λ rows. AreUnusedIn (map (query_in filter_holds profile)
-            (map (λ t. t.test) (map list_test_view listed.now))) profile rows.unused) }
-        ensures page { IfOk result (λ rows. Appends (O.contents out.old) (O.contents out.new)
-            (tests_text self.now.head.now self.now.paper rows.tests.items)) }
+            IfOk result (AreUnusedIn (map (query_in filter_holds profile)
+            (map (λ t. t.test) (map list_test_view listed.now))) profile) }
         ensures err { IfErr result (StopsList (λ _. ⊥) (AreFirstWritten origins.old filter_holds
             asking.now.mode (profile_meaning (marks_view names_of) asking.now.profile.now)
             asking.now.asked.now (map list_test_view listed.now) self.now.head.now self.now.paper
             (O.contents out.old) (O.contents out.new))
             (O.contents out.old) (O.contents out.new)) }
     {
-        let mut tests = Vec::new(alloc);
         let mut tally = NextestTally::new();
-        for test in listed {
-            let text = self.take_test(alloc, asking, test, &mut tally, origins, &mut tests)?;
+        let mut used = asking.before_tests(alloc)?;
+        for (place, test) in listed.iter().enumerate() {
+            let text = self.test_text(alloc, asking, test, &mut used, &mut tally, origins)?;
             write_text(text.as_str(), out)?;
-            progress.asked(tests.len(), listed.len());
+            progress.asked(place + 1, listed.len());
         }
-        let queries = queries_of(alloc, listed)?;
-        let unused = unused_rules(alloc, asking.profile, &queries, &mut tally)?;
-        Ok(ListedRows { tests, unused })
+        let unused = used.unused(alloc, asking.profile)?;
+        Ok(unused)
     }
 
-    /// Writes the tests by a profile on the platforms of the build, and returns their rows and the
-    /// rules of the profile that hold for none of them.
+    /// Writes the tests by a profile on the platforms of the build, and returns how many there are
+    /// and the rules of the profile that hold for none of them.
     fn write_rows<O: Write, P: Progress>(
         &self,
         alloc: Global,
@@ -170,17 +176,19 @@ impl<'c> ListPage<'c, '_> {
         on: &Profile<'c>,
         progress: &mut P,
         out: &mut O,
-    ) -> Result<ListedRows<'c>, ListFault>
-        ensures tests { IfOk result (λ rows. AreTestsReported
+    ) -> Result<(usize, UnusedRules<'c>), ListFault>
+        ensures tests { IfOk result (λ _. AreWritten
             (basis_of self.now.session.now (borrowed_view chain.now)) filter_holds
-            self.now.list.mode
-            (profile_meaning (marks_view names_of) on.now) self.now.list.settings.now
-            (list_tests (list_view self.now.session.now.tests)) rows.tests.items) }
+            self.now.list.mode (profile_meaning (marks_view names_of) on.now)
+            self.now.list.settings.now
+            (list_tests (list_view self.now.session.now.tests)) self.now.head.now self.now.paper
+            (O.contents out.old) (O.contents out.new)) }
+        ensures count { IfOk result (λ end.
+            end.0 ≡ length (list_tests (list_view self.now.session.now.tests))) }
+        ensures fits { IfOk result (λ end. end.0 < 2 ^ 63) }
         ensures unused { let profile = profile_meaning (marks_view names_of) on.now in
-            IfOk result (λ rows. AreUnusedIn (map (query_in filter_holds profile)
-            (all_tests (list_view self.now.session.now.tests))) profile rows.unused) }
-        ensures page { IfOk result (λ rows. Appends (O.contents out.old) (O.contents out.new)
-            (tests_text self.now.head.now self.now.paper rows.tests.items)) }
+            IfOk result (λ end. AreUnusedIn (map (query_in filter_holds profile)
+            (all_tests (list_view self.now.session.now.tests))) profile end.1) }
         ensures err { IfErr result (StopsList (λ _. ⊥) (AreFirstWritten
             (basis_of self.now.session.now (borrowed_view chain.now)) filter_holds
             self.now.list.mode (profile_meaning (marks_view names_of) on.now)
@@ -196,7 +204,8 @@ impl<'c> ListPage<'c, '_> {
         };
         let tests = self.session.tests.tests(alloc)?;
         let mut origins = Origins::new(alloc, &self.session.layers, chain);
-        self.write_tests(alloc, &asking, &tests, &mut origins, progress, out)
+        let unused = self.write_tests(alloc, &asking, &tests, &mut origins, progress, out)?;
+        Ok((tests.len(), unused))
     }
 
     /// Writes the header: what the user requests.
@@ -241,23 +250,17 @@ impl<'c> ListPage<'c, '_> {
         Ok(origins)
     }
 
-    /// Writes the page, and returns what it reports.
+    /// Writes the page, and returns what its report has beside the tests.
     pub fn write<O: Write, P: Progress>(
         &self,
         alloc: Global,
         progress: &mut P,
         out: &mut O,
-    ) -> Result<Content, ListFault>
+    ) -> Result<BesideTests, ListFault>
         requires { IsIn (names_in self.now.config.now.config.profiles) self.now.list.profile.now }
-        ensures told { IfOk result (λ content. IfListed content (listed_by self.now.session.now
-            self.now.config.now self.now.list.profile.now self.now.list.mode
-            self.now.list.settings.now)) }
-        ensures requested { IfOk result (IsRequestedIn self.now.session.now
-            (parents_in (config_parents self.now.config.now.config)) self.now.list.profile.now
-            self.now.list.mode) }
-        ensures page { IfOk result (λ content. Appends (O.contents out.old) (O.contents out.new)
-            (page_text self.now.paper.colour
-            (content_runs self.now.paper.columns self.now.head.now content))) }
+        ensures ok { IfOk result (WritesPage self.now.session.now self.now.config.now
+            self.now.list.profile.now self.now.list.mode self.now.list.settings.now
+            self.now.head.now self.now.paper (O.contents out.old) (O.contents out.new)) }
         ensures err { IfErr result (StopsList (λ _. ⊥) (AreFirstBy self.now.session.now
             self.now.config.now self.now.list.profile.now self.now.list.mode
             self.now.list.settings.now
@@ -274,15 +277,13 @@ impl<'c> ListPage<'c, '_> {
         )?;
         let on = profile_on(alloc, self.session, self.config, self.list.profile)?;
         self.write_head(alloc, &asked, out)?;
-        let rows = self.write_rows(alloc, &chain, &on, progress, out)?;
+        let (count, rules) = self.write_rows(alloc, &chain, &on, progress, out)?;
         let scripts = scripts_of_list(alloc, self.session, &on)?;
-        let unused = self.write_end(alloc, rows.tests.len() as u64, &rows.unused, out)?;
-        Ok(Content::List {
+        let unused = self.write_end(alloc, count as u64, &rules, out)?;
+        Ok(BesideTests {
             asked,
-            tests: rows.tests,
             unused,
             scripts,
-            objects: None,
         })
     }
 }

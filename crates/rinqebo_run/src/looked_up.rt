@@ -1,13 +1,15 @@
 //! Whether the filters that a run evaluates were looked up. Without metadata those with `deps()` or
 //! `rdeps()` are not, and the program refuses a run that evaluates one.
-ghost use Rattle.std.specs.Prelude.{◌≡◌, [], ◌∷◌, IfErr, IfOk, List, MatchOption, OnOk, true};
+ghost use Rattle.std.specs.Prelude.{◌≡◌, [], ◌∷◌, ◌++◌, IfErr, IfOk, List, MatchOption, OnOk, true};
 ghost use Rattle.filter_engine.specs.Compiling.{names_of};
 ghost use Rattle.filter_engine.specs.Open.{asks_for_packages};
 ghost use Rattle.filter_language.specs.Asks.{asks};
 ghost use Rattle.filter_language.specs.Filtersets.{marks_view};
+ghost use Rattle.nextest_sources.specs.WarningsView.{warnings_view};
 ghost use Rattle.nextest_tables.specs.FileTexts.{names_in, IsIn};
 ghost use Rattle.rinqebo_load.specs.Accepted.{AreAccepted};
 ghost use Rattle.rinqebo_load.specs.Sessions.{files_view, readings, IsLoadedFrom};
+ghost use Rattle.rinqebo_load.specs.Warned.{warnings_met};
 ghost use Rattle.rinqebo_rules.specs.declared.evaluated_filters.PlacedFilter.{PlacedFilter};
 ghost use Rattle.rinqebo_run.specs.LookedUp.{IsFailureFor, IsFailureOn, IsLookedUp};
 
@@ -117,6 +119,8 @@ pub fn config_looked_up(
         (files_view session.now.gathered.now)) }
     ensures known { IfOk result (λ config. IsIn (names_in config.config.profiles) profile.now) }
     ensures looked_up { IfOk result (λ _. IsLookedUp session.now profile.now) }
+    ensures warnings { IfOk result (λ _. warnings_view warnings.new
+        ≡ warnings_view warnings.old ++ warnings_met session.now) }
     ensures err { IfErr result (IsFailureOn session.now profile.now) }
 {
     let config = config_with(alloc, session, profile, warnings)?;

@@ -42,6 +42,7 @@ use rinqebo_load::{Failure, Session};
 use rinqebo_report::{Colour, Content, Format, Report, render, render_findings};
 use rinqebo_request::{ParseStop, Question, Request, RequestedSettings, RequestedTest};
 use rinqebo_rules::Progress;
+use rinqebo_schema::DOCUMENT_SCHEMA;
 use std::alloc::{AllocError, Global};
 use std::io::Write;
 
@@ -145,7 +146,7 @@ fn answer_in<P: Progress>(
     ensures about { IfOk result (λ answer. IsReportOf session.now answer.report) }
     ensures looked_up { IfOk result (λ _. AreLookedUp session.now request.now.question) }
     ensures objects { IfOk result (λ answer.
-        HasObjectsFor request.now.question answer.report.content) }
+        HasObjectsFor session.now request.now.question answer.report.content) }
     ensures err { IfErr result (IsFailureIn session.now request.now.question) }
 {
     let path = request.engines.metadata;
@@ -376,6 +377,16 @@ pub fn print_schema<O: Write, E: Write>(alloc: Global, out: &mut O, err: &mut E)
         Ok(text) => print_text(text.as_str(), Status::Success as u8, out),
         Err(_) => refuse_for_memory(err),
     }
+}
+
+/// Writes the JSON schema of the program's documents, and returns the exit status. It reads no file,
+/// and takes no memory.
+pub fn print_document_schema<O: Write>(out: &mut O) -> u8
+    ensures status { (result ≡ 0) ⊎ (result ≡ 6) }
+    ensures page { (result ≡ 6)
+        ⊎ Appends (O.contents out.old) (O.contents out.new) DOCUMENT_SCHEMA.now }
+{
+    print_text(DOCUMENT_SCHEMA, Status::Success as u8, out)
 }
 
 /// Reports why words are not a request, and returns the exit status. Help goes to standard output.

@@ -5,7 +5,10 @@ use nextest_files::FileReader;
 use rinqebo_diff::{AnyCommand, DiffRequest, gather_sides, parse_all, perform_diff};
 use rinqebo_files::gather;
 use rinqebo_request::Command;
-use rinqebo_run::{perform, print_code, print_codes, print_schema, refuse_gathering, refuse_words};
+use rinqebo_run::{
+    perform, print_code, print_codes, print_document_schema, print_schema, refuse_gathering,
+    refuse_words,
+};
 use std::alloc::{AllocError, Global};
 use std::io::{self, ErrorKind, Write};
 use test_cases::{Case, text_of};
@@ -70,6 +73,7 @@ fn run(
         Ok(AnyCommand::Other(Command::Answer(request))) => request,
         Ok(AnyCommand::Diff(request)) => return run_diff(alloc, case, setup, &request, out, err),
         Ok(AnyCommand::Other(Command::Schema)) => return Ok(print_schema(alloc, out, err)),
+        Ok(AnyCommand::Other(Command::DocumentSchema)) => return Ok(print_document_schema(out)),
         Ok(AnyCommand::Other(Command::Codes)) => return Ok(print_codes(alloc, out, err)),
         Ok(AnyCommand::Other(Command::CodePage(code))) => {
             return Ok(print_code(alloc, code, out, err));

@@ -1,9 +1,8 @@
-use Rattle.std.proofs.Common.{◌≡◌, ◌<◌, ◌∙◌, List, [], ◌∷◌, ◌++◌, length, map, not, filter, subst, sym, ap, arith}
+use Rattle.std.proofs.Common.{◌≡◌, ◌<◌, ◌∙◌, [], ◌++◌, length, map, not, filter, subst, sym, ap, arith}
 use Rattle.std.proofs.lemmas.List.{append-nil}
 use Rattle.std.proofs.lemmas.List.Elements.{All-push}
 use Rattle.std.specs.List.{All, Contains}
 use Rattle.rinqebo_changes.specs.declared.classes.Class.{Class}
-use Rattle.rinqebo_changes.specs.declared.classes.Item.{Item}
 use Rattle.rinqebo_changes.specs.Classes.{AreClasses, HasHead, IsFirstLeast, class_items, none, same_item}
 use Rattle.rinqebo_changes.proofs.ClassLists.{class_more, contains_kept, fewer, one_more}
 use Rattle.rinqebo_changes.proofs.Reflexive.{same_itself}

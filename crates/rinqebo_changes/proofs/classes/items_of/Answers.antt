@@ -1,4 +1,4 @@
-use Rattle.std.proofs.Common.{◌≡◌, ◌≤◌, length, ap, subst}
+use Rattle.std.proofs.Common.{◌≤◌, length, subst}
 use Rattle.rinqebo_changes.proofs.ClassLists.{items_more}
 use Rattle.rinqebo_changes.proofs.classes.items_of.Goals as goal
 

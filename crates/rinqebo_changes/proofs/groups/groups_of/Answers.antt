@@ -1,7 +1,6 @@
-use Rattle.std.proofs.Common.{◌≡◌, ◌<◌, ◌∙◌, List, length, map, take, get_or, sym, ap, subst}
+use Rattle.std.proofs.Common.{◌≡◌, ◌∙◌, map, take, sym, subst}
 use Rattle.std.proofs.lemmas.List.{take_all}
 use Rattle.std.specs.List.{All, AllZip}
-use Rattle.rinqebo_changes.specs.declared.classes.Class.{Class}
 use Rattle.rinqebo_changes.specs.declared.classes.ClassRule.TheVariants.{Row}
 use Rattle.rinqebo_changes.specs.Classes.{AreClasses, HasHead, class_items, same_item}
 use Rattle.rinqebo_changes.specs.Groups.{IsGroup}

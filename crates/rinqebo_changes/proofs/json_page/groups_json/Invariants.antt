@@ -1,4 +1,4 @@
-use Rattle.std.proofs.Common.{◌≡◌, ◌++◌, flat_map, map, take}
+use Rattle.std.proofs.Common.{◌≡◌, map, take}
 use Rattle.serde_json.specs.View.{view}
 use Rattle.rinqebo_changes.specs.Documents.{group_data}
 use Rattle.rinqebo_changes.proofs.json_page.groups_json.Given as goal

@@ -21,7 +21,7 @@ returns-in_err-left-clause-err g c =
 pub returns-in_err-right-clause-err : goal.returns-in_err-right-clause-err
 returns-in_err-right-clause-err g c =
     right_fails c.args.request.now c.args.from.now c.args.to.now _ c.in_err-right.field-0.0
-    c.from_residual-in_err-right.ensures.1 c.in_err-right.ensures.err
+    c.from_residual-in_err-right.ensures.1 (c.in_ok-left.left, c.in_ok-left.ensures.ok) c.in_err-right.ensures.err
 
 pub returns-in_err-diff-clause-err : goal.returns-in_err-diff-clause-err
 returns-in_err-diff-clause-err g c =

@@ -1,4 +1,5 @@
-use Rattle.std.proofs.Common.{subst, sym}
+use Rattle.std.proofs.Common.{◌∙◌, ◌++◌, ap, subst, sym}
+use Rattle.rinqebo_load.specs.Warned.{warnings_met}
 use Rattle.rinqebo_run.proofs.Listing.{tells_tests}
 use Rattle.rinqebo_run.proofs.Refused.{want_evaluated}
 use Rattle.rinqebo_run.specs.Listed.{HasObjects}
@@ -13,7 +14,10 @@ returns-clause-ok g c =
 
 pub returns-clause-objects : goal.returns-clause-objects
 returns-clause-objects g c =
-    subst HasObjects (sym c.in_ok-report.ensures.content) c.in_ok-content.ensures.objects
+    let met = warnings_met c.args.session.now in
+    subst (HasObjects met) (sym c.in_ok-report.ensures.content)
+    (subst (λ warnings. HasObjects warnings c.in_ok-content.content)
+    (c.in_ok-config.ensures.warnings ∙ ap (λ old. old ++ met) c.new-warnings.ensures) c.in_ok-content.ensures.objects)
 
 pub returns-in_err-findings-clause-err : goal.returns-in_err-findings-clause-err
 returns-in_err-findings-clause-err g c =

@@ -15,7 +15,7 @@ returns-clause-told g c =
     c.in_ok-on.ensures (c.in_ok-chain.ensures c.requires) (ap borrowed_view c.deref-2.ensures.value)
     c.in_ok-rows.ensures.tests c.in_ok-rows.ensures.unused
     (reported_in _ _ _ _ c.deref-3.ensures.value c.in_ok-unused_origins.ensures) c.in_ok-scripts_of_list.ensures
-    c.in_ok-objects.ensures
+    c.in_ok-objects.ensures.objects
 
 pub returns-clause-requested : goal.returns-clause-requested
 returns-clause-requested g c = record {
@@ -24,3 +24,6 @@ returns-clause-requested g c = record {
   requested = requested_on c.args.session.now c.args.profile.now c.args.mode _ _ _
       (ap borrowed_view c.deref.ensures.value) c.in_ok-requested.ensures;
 }
+
+pub returns-clause-objects : goal.returns-clause-objects
+returns-clause-objects g c = c.in_ok-objects.ensures.findings

@@ -9,9 +9,7 @@ returns-in-Ok-clause-ok g c =
     let list = c.args.list.now in
     writes_list c.args.session.now list.profile.now list.mode list.settings.now c.args.paper c.in_ok-head.head
     c.in-Ok.field-0 c.in_ok-config.config _ _ c.in_ok-config.ensures.accepted c.in_ok-config.ensures.means
-    c.in_ok-config.ensures.known c.in_ok-head.ensures.about c.in-Ok.ensures.told c.in-Ok.ensures.requested
-    c.in_ok-config.ensures.looked_up
-    c.in-Ok.ensures.page
+    c.in_ok-config.ensures.known c.in_ok-head.ensures.about c.in_ok-config.ensures.looked_up c.in-Ok.ensures.ok
 
 pub returns-clause-err : goal.returns-clause-err
 returns-clause-err g c =

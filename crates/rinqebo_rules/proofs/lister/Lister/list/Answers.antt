@@ -1,13 +1,13 @@
 use Rattle.std.proofs.Common.{◌≡◌, ◌∙◌, ap, map, refl, subst, take}
 use Rattle.std.proofs.lemmas.List.{take_all}
 use Rattle.std.specs.List.{AllZip}
-use Rattle.nextest_engines.specs.Engines.{test_view}
 use Rattle.nextest_lists.specs.ListView.{list_test_view}
 use Rattle.nextest_profiles.specs.Meaning.{profile_meaning}
 use Rattle.nextest_settings.specs.Queries.{query_in}
 use Rattle.rinqebo_rules.specs.Rows.{IsTestReported}
-use Rattle.rinqebo_rules.specs.Unused.{AreUnusedIn}
+use Rattle.rinqebo_rules.specs.Unused.{AreUnusedIn, AreUsedIn}
 use Rattle.rinqebo_rules.proofs.Listing.{zip_mapped}
+use Rattle.rinqebo_rules.proofs.Marked.{map_more, twice}
 use Rattle.rinqebo_rules.proofs.RowsMore.{zip_more_by}
 use Rattle.rinqebo_rules.proofs.lister.Lister.list.Goals as goal
 
@@ -18,11 +18,14 @@ loop-test-preserved g c =
     let profile = profile_meaning F.meaning self.profile.now in
     let before = c.loop-test.invariant in
     record {
-      same = c.rows_of.ensures.same ∙ before.same;
+      same = c.next_test.ensures.same ∙ before.same;
       told = zip_more_by (λ basis test. IsTestReported basis (query_in F.holds profile (list_test_view test).test) self.mode profile
           self.asked.now (list_test_view test)) c.args.origins.now c.loop-test.origins before.same c.args.listed.now
-          c.loop-test.test-index _ _ c.loop-test-test.true refl _ _ _ before.told c.in_ok-rows_of.ensures.told
+          c.loop-test.test-index _ _ c.loop-test-test.true refl _ _ _ before.told c.in_ok-next_test.ensures.told
           c.in_ok-push.ensures.items;
+      marked = subst (λ tests. AreUsedIn tests self.mode profile c.next_test.new.used)
+          (map_more (λ test. query_in F.holds profile (list_test_view test).test) c.args.listed.now
+          c.loop-test.test-index _ _ c.loop-test-test.true refl) (c.in_ok-next_test.ensures.used _ before.marked);
     }
 
 pub returns-clause-tests : goal.returns-clause-tests
@@ -41,6 +44,11 @@ returns-clause-tests g c =
 pub returns-clause-unused : goal.returns-clause-unused
 returns-clause-unused g c =
     let F = g.F.Filters in
-    let profile = profile_meaning F.meaning c.args.self.now.profile.now in
-    subst (λ tests. AreUnusedIn (map (query_in F.holds profile) tests) profile c.in_ok-unused.unused)
-    (ap (map test_view) c.deref.ensures.value ∙ c.in_ok-queries.ensures) c.in_ok-unused.ensures
+    let self = c.args.self.now in
+    let profile = profile_meaning F.meaning self.profile.now in
+    let listed = c.args.listed.now in
+    subst (λ tests. AreUnusedIn tests profile c.in_ok-unused.unused)
+    (ap (map (λ test. query_in F.holds profile (list_test_view test).test))
+    (take_all c.loop-test.test-index listed c.loop-test-test.false)
+    ∙ twice (query_in F.holds profile) (λ t. t.test) list_test_view listed)
+    (c.in_ok-unused.ensures _ self.mode c.loop-test.invariant.marked)

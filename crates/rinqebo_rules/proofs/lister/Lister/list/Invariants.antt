@@ -1,9 +1,10 @@
-use Rattle.std.proofs.Common.{◌≡◌, take}
+use Rattle.std.proofs.Common.{◌≡◌, map, take}
 use Rattle.std.specs.List.{AllZip}
 use Rattle.nextest_lists.specs.ListView.{list_test_view}
 use Rattle.nextest_profiles.specs.Meaning.{profile_meaning}
 use Rattle.nextest_settings.specs.Queries.{query_in}
 use Rattle.rinqebo_rules.specs.Rows.{IsTestReported}
+use Rattle.rinqebo_rules.specs.Unused.{AreUsedIn}
 use Rattle.rinqebo_rules.proofs.lister.Lister.list.Given as goal
 
 -- the tests so far are told
@@ -15,4 +16,6 @@ invariant-loop-test g l =
       same : l.origins ≡ l.initial.origins;
       told : AllZip (λ test. IsTestReported l.initial.origins (query_in F.holds profile (list_test_view test).test)
           l.self.mode profile l.self.asked.now (list_test_view test)) (take l.test-index l.listed) l.tests.items;
+      marked : AreUsedIn (map (λ test. query_in F.holds profile (list_test_view test).test) (take l.test-index l.listed))
+          l.self.mode profile l.used;
     }

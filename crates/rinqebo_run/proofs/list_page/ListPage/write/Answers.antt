@@ -1,4 +1,5 @@
-use Rattle.std.proofs.Common.{◌≡◌, None, ap, arith, inl, length, subst}
+use Rattle.std.proofs.Common.{◌≡◌, ◌∙◌, ◌<◌, ◌^◌, None, ap, inl, length, subst, sym}
+use Rattle.std.proofs.lemmas.Slice.Zip.{AllZip-long}
 use Rattle.filter_language.specs.Filtersets.{marks_view}
 use Rattle.filter_engine.specs.Compiling.{names_of}
 use Rattle.filter_engine.specs.Engine.{filter_holds}
@@ -18,32 +19,29 @@ use Rattle.rinqebo_run.proofs.list_page.ListPage.write.Goals as goal
 pub profile_on-requires : goal.profile_on-requires
 profile_on-requires g c = c.requires
 
-pub returns-clause-told : goal.returns-clause-told
-returns-clause-told g c =
+pub returns-clause-ok : goal.returns-clause-ok
+returns-clause-ok g c =
     let self = c.args.self.now in
     let list = self.list in
-    listed_here self.session.now self.config.now list.profile.now list.mode list.settings.now c.in_ok-on.on
-    (borrowed_view c.in_ok-chain.chain.items) (borrowed_view c.deref-2.result.now) _ _ _ _ None c.in_ok-on.ensures
-    (c.in_ok-chain.ensures c.requires) (ap borrowed_view c.deref-2.ensures.value) c.in_ok-rows.ensures.tests
-    c.in_ok-rows.ensures.unused c.in_ok-unused.ensures.origins c.in_ok-scripts.ensures tt
-
-pub returns-clause-requested : goal.returns-clause-requested
-returns-clause-requested g c =
-    let self = c.args.self.now in
+    let written = c.in_ok-write_rows.ensures.tests in
+    let same : length (list_tests (list_view self.session.now.tests)) ≡ length written.tests =
+    sym (AllZip-long _ (list_tests (list_view self.session.now.tests)) written.tests written.are_reported) in
+    let all : c.in_ok-write_rows.field-0.0 ≡ length written.tests = c.in_ok-write_rows.ensures.count ∙ same in
+    let names = borrowed_view c.in_ok-chain.chain.items in
     record {
-      chain = borrowed_view c.in_ok-chain.chain.items;
+      tests = written.tests;
+      fit = subst (λ n. n < 2 ^ 63) all c.in_ok-write_rows.ensures.fits;
+      told = listed_here self.session.now self.config.now list.profile.now list.mode list.settings.now c.in_ok-on.on
+          names (borrowed_view c.deref-2.result.now) _ written.tests _ _ None c.in_ok-on.ensures
+          (c.in_ok-chain.ensures c.requires) (ap borrowed_view c.deref-2.ensures.value) written.are_reported
+          c.in_ok-write_rows.ensures.unused c.in_ok-unused.ensures.origins c.in_ok-scripts.ensures tt;
+      chain = names;
       is_chain = c.in_ok-chain.ensures c.requires;
       requested = requested_on self.session.now self.list.profile.now self.list.mode _ _ _
           (ap borrowed_view c.deref.ensures.value) c.in_ok-asked.ensures;
+      page = whole_page self.head.now self.paper c.in_ok-asked.asked written.tests c.in_ok-unused.unused.items
+          _ _ _ _ _ all c.in_ok-write_head.ensures.ok written.page c.in_ok-unused.ensures.page;
     }
-
-pub returns-clause-page : goal.returns-clause-page
-returns-clause-page g c =
-    let self = c.args.self.now in
-    let rows = c.in_ok-rows.rows in
-    let all : c.len.result ≡ length rows.tests.items = omega (arith, rows.tests.ok.0) in
-    whole_page self.head.now self.paper c.in_ok-asked.asked c.in_ok-rows.rows.tests.items c.in_ok-unused.unused.items
-    _ _ _ _ _ all c.in_ok-write_head.ensures.ok c.in_ok-rows.ensures.page c.in_ok-unused.ensures.page
 
 pub returns-in_err-write_head-clause-err : goal.returns-in_err-write_head-clause-err
 returns-in_err-write_head-clause-err g c =
@@ -57,8 +55,8 @@ returns-in_err-write_head-clause-err g c =
     (AreFirstBy self.session.now self.config.now list.profile.now list.mode list.settings.now self.paper old new)
     old new c.in_err-write_head.field-0.0 (λ _ none. none) (λ none. absurd none) c.in_err-write_head.ensures.err)
 
-pub returns-in_err-rows-clause-err : goal.returns-in_err-rows-clause-err
-returns-in_err-rows-clause-err g c =
+pub returns-in_err-write_rows-clause-err : goal.returns-in_err-write_rows-clause-err
+returns-in_err-write_rows-clause-err g c =
     let self = c.args.self.now in
     let list = self.list in
     let old = g.O.Write.contents c.args.out.now in
@@ -73,12 +71,13 @@ returns-in_err-rows-clause-err g c =
     (borrowed_view c.in_ok-chain.chain.items) (borrowed_view c.deref-2.result.now) _ c.in_ok-asked.asked self.head.now
     self.paper old mid new c.in_ok-on.ensures (c.in_ok-chain.ensures c.requires) (ap borrowed_view c.deref-2.ensures.value)
     (ap borrowed_view c.deref.ensures.value) c.in_ok-asked.ensures c.in_ok-write_head.ensures.ok in
-    passed_stop _ c.from_residual-in_err-rows.result c.in_err-rows.field-0.0 c.from_residual-in_err-rows.ensures.1
+    passed_stop _ c.from_residual-in_err-write_rows.result c.in_err-write_rows.field-0.0
+    c.from_residual-in_err-write_rows.ensures.1
     (stops_behind First
     (AreFirstBy self.session.now self.config.now list.profile.now list.mode list.settings.now self.paper old new)
-    old mid new c.in_err-rows.field-0.0 here
+    old mid new c.in_err-write_rows.field-0.0 here
     (λ same. here (none_first basis list.mode profile list.settings.now self.head.now self.paper tests mid new same))
-    c.in_err-rows.ensures.err)
+    c.in_err-write_rows.ensures.err)
 
 pub returns-in_err-scripts-clause-err : goal.returns-in_err-scripts-clause-err
 returns-in_err-scripts-clause-err g c =
@@ -95,8 +94,8 @@ returns-in_err-scripts-clause-err g c =
     (borrowed_view c.in_ok-chain.chain.items) (borrowed_view c.deref-2.result.now) _ c.in_ok-asked.asked self.head.now
     self.paper old mid new c.in_ok-on.ensures (c.in_ok-chain.ensures c.requires) (ap borrowed_view c.deref-2.ensures.value)
     (ap borrowed_view c.deref.ensures.value) c.in_ok-asked.ensures c.in_ok-write_head.ensures.ok
-    (all_first basis list.mode profile list.settings.now self.head.now self.paper tests
-    c.in_ok-rows.rows.tests.items mid new c.in_ok-rows.ensures.tests c.in_ok-rows.ensures.page)))
+    (all_first basis list.mode profile list.settings.now self.head.now self.paper tests mid new
+    c.in_ok-write_rows.ensures.tests)))
 
 pub returns-in_err-unused-clause-err : goal.returns-in_err-unused-clause-err
 returns-in_err-unused-clause-err g c =
@@ -119,6 +118,6 @@ returns-in_err-unused-clause-err g c =
     (borrowed_view c.in_ok-chain.chain.items) (borrowed_view c.deref-2.result.now) _ c.in_ok-asked.asked self.head.now
     self.paper old mid last c.in_ok-on.ensures (c.in_ok-chain.ensures c.requires) (ap borrowed_view c.deref-2.ensures.value)
     (ap borrowed_view c.deref.ensures.value) c.in_ok-asked.ensures c.in_ok-write_head.ensures.ok
-    (all_first basis list.mode profile list.settings.now self.head.now self.paper tests
-    c.in_ok-rows.rows.tests.items mid last c.in_ok-rows.ensures.tests c.in_ok-rows.ensures.page)))
+    (all_first basis list.mode profile list.settings.now self.head.now self.paper tests mid last
+    c.in_ok-write_rows.ensures.tests)))
     c.in_err-unused.ensures.err)

@@ -1,0 +1,3 @@
+pub mod Requests
+pub mod Comparisons
+pub mod Readings

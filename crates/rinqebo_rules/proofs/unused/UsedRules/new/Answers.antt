@@ -1,0 +1,29 @@
+use Rattle.std.proofs.Common.{◌∙◌, [], false, ap, map, replicate, subst, sym}
+use Rattle.std.proofs.lemmas.List.{length-map}
+use Rattle.std.specs.List.{AllZip}
+use Rattle.nextest_settings.specs.View.{evaluated_override_view, evaluated_script_rule_view, meant_override}
+use Rattle.rinqebo_rules.proofs.Marked.{none_used}
+use Rattle.rinqebo_rules.proofs.NoneHold.{meant_overrides}
+use Rattle.rinqebo_rules.proofs.ScriptRules.{meant_scripts}
+use Rattle.rinqebo_rules.specs.Passed.{IsWritten}
+use Rattle.rinqebo_rules.specs.Unused.{is_used}
+use Rattle.rinqebo_rules.proofs.unused.UsedRules.new.Goals as goal
+
+pub returns : goal.returns
+returns g c =
+    let F = g.F.Filters in
+    let profile = c.args.profile.now in
+    let rules = c.rules-rules.result.now in
+    let overrides = meant_overrides F.meaning profile rules.overrides.items c.rules-rules.ensures.overrides in
+    let scripts = meant_scripts F.meaning profile rules.script_rules.items c.rules-rules.ensures.script_rules in
+    record {
+      overrides = c.in_ok-none_of.ensures
+          ∙ ap (λ n. replicate n false) (c.len.ensures ∙ rules.overrides.ok.0 ∙ sym (length-map rules.overrides.items _))
+          ∙ none_used _ ∙ ap (map (is_used [])) overrides;
+      script_rules = c.in_ok-none_of-2.ensures
+          ∙ ap (λ n. replicate n false)
+          (c.len-2.ensures ∙ rules.script_rules.ok.0 ∙ sym (length-map rules.script_rules.items _))
+          ∙ none_used _ ∙ ap (map (is_used [])) scripts;
+      written = subst (λ os. AllZip (IsWritten c.args.mode) os c.in_ok-some_written.field-0.items)
+          (ap (map (meant_override F.meaning)) c.deref.ensures.value ∙ overrides) c.in_ok-some_written.ensures;
+    }
