@@ -1,1 +1,4 @@
+pub mod Joining
 pub mod Loads
+pub mod Reporting
+pub mod Values

@@ -1,2 +1,7 @@
 pub mod Failures
+pub mod Faults
+pub mod Order
+pub mod Placed
 pub mod Reports
+pub mod Shown
+pub mod Subjects

@@ -1,12 +1,17 @@
 //! The finding of retries whose longest delay is shorter than the first one.
+ghost use Rattle.std.specs.Prelude.{◌≡◌, IfOk};
+ghost use Rattle.rinqebo_findings.specs.Placed.{file_and_lines};
+ghost use Rattle.rinqebo_findings.specs.Subjects.{IsDelaysFinding, IsErrorAt, subject};
+
 use crate::excerpts::{Mark, lines_of};
+use crate::findings::with_note;
 use crate::given::value_at;
 use crate::paths::path_with;
 use crate::refused::Refused;
 use nextest_places::Step;
 use rinqebo_codes::Code;
 use rinqebo_files::{SpanPart, part_place};
-use rinqebo_report::{FileLines, FilePlace, Finding, Range, Sign};
+use rinqebo_report::{FileLines, FilePlace, Finding, Range, Sign, SourceLine};
 use std::alloc::{AllocError, Global};
 
 /// The range of a key and its value, in the source at a position.
@@ -32,37 +37,56 @@ fn in_order(one: Mark, other: Mark) -> [Mark; 2] {
     }
 }
 
-/// Sets the range of a finding about a key and its value, and the lines that show it and another
-/// one where both are in one file.
-fn set_lines(
+/// The lines that show a range of a source, and another entry where both are in one file.
+fn entry_lines(
     refused: &Refused<'_, '_>,
-    found: &mut Finding,
+    source: usize,
+    range: Range,
+    related: &[Step<'_>],
+) -> Result<Vec<SourceLine>, AllocError> {
+    let (Some(other), Some(text)) = (entry_range(refused, source, related), refused.text) else {
+        return Ok(Vec::new(refused.alloc));
+    };
+    if refused.source.position != Some(source) {
+        return Ok(Vec::new(refused.alloc));
+    }
+    let fault = Mark {
+        sign: Sign::Fault,
+        range,
+    };
+    let related = Mark {
+        sign: Sign::Related,
+        range: other,
+    };
+    lines_of(refused.alloc, text, &in_order(fault, related))
+}
+
+/// Returns a finding about a key and its value, with their range, and with the lines that show them
+/// and another entry.
+fn with_entry(
+    refused: &Refused<'_, '_>,
+    found: Finding,
     fault: &[Step<'_>],
     related: &[Step<'_>],
-) -> Result<(), AllocError> {
-    let Some(place) = &mut found.place else {
-        return Ok(());
+) -> Result<Finding, AllocError>
+    ensures about { IfOk result (λ shown. subject shown ≡ subject found) }
+    ensures place { IfOk result
+        (λ shown. file_and_lines shown.place ≡ file_and_lines found.place) }
+{
+    let Some(FilePlace { source, lines, .. }) = found.place else {
+        return Ok(found);
     };
-    let source = place.source;
     let Some(range) = entry_range(refused, source, fault) else {
-        return Ok(());
+        return Ok(found);
     };
-    place.range = Some(range);
-    let (Some(other), Some(text)) = (entry_range(refused, source, related), refused.text) else {
-        return Ok(());
-    };
-    if refused.source.position == Some(source) {
-        let fault = Mark {
-            sign: Sign::Fault,
-            range,
-        };
-        let related = Mark {
-            sign: Sign::Related,
-            range: other,
-        };
-        found.lines = lines_of(refused.alloc, text, &in_order(fault, related))?;
-    }
-    Ok(())
+    let mut shown = found;
+    shown.place = Some(FilePlace {
+        source,
+        lines,
+        range: Some(range),
+    });
+    shown.lines = entry_lines(refused, source, range, related)?;
+    Ok(shown)
 }
 
 /// The text at a path, in the refused source or else in the highest one that has it.
@@ -111,26 +135,75 @@ fn elsewhere_note(
     }
 }
 
-/// Adds that the longest delay of retries is shorter than the first one: at the longest one, unless
-/// another file writes it.
-pub fn add_delays(refused: &mut Refused<'_, '_>, path: &[Step<'_>]) -> Result<(), AllocError> {
+/// The finding that the longest delay of retries is shorter than the first one, at one of the two.
+fn entry_finding(
+    refused: &Refused<'_, '_>,
+    fault: &[Step<'_>],
+    wrong: &str,
+    least: &str,
+) -> Result<Finding, AllocError>
+    ensures { IfOk result (IsErrorAt refused.now.source.layers.now refused.now.source.position
+        Code.MaxDelayBelowDelay SpanPart.Value fault.now) }
+{
     let alloc = refused.alloc;
-    let code = Code::MaxDelayBelowDelay;
-    let longest = path_with(alloc, path, "max-delay")?;
-    let first = path_with(alloc, path, "delay")?;
-    let (Some(most), Some(least)) = (text_of(refused, &longest), text_of(refused, &first)) else {
-        return refused.add_at(code, path, "`max-delay` is shorter than `delay`", None);
+    let mut found = refused.at(Code::MaxDelayBelowDelay, fault, wrong)?;
+    found.help = Some(format!(in alloc; "raise `max-delay` to at least `{least}`")?);
+    Ok(found)
+}
+
+/// Returns a finding about an entry of a table, with what it says of the other entry that it does
+/// not agree with.
+fn with_other(
+    refused: &Refused<'_, '_>,
+    found: Finding,
+    fault: &[Step<'_>],
+    related: &[Step<'_>],
+    key: &str,
+) -> Result<Finding, AllocError>
+    ensures about { IfOk result (λ shown. subject shown ≡ subject found) }
+    ensures place { IfOk result
+        (λ shown. file_and_lines shown.place ≡ file_and_lines found.place) }
+{
+    let note = elsewhere_note(refused, key, related)?;
+    let noted = with_note(found, note)?;
+    Ok(with_entry(refused, noted, fault, related)?)
+}
+
+/// The finding about one of the two delays, which does not agree with the other one.
+fn delay_finding(
+    refused: &Refused<'_, '_>,
+    fault: &[Step<'_>],
+    related: &[Step<'_>],
+    key: &str,
+    wrong: &str,
+    least: &str,
+) -> Result<Finding, AllocError>
+    ensures { IfOk result
+        (IsDelaysFinding refused.now.source.layers.now refused.now.source.position fault.now) }
+{
+    let found = entry_finding(refused, fault, wrong, least)?;
+    Ok(with_other(refused, found, fault, related, key)?)
+}
+
+/// The finding that the longest delay of retries is shorter than the first one: at the longest one,
+/// unless another file writes it.
+pub fn delays_finding(refused: &Refused<'_, '_>, path: &[Step<'_>]) -> Result<Finding, AllocError>
+    ensures { IfOk result
+        (IsDelaysFinding refused.now.source.layers.now refused.now.source.position path.now) }
+{
+    let alloc = refused.alloc;
+    let last_path = path_with(alloc, path, "max-delay")?;
+    let first_path = path_with(alloc, path, "delay")?;
+    let longest = last_path.as_slice();
+    let first = first_path.as_slice();
+    let (Some(most), Some(least)) = (text_of(refused, longest), text_of(refused, first)) else {
+        let code = Code::MaxDelayBelowDelay;
+        return Ok(refused.at(code, path, "`max-delay` is shorter than `delay`")?);
     };
     let wrong = format!(in alloc; "`max-delay` ({most}) is shorter than `delay` ({least})")?;
-    let has_longest = writes(refused, &longest);
-    let fault = if has_longest { &longest } else { &first };
-    let related = if has_longest { &first } else { &longest };
-    let other = if has_longest { "delay" } else { "max-delay" };
-    let mut found = refused.at(code, fault, wrong.as_str())?;
-    found.help = Some(format!(in alloc; "raise `max-delay` to at least `{least}`")?);
-    if let Some(note) = elsewhere_note(refused, other, related)? {
-        found.notes.push(note)?;
+    if writes(refused, longest) {
+        delay_finding(refused, longest, first, "delay", wrong.as_str(), least)
+    } else {
+        delay_finding(refused, first, longest, "max-delay", wrong.as_str(), least)
     }
-    set_lines(refused, &mut found, fault, related)?;
-    refused.add_finding(found)
 }

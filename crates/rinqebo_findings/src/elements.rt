@@ -1,15 +1,22 @@
 //! Findings of values that a file may not have where it writes them.
-use crate::delays::add_delays;
-use crate::expected::expected_at;
-use crate::findings::SourceAt;
+ghost use Rattle.std.specs.Prelude.{◌≡◌, IfOk, None};
+ghost use Rattle.rinqebo_findings.specs.Subjects.{IsElementFinding, IsErrorAt, code_of, lack_part, lack_path, part_of};
+
+use crate::below::below_notes;
+use crate::delays::delays_finding;
+use crate::expected::{expected_at, expected_name, expected_text};
+use crate::findings::{SourceAt, with_note};
 use crate::given::{kind_words, value_at};
+use crate::headers::header_text;
 use crate::hints::word_hint;
-use crate::paths::{path_text, path_with, spelled_path};
+use crate::paths::{path_with, spelled_path};
 use crate::refused::Refused;
 use crate::refused_values::Fault;
 use crate::shapes::shape_at;
 use crate::spellings::spelling;
-use crate::tables::{called, keys_note, script_header, stray_key, unknown_key_text};
+use crate::tables::{
+    called, keys_note, script_header, stray_key, unknown_key_help, unknown_key_text,
+};
 use nextest_config::{ElementCause, ElementFault, Tree};
 use nextest_places::Step;
 use nextest_shape::file_shape;
@@ -51,6 +58,9 @@ fn bad_text(
 ) -> Result<String, AllocError> {
     match found {
         Some(Tree::Text(text)) if text.as_str() == given => {
+            if given.is_empty() {
+                return format!(in alloc; "{name} is empty");
+            }
             format!(in alloc; "{name} is `{given}`")
         }
         _ => format!(in alloc; "`{given}` is not a valid name here"),
@@ -77,11 +87,14 @@ fn wrong_element(
     }
 }
 
-/// Whether the key is wrong or the value, where a table or a value is refused.
-fn wrong_part(cause: &ElementCause) -> SpanPart {
+/// Whether the key is wrong or the value.
+fn wrong_part(cause: &ElementCause) -> SpanPart
+    ensures { result ≡ part_of cause.now }
+{
     match cause {
-        ElementCause::Missing(_) | ElementCause::UnknownField => SpanPart::Key,
+        ElementCause::UnknownField => SpanPart::Key,
         ElementCause::WrongKind
+        | ElementCause::Missing(_)
         | ElementCause::BadValue { .. }
         | ElementCause::OutOfRange
         | ElementCause::Memory => SpanPart::Value,
@@ -89,7 +102,9 @@ fn wrong_part(cause: &ElementCause) -> SpanPart {
 }
 
 /// The code of a value that is refused.
-fn element_code(cause: &ElementCause) -> Code {
+fn element_code(cause: &ElementCause) -> Code
+    ensures { result ≡ code_of cause.now }
+{
     match cause {
         ElementCause::WrongKind => Code::WrongKind,
         ElementCause::Missing(_) => Code::MissingKey,
@@ -99,14 +114,36 @@ fn element_code(cause: &ElementCause) -> Code {
     }
 }
 
+/// What is expected in place of a text that is refused, as the shape of a file has it, or else as a
+/// reader words it. The text is the value at the path, or else the key that ends it.
+fn wanted_text(
+    alloc: Global,
+    source: SourceAt<'_, '_>,
+    path: &[Step<'_>],
+    given: &str,
+    expected: &str,
+) -> Result<Option<String>, AllocError> {
+    let words = match value_at(source, path) {
+        Some(Tree::Text(text)) if text.as_str() == given => expected_text(alloc, path)?,
+        _ => expected_name(alloc, path)?,
+    };
+    match words {
+        Some(words) => Ok(Some(words)),
+        None => Ok(Some(String::from_str(alloc, expected)?)),
+    }
+}
+
 /// What is expected in place of a value that is refused.
 fn wanted(
     alloc: Global,
+    source: SourceAt<'_, '_>,
     cause: &ElementCause,
     path: &[Step<'_>],
 ) -> Result<Option<String>, AllocError> {
     match cause {
-        ElementCause::BadValue { expected, .. } => Ok(Some(String::from_str(alloc, *expected)?)),
+        ElementCause::BadValue { given, expected } => {
+            wanted_text(alloc, source, path, given.as_str(), *expected)
+        }
         ElementCause::WrongKind
         | ElementCause::Missing(_)
         | ElementCause::OutOfRange
@@ -122,7 +159,7 @@ fn spelled(
     path: &[Step<'_>],
 ) -> Result<Option<String>, AllocError> {
     let file = file_shape(alloc)?;
-    let header = path_text(alloc, path)?;
+    let header = header_text(alloc, path)?;
     match (shape_at(&file, path), value_at(source, path)) {
         (Some(shape), Some(tree)) => spelling(alloc, shape, tree, header.as_str()),
         _ => Ok(None),
@@ -141,80 +178,197 @@ fn advice(
             return Ok(Some(hint));
         }
     }
+    if let ElementCause::UnknownField = cause {
+        let (help, _place) = unknown_key_help(alloc, path)?;
+        return Ok(help);
+    }
     spelled(alloc, source, path)
 }
 
+/// The notes about a value that is refused: the keys that its table has, where it is a key.
+fn element_notes(
+    alloc: Global,
+    cause: &ElementCause,
+    path: &[Step<'_>],
+) -> Result<Vec<String>, AllocError> {
+    let mut notes = Vec::new(alloc);
+    if let (ElementCause::UnknownField, Some((_key, table))) = (cause, path.split_last()) {
+        if let Some(note) = keys_note(alloc, table)? {
+            notes.push(note)?;
+        }
+    }
+    Ok(notes)
+}
+
 /// The finding of a value that is refused.
-fn element_finding(
+fn value_finding(
     refused: &Refused<'_, '_>,
     cause: &ElementCause,
     path: &[Step<'_>],
-) -> Result<Finding, AllocError> {
+) -> Result<Finding, AllocError>
+    ensures { IfOk result (IsErrorAt refused.now.source.layers.now refused.now.source.position
+        (code_of cause.now) (part_of cause.now) path.now) }
+{
     let alloc = refused.alloc;
     let wrong = wrong_element(alloc, refused.source, cause, path)?;
     let code = element_code(cause);
     let mut found = refused.part_at(code, path, wrong_part(cause), wrong.as_str())?;
-    found.expected = wanted(alloc, cause, path)?;
+    found.expected = wanted(alloc, refused.source, cause, path)?;
     found.help = advice(alloc, refused.source, cause, path)?;
+    found.notes = element_notes(alloc, cause, path)?;
     Ok(found)
 }
 
-/// The path of a key of the table in which a value is refused.
-fn path_of_stray<'p>(
-    alloc: Global,
-    source: SourceAt<'p, '_>,
-    fault: &'p ElementFault,
-    stray: &'p str,
-) -> Result<Vec<Step<'p>>, AllocError> {
-    let refusal = Fault::Value(&fault.cause);
-    let table = spelled_path(alloc, source, fault.path.as_str(), refusal)?;
-    path_with(alloc, &table, stray)
+/// Whether there is a table at a path.
+fn has_table(source: SourceAt<'_, '_>, path: &[Step<'_>]) -> bool {
+    matches!(value_at(source, path), Some(Tree::Table(_)))
 }
 
-/// Adds that a table lacks a key: at a key that it does not know, if one is near.
-fn add_missing(
-    refused: &mut Refused<'_, '_>,
-    fault: &ElementFault,
-    key: &str,
+/// The finding of a value that is refused, other than that of a table that lacks a key.
+fn element_finding(
+    refused: &Refused<'_, '_>,
+    cause: &ElementCause,
     path: &[Step<'_>],
-) -> Result<(), AllocError> {
-    let alloc = refused.alloc;
-    let name = called(alloc, path)?;
-    let wrong = format!(in alloc; "{name} needs `{key}`")?;
-    let stray = match value_at(refused.source, path) {
-        Some(table) => stray_key(alloc, path, table, key)?,
-        None => None,
-    };
-    let mut found = match &stray {
-        Some(stray) => {
-            let at = path_of_stray(alloc, refused.source, fault, stray.as_str())?;
-            refused.part_at(Code::MissingKey, &at, SpanPart::Key, wrong.as_str())?
+) -> Result<Finding, AllocError>
+    ensures { IfOk result (IsElementFinding refused.now.source.layers.now
+        refused.now.source.position cause.now path.now None) }
+{
+    match cause {
+        ElementCause::OutOfRange if has_table(refused.source, path) => {
+            Ok(delays_finding(refused, path)?)
         }
-        None => refused.part_at(Code::MissingKey, path, SpanPart::Key, wrong.as_str())?,
-    };
-    if stray.is_some() {
-        found.help = Some(format!(in alloc; "did you mean `{key}`?")?);
-        found.help_place = HelpPlace::Beside;
-    } else {
-        found.help = script_header(alloc, path, value_at(refused.source, path))?;
+        cause => Ok(value_finding(refused, cause, path)?),
     }
-    if let Some(note) = keys_note(alloc, path)? {
-        found.notes.push(note)?;
+}
+
+/// That the table at a path lacks a key, and may have another one in its place.
+fn lack_text(
+    alloc: Global,
+    key: &str,
+    table: &[Step<'_>],
+    stray: Option<&str>,
+) -> Result<String, AllocError> {
+    let name = called(alloc, table)?;
+    match stray {
+        Some(stray) => format!(in alloc; "{name} needs `{key}`, not `{stray}`"),
+        None if key == "delay" => {
+            format!(in alloc; "{name} needs `delay`, as `backoff` is `exponential`")
+        }
+        None => format!(in alloc; "{name} needs `{key}`"),
     }
-    refused.add_finding(found)
+}
+
+/// What to do about a key that the table at a path lacks, and where that is shown: it may have
+/// another one in its place.
+fn lack_help(
+    refused: &Refused<'_, '_>,
+    key: &str,
+    table: &[Step<'_>],
+    has_stray: bool,
+) -> Result<(Option<String>, HelpPlace), AllocError> {
+    let alloc = refused.alloc;
+    if has_stray {
+        let hint = format!(in alloc; "did you mean `{key}`?")?;
+        return Ok((Some(hint), HelpPlace::Beside));
+    }
+    let help = script_header(alloc, table, value_at(refused.source, table))?;
+    Ok((help, HelpPlace::Below))
+}
+
+/// The finding, at a path, that the table at another one lacks a key: at the key that it has in its
+/// place, or at the table itself.
+fn lack_finding(
+    refused: &Refused<'_, '_>,
+    key: &str,
+    table: &[Step<'_>],
+    at: &[Step<'_>],
+    part: SpanPart,
+    stray: Option<&str>,
+) -> Result<Finding, AllocError>
+    ensures { IfOk result (IsErrorAt refused.now.source.layers.now refused.now.source.position
+        Code.MissingKey part at.now) }
+{
+    let wrong = lack_text(refused.alloc, key, table, stray)?;
+    let (help, help_place) = lack_help(refused, key, table, stray.is_some())?;
+    let note = keys_note(refused.alloc, table)?;
+    let mut found = refused.part_at(Code::MissingKey, at, part, wrong.as_str())?;
+    found.help = help;
+    found.help_place = help_place;
+    found.notes = below_notes(refused.alloc, refused.source, table)?;
+    Ok(with_note(found, note)?)
+}
+
+/// The finding that the table at a path lacks a key: at the key that it has in its place, if it has
+/// one.
+fn missing_finding<'x>(
+    refused: &Refused<'_, '_>,
+    key: &str,
+    table: &[Step<'x>],
+    stray: Option<&'x str>,
+) -> Result<Finding, AllocError>
+    ensures { IfOk result (IsErrorAt refused.now.source.layers.now refused.now.source.position
+        Code.MissingKey (lack_part stray.entry) (lack_path table.now stray.entry)) }
+{
+    match stray {
+        Some(stray) => {
+            let at = path_with(refused.alloc, table, stray)?;
+            Ok(lack_finding(refused, key, table, &at, SpanPart::Key, Some(stray))?)
+        }
+        None => Ok(lack_finding(refused, key, table, table, SpanPart::Value, None)?),
+    }
+}
+
+/// The finding of a fault of a value at a path. A table that lacks a key may have another one in
+/// its place.
+pub fn fault_finding<'x>(
+    refused: &Refused<'_, '_>,
+    cause: &ElementCause,
+    path: &[Step<'x>],
+    stray: Option<&'x str>,
+) -> Result<Finding, AllocError>
+    ensures { IfOk result (IsElementFinding refused.now.source.layers.now
+        refused.now.source.position cause.now path.now stray.entry) }
+{
+    match cause {
+        ElementCause::Missing(key) => { Ok(missing_finding(refused, key.as_str(), path, stray)?) }
+        cause => Ok(element_finding(refused, cause, path)?),
+    }
+}
+
+/// The key that the table at a path of a source has in place of one that it lacks, if one is near
+/// that it does not know.
+fn stray_at<'s>(
+    alloc: Global,
+    source: SourceAt<'s, '_>,
+    key: &str,
+    table: &[Step<'_>],
+) -> Result<Option<&'s str>, AllocError> {
+    match value_at(source, table) {
+        Some(tree) => stray_key(alloc, table, tree, key),
+        None => Ok(None),
+    }
+}
+
+/// The finding that the table at a path of a source lacks a key: at a key that it does not know, if
+/// one is near.
+fn missing_in_source<'s>(
+    refused: &Refused<'_, '_>,
+    source: SourceAt<'s, '_>,
+    key: &str,
+    table: &[Step<'s>],
+) -> Result<Finding, AllocError> {
+    let stray = stray_at(refused.alloc, source, key, table)?;
+    missing_finding(refused, key, table, stray)
 }
 
 /// Adds that a value is refused.
 pub fn add_element(refused: &mut Refused<'_, '_>, fault: &ElementFault) -> Result<(), AllocError> {
-    let alloc = refused.alloc;
-    let told = Fault::Value(&fault.cause);
-    let path = spelled_path(alloc, refused.source, fault.path.as_str(), told)?;
-    match (&fault.cause, value_at(refused.source, &path)) {
-        (ElementCause::Missing(key), _) => add_missing(refused, fault, key.as_str(), &path),
-        (ElementCause::OutOfRange, Some(Tree::Table(_))) => add_delays(refused, &path),
-        (cause, _) => {
-            let found = element_finding(refused, cause, &path)?;
-            refused.add_finding(found)
-        }
-    }
+    let about = Fault::Value(&fault.cause);
+    let source = refused.source;
+    let path = spelled_path(refused.alloc, source, fault.path.as_str(), about)?;
+    let found = match &fault.cause {
+        ElementCause::Missing(key) => missing_in_source(refused, source, key.as_str(), &path)?,
+        cause => element_finding(refused, cause, &path)?,
+    };
+    refused.add_finding(found)
 }

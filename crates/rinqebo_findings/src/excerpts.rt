@@ -1,4 +1,7 @@
 //! The lines of files that show findings.
+ghost use Rattle.std.specs.Prelude.{◌≡◌, IfOk, map};
+ghost use Rattle.rinqebo_findings.specs.Shown.{facts};
+
 use nextest_config::{FileInput, ReadOutcome};
 use rinqebo_files::Gathered;
 use rinqebo_report::{CharSpan, FilePlace, Finding, LinePart, Range, Sign, SourceLine};
@@ -175,19 +178,36 @@ fn lines_at(
     }
 }
 
+/// Returns a finding, behind some others, with the lines of its file that show it, unless it has
+/// some or a page does not show it.
+fn lined(
+    alloc: Global,
+    gathered: &Gathered,
+    others: usize,
+    finding: Finding,
+) -> Result<Finding, AllocError>
+    ensures { IfOk result (λ lined. facts lined ≡ facts finding) }
+{
+    if others >= WITH_LINES || !finding.lines.is_empty() {
+        return Ok(finding);
+    }
+    let mut lined = finding;
+    lined.lines = lines_at(alloc, gathered, lined.place)?;
+    Ok(lined)
+}
+
 /// Returns findings with the lines of files that show them: the first ones, as many as a page
 /// shows.
 pub fn with_lines(
     alloc: Global,
     gathered: &Gathered,
     findings: Vec<Finding>,
-) -> Result<Vec<Finding>, AllocError> {
+) -> Result<Vec<Finding>, AllocError>
+    ensures { IfOk result (λ shown. map facts shown.items ≡ map facts findings.items) }
+{
     let mut shown = Vec::new(alloc);
     for finding in findings {
-        let mut finding = finding;
-        if shown.len() < WITH_LINES && finding.lines.is_empty() {
-            finding.lines = lines_at(alloc, gathered, finding.place)?;
-        }
+        let finding = lined(alloc, gathered, shown.len(), finding)?;
         shown.push(finding)?;
     }
     Ok(shown)

@@ -1,6 +1,9 @@
 //! Filters and platforms that are refused, with the part that is wrong.
-use crate::meant::{filter_meant, platform_meant};
+use crate::filter_words::filter_words;
+use crate::platform_words::platform_words;
 use crate::refused::Refused;
+use crate::worded::{Stopped, Worded};
+use crate::words::owned;
 use filter_engine::FaultKind;
 use nextest_config::{
     ConfigCompileError, ConfigCompileErrorKind, ConfigCompileSection, Refusal, Tree,
@@ -9,7 +12,9 @@ use nextest_places::Step;
 use nextest_spans::offsets_of;
 use rinqebo_codes::Code;
 use rinqebo_files::{host_text, profile_table, rule_table, target_text, text_at};
-use rinqebo_report::{CharSpan, FilePlace, Position, Range as ReportRange, RefusedExpression};
+use rinqebo_report::{
+    CharSpan, FilePlace, Finding, Position, Range as ReportRange, RefusedExpression,
+};
 use std::alloc::{AllocError, Global};
 use std::ops::Range;
 
@@ -111,7 +116,7 @@ fn fault_range(
     range_in(refused.alloc, range.start, token, span)
 }
 
-/// What to do about a refused filter, where that is not plain.
+/// What to do about a refused filter that needs more than its text.
 fn filter_help(label: &str) -> Option<&'static str> {
     if label == FaultKind::NoPackageGraph.label() {
         return Some(
@@ -121,23 +126,77 @@ fn filter_help(label: &str) -> Option<&'static str> {
     None
 }
 
-/// What to do about a filter or a platform that is refused, where that is plain.
-fn text_help(
+/// What is wrong with a refused text, in words: there are none for what its reader words well.
+fn text_words(
     alloc: Global,
     code: Code,
+    stopped: Stopped<'_>,
+) -> Result<Option<Worded>, AllocError> {
+    match code {
+        Code::InvalidFilter => filter_words(alloc, stopped),
+        _ => platform_words(alloc, stopped),
+    }
+}
+
+/// Returns a finding about a text at a path with the range in the file of a part of the text, if
+/// the file has one.
+fn with_part(
+    refused: &Refused<'_, '_>,
+    found: Finding,
+    path: &[Step<'_>],
+    part: Option<CharSpan>,
+) -> Result<Finding, AllocError> {
+    let mut found = found;
+    if let Some(range) = fault_range(refused, path, found.place, part)? {
+        if let Some(place) = &mut found.place {
+            place.range = Some(range);
+        }
+    }
+    Ok(found)
+}
+
+/// The characters of a text between two bytes.
+fn char_span(text: &str, start: usize, end: usize) -> CharSpan {
+    CharSpan {
+        from: characters_before(text, start),
+        to: characters_before(text, end),
+    }
+}
+
+/// The finding of a text that is refused, in words.
+fn worded_finding(
+    refused: &Refused<'_, '_>,
+    code: Code,
+    path: &[Step<'_>],
     text: &str,
-    label: &str,
-) -> Result<Option<String>, AllocError> {
-    if let Some(help) = filter_help(label) {
-        return Ok(Some(String::from_str(alloc, help)?));
-    }
-    if code == Code::InvalidFilter {
-        return filter_meant(alloc, text);
-    }
-    match platform_meant(text) {
-        Some(help) => Ok(Some(String::from_str(alloc, help)?)),
-        None => Ok(None),
-    }
+    worded: Worded,
+) -> Result<Finding, AllocError> {
+    let Worded {
+        start,
+        end,
+        message,
+        expected,
+        help,
+    } = worded;
+    let found = refused.at(code, path, message.as_str())?;
+    let mut found = with_part(refused, found, path, Some(char_span(text, start, end)))?;
+    found.expected = expected;
+    found.help = help;
+    Ok(found)
+}
+
+/// The finding of a text that is refused, as its reader words it.
+fn labelled_finding(
+    refused: &Refused<'_, '_>,
+    code: Code,
+    path: &[Step<'_>],
+    stopped: Stopped<'_>,
+) -> Result<Finding, AllocError> {
+    let span = char_span(stopped.text, stopped.start, stopped.end);
+    let found = refused.at(code, path, stopped.label)?;
+    let mut found = with_part(refused, found, path, Some(span))?;
+    found.help = owned(refused.alloc, filter_help(stopped.label))?;
+    Ok(found)
 }
 
 /// Adds what is wrong with a text at a path.
@@ -152,15 +211,17 @@ fn add_text(
     let Some(span) = &refusal.span else {
         return refused.add_at(code, path, refusal.message.as_str(), None);
     };
-    let mut found = refused.at(code, path, span.label.as_str())?;
-    let refused_text = expression(alloc, text, &span.bytes)?;
-    if let Some(range) = fault_range(refused, path, found.place, refused_text.span)? {
-        if let Some(place) = &mut found.place {
-            place.range = Some(range);
-        }
-    }
-    found.expression = Some(refused_text);
-    found.help = text_help(alloc, code, text, span.label.as_str())?;
+    let stopped = Stopped {
+        text,
+        start: span.bytes.start,
+        end: span.bytes.end,
+        label: span.label.as_str(),
+    };
+    let mut found = match text_words(alloc, code, stopped)? {
+        Some(worded) => worded_finding(refused, code, path, text, worded)?,
+        None => labelled_finding(refused, code, path, stopped)?,
+    };
+    found.expression = Some(expression(alloc, text, &span.bytes)?);
     refused.add_finding(found)
 }
 

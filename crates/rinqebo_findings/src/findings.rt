@@ -1,4 +1,11 @@
 //! Findings: how they are made, and those of warnings.
+ghost use Rattle.std.specs.Prelude.{◌≡◌, IfOk, Some, None};
+ghost use Rattle.rinqebo_codes.specs.Codes.{code_word};
+ghost use Rattle.rinqebo_findings.specs.Placed.{IsPlaceIn};
+ghost use Rattle.rinqebo_findings.specs.Subjects.{shown_path, subject};
+
+use crate::given::value_at;
+use crate::headers::header_text;
 use crate::paths::{path_text, spelled_path};
 use crate::refused_values::Fault;
 use crate::tables::{keys_note, unknown_key_help, unknown_key_text};
@@ -41,8 +48,13 @@ impl<'l, 't> SourceAt<'l, 't> {
     }
 
     /// The place of the value at a path of the source, or of its key.
-    fn place_at(self, path: &[Step<'_>], part: SpanPart) -> Option<FilePlace> {
-        Some(part_place(self.layers, self.position?, path, part))
+    fn place_at(self, path: &[Step<'_>], part: SpanPart) -> Option<FilePlace>
+        ensures { IsPlaceIn part self.entry.layers.now self.entry.position path.now result }
+    {
+        match self.position {
+            Some(source) => Some(part_place(self.layers, source, path, part)),
+            None => None,
+        }
     }
 }
 
@@ -66,7 +78,7 @@ impl Label {
 }
 
 /// What the findings of unknown keys are called.
-const UNKNOWN_KEY: Label = Label {
+pub const UNKNOWN_KEY: Label = Label {
     code: Code::UnknownKey,
     upstream: Some("UnknownConfigKeys"),
 };
@@ -104,7 +116,10 @@ pub fn finding(
     label: Label,
     source: SourceAt<'_, '_>,
     message: String,
-) -> Result<Finding, AllocError> {
+) -> Result<Finding, AllocError>
+    ensures { IfOk result (λ found. subject found
+        ≡ record { level = level; code = code_word label.code; path = None }) }
+{
     let code = String::from_str(alloc, label.code.word())?;
     let mut found = Finding::new(alloc, level, code, message);
     found.upstream = copied(alloc, label.upstream)?;
@@ -121,15 +136,38 @@ pub fn finding_at(
     path: &[Step<'_>],
     part: SpanPart,
     message: String,
-) -> Result<Finding, AllocError> {
+) -> Result<Finding, AllocError>
+    ensures about { IfOk result (λ found. subject found ≡ record {
+      level = level;
+      code = code_word label.code;
+      path = Some (shown_path path.now);
+    }) }
+    ensures place { IfOk result (λ found.
+        IsPlaceIn part source.entry.layers.now source.entry.position path.now found.place) }
+{
     let mut found = finding(alloc, level, label, source, message)?;
     found.place = source.place_at(path, part);
     found.path = Some(path_text(alloc, path)?);
     Ok(found)
 }
 
+/// Returns a finding with one more note, if there is one.
+pub fn with_note(found: Finding, note: Option<String>) -> Result<Finding, AllocError>
+    ensures about { IfOk result (λ noted. subject noted ≡ subject found) }
+    ensures place { IfOk result (λ noted. noted.place ≡ found.place) }
+{
+    let mut noted = found;
+    match note {
+        Some(note) => {
+            noted.notes.push(note)?;
+            Ok(noted)
+        }
+        None => Ok(noted),
+    }
+}
+
 /// A warning about a key of a source.
-fn key_warning(
+pub fn key_warning(
     alloc: Global,
     label: Label,
     source: SourceAt<'_, '_>,
@@ -148,12 +186,10 @@ fn unknown_key(alloc: Global, source: SourceAt<'_, '_>, path: &str) -> Result<Fi
     let (help, help_place) = unknown_key_help(alloc, &at)?;
     found.help = help;
     found.help_place = help_place;
-    if let Some((_key, table)) = at.split_last() {
-        if let Some(note) = keys_note(alloc, table)? {
-            found.notes.push(note)?;
-        }
+    match at.split_last() {
+        Some((_key, table)) => with_note(found, keys_note(alloc, table)?),
+        None => Ok(found),
     }
-    Ok(found)
 }
 
 /// Warns of a profile whose name is reserved.
@@ -165,13 +201,30 @@ fn reserved_profile(
     let message = format!(in alloc;
         "`{name}`: names of profiles that begin with `default-` are nextest's own"
     )?;
-    key_warning(
+    let mut found = key_warning(
         alloc,
         RESERVED_PROFILE,
         source,
         &[Step::Key("profile"), Step::Key(name)],
         message,
-    )
+    )?;
+    found.expected = copied(alloc, Some("a name that does not begin with `default-`"))?;
+    Ok(found)
+}
+
+/// The header of the table that takes the place of the old table of scripts.
+fn scripts_header(alloc: Global, source: SourceAt<'_, '_>) -> Result<String, AllocError> {
+    if let Some(Tree::Table(scripts)) = value_at(source, &[Step::Key("script")]) {
+        for name in scripts.keys() {
+            let path = [
+                Step::Key("scripts"),
+                Step::Key("setup"),
+                Step::Key(name.as_str()),
+            ];
+            return header_text(alloc, &path);
+        }
+    }
+    String::from_str(alloc, "scripts.setup")
 }
 
 /// Warns of scripts under the old key.
@@ -187,7 +240,8 @@ fn old_scripts(alloc: Global, source: SourceAt<'_, '_>) -> Result<Finding, Alloc
         &[Step::Key("script")],
         message,
     )?;
-    found.help = Some(String::from_str(alloc, "write `scripts.setup`")?);
+    let header = scripts_header(alloc, source)?;
+    found.help = Some(format!(in alloc; "write `[{header}]`")?);
     Ok(found)
 }
 
@@ -199,7 +253,7 @@ fn empty_rules(
     count: usize,
 ) -> Result<Finding, AllocError> {
     let message = format!(in alloc; "rules that name no script: {count}")?;
-    key_warning(
+    let mut found = key_warning(
         alloc,
         EMPTY_SCRIPT_RULE,
         source,
@@ -209,7 +263,9 @@ fn empty_rules(
             Step::Key("scripts"),
         ],
         message,
-    )
+    )?;
+    found.expected = copied(alloc, Some("`setup`, `list-wrapper` or `run-wrapper`"))?;
+    Ok(found)
 }
 
 /// The source that a warning is about.

@@ -12,7 +12,7 @@ fn below<'t>(tree: &'t Tree, step: Step<'_>) -> Option<&'t Tree> {
 }
 
 /// What is at a path below a tree.
-fn tree_at<'t>(tree: &'t Tree, path: &[Step<'_>]) -> Option<&'t Tree> {
+pub fn tree_at<'t>(tree: &'t Tree, path: &[Step<'_>]) -> Option<&'t Tree> {
     let mut found = tree;
     for step in path {
         found = below(found, *step)?;

@@ -1,41 +1,39 @@
 //! Findings of parents that profiles may not have.
 use crate::cycles::{add_cycle, parent_path};
+use crate::hints::near_hint;
 use crate::refused::Refused;
+use crate::words::quoted;
 use nextest_config::InheritsError;
 use rinqebo_codes::Code;
 use rinqebo_files::Layer;
-use rinqebo_request::name_hint;
 use std::alloc::{AllocError, Global};
 
-/// The names of the profiles of all layers.
-fn profile_names<'l>(alloc: Global, layers: &'l [Layer]) -> Result<Vec<&'l str>, AllocError> {
-    let mut names = Vec::new(alloc);
-    for layer in layers {
-        let Some(tree) = layer.tree() else {
-            continue;
-        };
-        let Some(profiles) = tree.get("profile") else {
-            continue;
-        };
-        let Some(members) = profiles.as_table() else {
-            continue;
-        };
-        for name in members.keys() {
+/// Adds the names of the profiles of a layer that are not among others.
+fn add_names<'l>(layer: &'l Layer<'_>, names: &mut Vec<&'l str>) -> Result<(), AllocError> {
+    let Some(tree) = layer.tree() else {
+        return Ok(());
+    };
+    let Some(profiles) = tree.get("profile") else {
+        return Ok(());
+    };
+    let Some(members) = profiles.as_table() else {
+        return Ok(());
+    };
+    for name in members.keys() {
+        if !names.iter().any(|other| *other == name.as_str()) {
             names.push(name.as_str())?;
         }
     }
-    Ok(names)
+    Ok(())
 }
 
-/// Adds what is wrong with the parent that a profile names.
-fn add_at_parent(
-    refused: &mut Refused<'_, '_>,
-    code: Code,
-    profile: &str,
-    wrong: &str,
-    help: Option<String>,
-) -> Result<(), AllocError> {
-    refused.add_at(code, &parent_path(profile), wrong, help)
+/// The names of the profiles of all layers, each once.
+fn profile_names<'l>(alloc: Global, layers: &'l [Layer]) -> Result<Vec<&'l str>, AllocError> {
+    let mut names = Vec::new(alloc);
+    for layer in layers {
+        add_names(layer, &mut names)?;
+    }
+    Ok(names)
 }
 
 /// The code of what is wrong with a parent.
@@ -48,20 +46,66 @@ fn parent_code(error: &InheritsError) -> Code {
     }
 }
 
+/// Adds that a profile may not inherit, or not from itself.
+fn add_no_parent(
+    refused: &mut Refused<'_, '_>,
+    code: Code,
+    profile: &str,
+    wrong: &str,
+    expected: &str,
+) -> Result<(), AllocError> {
+    let alloc = refused.alloc;
+    let mut found = refused.at(code, &parent_path(profile), wrong)?;
+    found.expected = Some(String::from_str(alloc, expected)?);
+    refused.add_finding(found)
+}
+
+/// Adds that the parent of a profile is not known.
+fn add_unknown_parent(
+    refused: &mut Refused<'_, '_>,
+    profile: &str,
+    parent: &str,
+    wrong: &str,
+) -> Result<(), AllocError> {
+    let alloc = refused.alloc;
+    let names = profile_names(alloc, refused.source.layers)?;
+    let mut found = refused.at(Code::UnknownParent, &parent_path(profile), wrong)?;
+    found.expected = Some(quoted(alloc, &names, " or ")?);
+    found.help = near_hint(alloc, parent, &names)?;
+    refused.add_finding(found)
+}
+
 /// What is wrong with a parent.
 fn add_parent(refused: &mut Refused<'_, '_>, error: &InheritsError) -> Result<(), AllocError> {
     let alloc = refused.alloc;
-    let wrong = error.to_string(alloc)?;
     let code = parent_code(error);
     match error {
-        InheritsError::DefaultProfileInheritance(profile)
-        | InheritsError::SelfReferentialInheritance(profile) => {
-            add_at_parent(refused, code, profile.as_str(), wrong.as_str(), None)
+        InheritsError::DefaultProfileInheritance(profile) => {
+            let profile = profile.as_str();
+            let wrong = format!(in alloc;
+                "profile `{profile}` has `inherits`, but may not inherit from another profile"
+            )?;
+            add_no_parent(
+                refused,
+                code,
+                profile,
+                wrong.as_str(),
+                "no `inherits` in this profile",
+            )
+        }
+        InheritsError::SelfReferentialInheritance(profile) => {
+            let wrong = error.to_string(alloc)?;
+            add_no_parent(
+                refused,
+                code,
+                profile.as_str(),
+                wrong.as_str(),
+                "the name of another profile",
+            )
         }
         InheritsError::UnknownInheritance(profile, parent) => {
-            let names = profile_names(alloc, refused.source.layers)?;
-            let help = name_hint(alloc, parent.as_str(), &names)?;
-            add_at_parent(refused, code, profile.as_str(), wrong.as_str(), help)
+            let wrong = error.to_string(alloc)?;
+            add_unknown_parent(refused, profile.as_str(), parent.as_str(), wrong.as_str())
         }
         InheritsError::InheritanceCycle(cycles) => {
             for cycle in cycles {

@@ -1,4 +1,8 @@
 //! Paths into files, as lists of steps, and the texts that spell them.
+ghost use Rattle.std.specs.Prelude.{◌≡◌, ◌++◌, ◌∷◌, [], IfOk, OnOk, string_bytes};
+ghost use Rattle.nextest_faults.specs.Found.{step_text};
+ghost use Rattle.rinqebo_findings.specs.Subjects.{shown_path};
+
 use crate::findings::SourceAt;
 use crate::refused_values::{Fault, is_at_fault};
 use crate::ways::ways_of;
@@ -7,20 +11,32 @@ use nextest_places::Step;
 use nextest_shape::{Shape, file_shape};
 use std::alloc::{AllocError, Global};
 
+/// Adds a step to a text, as findings show it.
+fn push_step(alloc: Global, text: &mut String, step: &Step<'_>) -> Result<(), AllocError>
+    ensures { OnOk result
+        (string_bytes text.new ≡ string_bytes text.old ++ step_text step.now) }
+{
+    match step {
+        Step::Key(key) => text.push_str(*key),
+        Step::Position(position) => {
+            let number = format!(in alloc; "{position}")?;
+            text.push_str(number.as_str())
+        }
+    }
+}
+
 /// A path as findings show it: its keys and positions with dots between them.
-pub fn path_text(alloc: Global, path: &[Step<'_>]) -> Result<String, AllocError> {
+pub fn path_text(alloc: Global, path: &[Step<'_>]) -> Result<String, AllocError>
+    ensures { IfOk result (λ text. string_bytes text ≡ shown_path path.now) }
+{
     let mut text = String::new(alloc);
-    for (index, step) in path.iter().enumerate() {
-        if index > 0 {
-            text.push('.')?;
-        }
-        match step {
-            Step::Key(key) => text.push_str(*key)?,
-            Step::Position(position) => {
-                let number = format!(in alloc; "{position}")?;
-                text.push_str(number.as_str())?;
-            }
-        }
+    let Some((first, rest)) = path.split_first() else {
+        return Ok(text);
+    };
+    push_step(alloc, &mut text, first)?;
+    for step in rest {
+        text.push('.')?;
+        push_step(alloc, &mut text, step)?;
     }
     Ok(text)
 }
@@ -30,7 +46,9 @@ pub fn path_with<'p>(
     alloc: Global,
     table: &[Step<'p>],
     key: &'p str,
-) -> Result<Vec<Step<'p>>, AllocError> {
+) -> Result<Vec<Step<'p>>, AllocError>
+    ensures { IfOk result (λ path. path.items ≡ table.now ++ Step.Key key.entry ∷ []) }
+{
     let mut path = Vec::from_slice(alloc, table)?;
     path.push(Step::Key(key))?;
     Ok(path)

@@ -2,21 +2,24 @@
 use crate::elements::add_element;
 use crate::excerpts::text_of;
 use crate::expressions::add_refused_texts;
+use crate::features::add_features;
 use crate::findings::SourceAt;
-use crate::meant::line_help;
+use crate::foreign::{add_groups, add_scripts, add_twice};
+use crate::left_out::LeftOut;
+use crate::not_toml::add_no_document;
 use crate::parents::add_parents;
 use crate::refused::Refused;
 use crate::unknown_names::{add_script_errors, add_unknown_group};
 use nextest_config::{
-    ConfigCompileError, ConfigCompileErrorKind, ConfigCompileSection, ConfigExperimental,
-    ConfigParseError, ConfigParseErrorKind, ConfigPath, CustomTestGroup, IdentifierOwner,
-    ReadOutcome, ScriptId, ToolName, Tree, UnknownTestGroupError,
+    ConfigCompileError, ConfigCompileErrorKind, ConfigCompileSection, ConfigParseError,
+    ConfigParseErrorKind, ConfigPath, IdentifierOwner, ReadOutcome, ToolName,
+    UnknownTestGroupError,
 };
 use nextest_places::Step;
 use rinqebo_codes::Code;
 use rinqebo_files::{Layer, place_at};
 use rinqebo_load::Session;
-use rinqebo_report::{FileLines, Finding, Position, Range};
+use rinqebo_report::Finding;
 use std::alloc::{AllocError, Global};
 use std::collections::BTreeSet;
 
@@ -33,160 +36,8 @@ fn add_outcome(refused: &mut Refused<'_, '_>, outcome: &ReadOutcome) -> Result<(
     }
 }
 
-/// A text on one line.
-fn on_one_line(alloc: Global, text: &str) -> Result<String, AllocError> {
-    let mut joined = String::new(alloc);
-    for line in text.lines() {
-        if !joined.is_empty() {
-            joined.push(' ')?;
-        }
-        joined.push_str(line)?;
-    }
-    Ok(joined)
-}
-
-/// A line or a column as users count it, from 1, of one that is counted from 0.
-fn from_one(count: usize) -> u64 {
-    (count as u64).saturating_add(1)
-}
-
-/// The range of the character at a position.
-fn character_at(start: Position) -> Range {
-    Range {
-        start,
-        end: Position {
-            line: start.line,
-            column: start.column.saturating_add(1),
-        },
-    }
-}
-
-/// What to do about a line of a text, from 0, that is at fault for a reason, where that is plain.
-fn help_at(text: Option<&str>, line: usize, reason: &str) -> Option<&'static str> {
-    line_help(text?.lines().nth(line)?, reason)
-}
-
-/// The text is not a document: where it is at fault, and why.
-fn add_no_document(refused: &mut Refused<'_, '_>, message: &str) -> Result<(), AllocError> {
-    let alloc = refused.alloc;
-    let Some(fault) = refused.source.fault() else {
-        let found = refused.finding(Code::NotToml, on_one_line(alloc, message)?)?;
-        return refused.add_finding(found);
-    };
-    let mut found = refused.finding(Code::NotToml, on_one_line(alloc, fault.reason.as_str())?)?;
-    if let (Some(place), Some(position)) = (&mut found.place, fault.position) {
-        let start = Position {
-            line: from_one(position.line),
-            column: from_one(position.column),
-        };
-        place.lines = Some(FileLines {
-            first: start.line,
-            last: start.line,
-        });
-        place.range = Some(character_at(start));
-        found.column = Some(start.column);
-        if let Some(help) = help_at(refused.text, position.line, fault.reason.as_str()) {
-            found.help = Some(String::from_str(alloc, help)?);
-        }
-    }
-    refused.add_finding(found)
-}
-
-/// Groups that a source may not define.
-fn add_groups(
-    refused: &mut Refused<'_, '_>,
-    groups: &BTreeSet<CustomTestGroup>,
-    wrong: &str,
-) -> Result<(), AllocError> {
-    for group in groups.iter() {
-        let name = group.to_string(refused.alloc)?;
-        let path = [Step::Key("test-groups"), Step::Key(name.as_str())];
-        refused.add_key_at(Code::ForeignGroup, &path, wrong, None)?;
-    }
-    Ok(())
-}
-
-/// Whether scripts of a kind have one of a name.
-fn has_script(tree: &Tree, kind: &str, name: &str) -> bool {
-    let Some(scripts) = tree.get("scripts") else {
-        return false;
-    };
-    match scripts.get(kind) {
-        Some(scripts) => scripts.get(name).is_some(),
-        None => false,
-    }
-}
-
-/// The kind of the scripts of a file among which one has a name, unless it is one of the old table.
-fn script_kind(tree: Option<&Tree>, name: &str) -> Option<&'static str> {
-    match tree {
-        Some(tree) if has_script(tree, "setup", name) => Some("setup"),
-        Some(tree) if has_script(tree, "wrapper", name) => Some("wrapper"),
-        _ => None,
-    }
-}
-
-/// The path of the script of a name in a file.
-fn script_path<'p>(
-    alloc: Global,
-    tree: Option<&Tree>,
-    name: &'p str,
-) -> Result<Vec<Step<'p>>, AllocError> {
-    let mut path = Vec::new(alloc);
-    match script_kind(tree, name) {
-        Some(kind) => {
-            path.push(Step::Key("scripts"))?;
-            path.push(Step::Key(kind))?;
-        }
-        None => path.push(Step::Key("script"))?,
-    }
-    path.push(Step::Key(name))?;
-    Ok(path)
-}
-
-/// Scripts that a source may not define.
-fn add_scripts(
-    refused: &mut Refused<'_, '_>,
-    code: Code,
-    scripts: &BTreeSet<ScriptId>,
-    wrong: &str,
-) -> Result<(), AllocError> {
-    let alloc = refused.alloc;
-    for script in scripts.iter() {
-        let name = script.to_string(alloc)?;
-        let path = script_path(alloc, refused.source.tree(), name.as_str())?;
-        refused.add_key_at(code, &path, wrong, None)?;
-    }
-    Ok(())
-}
-
-/// The table that has the scripts of a file: the old one where it is alone.
-fn scripts_key(tree: Option<&Tree>) -> &'static str {
-    match tree {
-        Some(tree) if tree.get("scripts").is_none() => "script",
-        _ => "scripts",
-    }
-}
-
-/// Features that are not switched on.
-fn add_features(
-    refused: &mut Refused<'_, '_>,
-    features: &[ConfigExperimental],
-) -> Result<(), AllocError> {
-    let alloc = refused.alloc;
-    for feature in features {
-        let path = [Step::Key(scripts_key(refused.source.tree()))];
-        let wrong = format!(in alloc; "the feature `{feature}` is not switched on")?;
-        let help = format!(in alloc;
-            "write `experimental = [\"{feature}\"]`, or pass `--experimental {feature}`"
-        )?;
-        refused.add_key_at(Code::FeatureOff, &path, wrong.as_str(), Some(help))?;
-    }
-    Ok(())
-}
-
 /// The path of a section of a profile.
-fn section_path<'p>(
+pub fn section_path<'p>(
     alloc: Global,
     profile: &'p str,
     section: ConfigCompileSection,
@@ -247,11 +98,13 @@ fn add_second_file(
 
 /// Scripts under the old key and under the new one.
 fn add_both_keys(refused: &mut Refused<'_, '_>) -> Result<(), AllocError> {
+    let alloc = refused.alloc;
+    let help = String::from_str(alloc, "move the scripts of `script` to `scripts.setup`")?;
     refused.add_key_at(
         Code::TwoScriptTables,
         &[Step::Key("scripts")],
-        "there is the old table `script` beside it",
-        None,
+        "there are `scripts` and its old form, `script`",
+        Some(help),
     )
 }
 
@@ -266,14 +119,17 @@ fn add_compiles(
     Ok(())
 }
 
-/// Groups that rules set and no file defines.
+/// Groups that rules set and no file defines, but those whose definitions are refused.
 fn add_unknown_groups(
     refused: &mut Refused<'_, '_>,
     errors: &[UnknownTestGroupError],
     known_groups: &BTreeSet<String>,
 ) -> Result<(), AllocError> {
     for error in errors {
-        add_unknown_group(refused, error, known_groups)?;
+        let name = error.name.to_string(refused.alloc)?;
+        if !refused.left_out.groups.has(name.as_str()) {
+            add_unknown_group(refused, error, known_groups)?;
+        }
     }
     Ok(())
 }
@@ -295,50 +151,16 @@ fn add_kind(refused: &mut Refused<'_, '_>, kind: &ConfigParseErrorKind) -> Resul
         ConfigParseErrorKind::ExperimentalFeaturesNotEnabled { missing_features } => {
             add_features(refused, missing_features)
         }
-        ConfigParseErrorKind::InvalidTestGroupsDefined(groups) => {
-            add_groups(
-                refused,
-                groups,
-                "this group is a tool's or the organisation's",
-            )
+        ConfigParseErrorKind::InvalidTestGroupsDefined(groups)
+        | ConfigParseErrorKind::InvalidTestGroupsDefinedByTool(groups)
+        | ConfigParseErrorKind::InvalidTestGroupsDefinedByOrganisation(groups) => {
+            add_groups(refused, groups)
         }
-        ConfigParseErrorKind::InvalidTestGroupsDefinedByTool(groups) => {
-            add_groups(refused, groups, "this group is not the tool's own")
-        }
-        ConfigParseErrorKind::InvalidTestGroupsDefinedByOrganisation(groups) => {
-            add_groups(refused, groups, "this group is not the organisation's own")
-        }
-        ConfigParseErrorKind::DuplicateConfigScriptNames(ids) => {
-            add_scripts(
-                refused,
-                Code::DuplicateScript,
-                ids,
-                "this is a setup script and a wrapper script",
-            )
-        }
-        ConfigParseErrorKind::InvalidConfigScriptsDefined(ids) => {
-            add_scripts(
-                refused,
-                Code::ForeignScript,
-                ids,
-                "this script is a tool's or the organisation's",
-            )
-        }
-        ConfigParseErrorKind::InvalidConfigScriptsDefinedByTool(ids) => {
-            add_scripts(
-                refused,
-                Code::ForeignScript,
-                ids,
-                "this script is not the tool's own",
-            )
-        }
-        ConfigParseErrorKind::InvalidConfigScriptsDefinedByOrganisation(ids) => {
-            add_scripts(
-                refused,
-                Code::ForeignScript,
-                ids,
-                "this script is not the organisation's own",
-            )
+        ConfigParseErrorKind::DuplicateConfigScriptNames(ids) => add_twice(refused, ids),
+        ConfigParseErrorKind::InvalidConfigScriptsDefined(ids)
+        | ConfigParseErrorKind::InvalidConfigScriptsDefinedByTool(ids)
+        | ConfigParseErrorKind::InvalidConfigScriptsDefinedByOrganisation(ids) => {
+            add_scripts(refused, ids)
         }
         ConfigParseErrorKind::InheritanceErrors(errors) => add_parents(refused, errors),
         ConfigParseErrorKind::CompileErrors(errors) => add_compiles(refused, errors),
@@ -368,18 +190,19 @@ pub fn refused_place(layers: &[Layer], error: &ConfigParseError) -> Option<usize
     place_at(layers, refused_owner(error), error.config_file()?)
 }
 
-/// Adds the findings of a refusal.
-pub fn add_refusal(
+/// Returns the findings of a refusal of files without what is left out.
+pub fn refusal_findings(
     alloc: Global,
     session: &Session<'_>,
     error: &ConfigParseError,
-    findings: &mut Vec<Finding>,
-) -> Result<(), AllocError> {
+    left_out: &LeftOut,
+) -> Result<Vec<Finding>, AllocError> {
     let position = refused_place(&session.layers, error);
     let text = match position {
         Some(position) => text_of(session.gathered, position),
         None => None,
     };
+    let mut findings = Vec::new(alloc);
     let mut refused = Refused {
         alloc,
         source: SourceAt {
@@ -388,7 +211,9 @@ pub fn add_refusal(
         },
         text,
         upstream: error.kind().name(),
-        findings,
+        left_out,
+        findings: &mut findings,
     };
-    add_kind(&mut refused, error.kind())
+    add_kind(&mut refused, error.kind())?;
+    Ok(findings)
 }

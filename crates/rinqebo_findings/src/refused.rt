@@ -1,5 +1,11 @@
 //! The findings of a refused source.
+ghost use Rattle.std.specs.Prelude.{◌≡◌, ℕ, IfOk, IfSome, Option};
+ghost use Rattle.rinqebo_files.specs.Origins.{IsPartPlace};
+ghost use Rattle.rinqebo_findings.specs.Placed.{IsPlaceIn, IsPlacedAt};
+ghost use Rattle.rinqebo_findings.specs.Subjects.{error_at, subject};
+
 use crate::findings::{Label, SourceAt, finding, finding_at};
+use crate::left_out::LeftOut;
 use nextest_places::Step;
 use rinqebo_codes::Code;
 use rinqebo_files::{Layer, SpanPart, part_place};
@@ -16,13 +22,17 @@ pub struct Refused<'r, 't> {
     pub text: Option<&'r str>,
     /// The name that nextest-runner has for the refusal.
     pub upstream: &'static str,
+    /// The names whose definitions are left out.
+    pub left_out: &'r LeftOut,
     /// The findings so far.
     pub findings: &'r mut Vec<Finding>,
 }
 
 impl Refused<'_, '_> {
     /// What its findings of a code are called.
-    fn label(&self, code: Code) -> Label {
+    fn label(&self, code: Code) -> Label
+        ensures { result.code ≡ code }
+    {
         Label {
             code,
             upstream: Some(self.upstream),
@@ -44,23 +54,27 @@ impl Refused<'_, '_> {
         path: &[Step<'_>],
         part: SpanPart,
         wrong: &str,
-    ) -> Result<Finding, AllocError> {
+    ) -> Result<Finding, AllocError>
+        ensures about { IfOk result (λ found. subject found ≡ error_at code path.now) }
+        ensures place { IfOk result (λ found. IsPlacedAt part self.now.source.layers.now
+            self.now.source.position path.now found.place) }
+    {
         let alloc = self.alloc;
         let message = String::from_str(alloc, wrong)?;
         let level = Level::Error;
         let label = self.label(code);
         let mut found = finding_at(alloc, level, label, self.source, path, part, message)?;
-        if let Some(FilePlace { lines: None, .. }) = found.place {
-            if let Some(place) = highest_place(self.source.layers, path, part) {
-                found.place = Some(place);
-            }
-        }
+        found.place = written_place(self.source.layers, found.place, path, part);
         Ok(found)
     }
 
     /// A finding about the value at a path.
-    pub fn at(&self, code: Code, path: &[Step<'_>], wrong: &str) -> Result<Finding, AllocError> {
-        self.part_at(code, path, SpanPart::Value, wrong)
+    pub fn at(&self, code: Code, path: &[Step<'_>], wrong: &str) -> Result<Finding, AllocError>
+        ensures about { IfOk result (λ found. subject found ≡ error_at code path.now) }
+        ensures place { IfOk result (λ found. IsPlacedAt SpanPart.Value self.now.source.layers.now
+            self.now.source.position path.now found.place) }
+    {
+        Ok(self.part_at(code, path, SpanPart::Value, wrong)?)
     }
 
     /// A finding with a message alone.
@@ -102,8 +116,34 @@ impl Refused<'_, '_> {
     }
 }
 
+/// The place of the value at a path, or of its key: the one that is given, if it has lines, or else
+/// that in the highest layer that writes it.
+fn written_place(
+    layers: &[Layer],
+    place: Option<FilePlace>,
+    path: &[Step<'_>],
+    part: SpanPart,
+) -> Option<FilePlace>
+    ensures { (source : Option ℕ) → IsPlaceIn part layers.now source path.now place
+        → IsPlacedAt part layers.now source path.now result }
+{
+    let Some(own) = place else {
+        return place;
+    };
+    if own.lines.is_some() {
+        return place;
+    }
+    match highest_place(layers, path, part) {
+        Some(other) => Some(other),
+        None => place,
+    }
+}
+
 /// The place of the value at a path, or of its key, in the highest layer that writes it.
-fn highest_place(layers: &[Layer], path: &[Step<'_>], part: SpanPart) -> Option<FilePlace> {
+fn highest_place(layers: &[Layer], path: &[Step<'_>], part: SpanPart) -> Option<FilePlace>
+    ensures { IfSome result (λ place.
+        (other : ℕ) × IsPartPlace part layers.now other path.now place) }
+{
     for (source, _layer) in layers.iter().enumerate().rev() {
         let place = part_place(layers, source, path, part);
         if place.lines.is_some() {

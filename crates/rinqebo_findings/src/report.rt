@@ -1,13 +1,13 @@
 //! Reports of a session.
 ghost use Rattle.std.specs.Prelude.{◌≡◌, IfOk};
 ghost use Rattle.rinqebo_findings.specs.Reports.{IsReportOf};
+ghost use Rattle.rinqebo_findings.specs.Shown.{AreReported};
+ghost use Rattle.rinqebo_findings.specs.Faults.{ShowsFaults};
 
-use crate::above::add_refusals_above;
 use crate::excerpts::with_lines;
-use crate::findings::warning_findings;
+use crate::nextest_forms::nextest_findings;
 use crate::order::in_order;
-use crate::refusals::add_refusal;
-use crate::unreached::unreached_of;
+use crate::search::{Found, all_findings};
 use nextest_config::{ConfigParseError, DefaultConfigWarnings};
 use rinqebo_files::sources_of;
 use rinqebo_load::Session;
@@ -25,29 +25,56 @@ pub fn report_of(
 ) -> Result<Report, AllocError>
     ensures content { IfOk result (λ report. report.content ≡ content) }
     ensures about { IfOk result (IsReportOf session.now) }
+    ensures findings { IfOk result
+        (λ report. AreReported findings.items report.findings.items) }
 {
+    let ordered = in_order(findings)?;
     Ok(Report {
         root: session.gathered.paths.workspace_root.clone()?,
         sources: sources_of(alloc, &session.layers)?,
-        findings: with_lines(alloc, session.gathered, in_order(findings)?)?,
+        findings: with_lines(alloc, session.gathered, ordered)?,
         unreached,
         content,
     })
 }
 
-/// The report of a refused load: its warnings, all that the refusal says, and what is wrong with
-/// the files above by themselves.
+/// The report of a refused load: its warnings, and all that is wrong with the files.
 pub fn report_of_refusal(
     alloc: Global,
     session: &Session<'_>,
     warnings: &DefaultConfigWarnings,
     error: &ConfigParseError,
 ) -> Result<Report, AllocError>
-    ensures { IfOk result (IsReportOf session.now) }
+    ensures about { IfOk result (IsReportOf session.now) }
+    ensures faults { IfOk result
+        (λ report. ShowsFaults session.now.layers.items report.findings.items) }
 {
-    let mut findings = warning_findings(alloc, &session.layers, warnings)?;
-    add_refusal(alloc, session, error, &mut findings)?;
-    let mut unreached = unreached_of(alloc, session, error)?;
-    add_refusals_above(alloc, session, error, &mut findings, &mut unreached)?;
-    report_of(alloc, session, findings, unreached, Content::Check)
+    let found = all_findings(alloc, session, warnings, error)?;
+    let Found {
+        findings,
+        unreached,
+    } = found;
+    Ok(report_of(alloc, session, findings, unreached, Content::Check)?)
+}
+
+/// The report of a check whose load refuses: what is wrong with the files, also what nextest
+/// refuses and a load does not look at.
+pub fn report_of_refused_check(
+    alloc: Global,
+    session: &Session<'_>,
+    warnings: &DefaultConfigWarnings,
+    error: &ConfigParseError,
+) -> Result<Report, AllocError>
+    ensures about { IfOk result (IsReportOf session.now) }
+    ensures faults { IfOk result
+        (λ report. ShowsFaults session.now.layers.items report.findings.items) }
+{
+    let found = all_findings(alloc, session, warnings, error)?;
+    let Found {
+        mut findings,
+        unreached,
+    } = found;
+    let mut forms = nextest_findings(alloc, &session.layers)?;
+    findings.append(&mut forms)?;
+    Ok(report_of(alloc, session, findings, unreached, Content::Check)?)
 }

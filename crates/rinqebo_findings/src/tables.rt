@@ -1,14 +1,16 @@
 //! What tables and values are called, and the keys that tables have.
-use crate::paths::path_text;
+use crate::headers::header_text;
+use crate::hints::{name_by_front, near_name};
+use crate::shapes::shape_at;
+use crate::words::quoted;
 use nextest_config::Tree;
 use nextest_places::Step;
-use nextest_shape::{file_shape, keys_of};
+use nextest_shape::{Shape, file_shape, keys_of};
 use rinqebo_report::{HelpPlace, nearest_name};
-use rinqebo_request::name_hint;
 use std::alloc::{AllocError, Global};
 
 /// The key of the step at a place of a path, if it is one to a key.
-fn key_at<'p>(path: &[Step<'p>], place: usize) -> Option<&'p str> {
+pub fn key_at<'p>(path: &[Step<'p>], place: usize) -> Option<&'p str> {
     match path.get(place) {
         Some(Step::Key(key)) => Some(*key),
         Some(Step::Position(_)) | None => None,
@@ -54,27 +56,22 @@ fn part_of<'s>(step: Step<'s>) -> &'s str {
     }
 }
 
-/// The keys that the table at a path knows.
-pub fn known_keys(alloc: Global, path: &[Step<'_>]) -> Result<Vec<&'static str>, AllocError> {
+/// The keys that the table at a path of a file of a shape knows.
+fn keys_at(
+    alloc: Global,
+    file: &Shape,
+    path: &[Step<'_>],
+) -> Result<Vec<&'static str>, AllocError> {
     let mut parts = Vec::new(alloc);
     for step in path {
         parts.push(part_of(*step))?;
     }
-    keys_of(alloc, &file_shape(alloc)?, &parts)
+    keys_of(alloc, file, &parts)
 }
 
-/// Keys between backquotes.
-fn quoted_keys(alloc: Global, keys: &[&str]) -> Result<String, AllocError> {
-    let mut text = String::new(alloc);
-    for key in keys {
-        if !text.is_empty() {
-            text.push_str(", ")?;
-        }
-        text.push_str("`")?;
-        text.push_str(*key)?;
-        text.push_str("`")?;
-    }
-    Ok(text)
+/// The keys that the table at a path knows.
+pub fn known_keys(alloc: Global, path: &[Step<'_>]) -> Result<Vec<&'static str>, AllocError> {
+    keys_at(alloc, &file_shape(alloc)?, path)
 }
 
 /// The note that lists the keys which the table at a path knows, if it knows some.
@@ -84,18 +81,18 @@ pub fn keys_note(alloc: Global, path: &[Step<'_>]) -> Result<Option<String>, All
         return Ok(None);
     }
     let table = called(alloc, path)?;
-    let keys = quoted_keys(alloc, &keys)?;
+    let keys = quoted(alloc, &keys, ", ")?;
     Ok(Some(format!(in alloc; "keys of {table}: {keys}")?))
 }
 
 /// The key of a table that it does not know, and that is nearest to a key which it lacks, if one is
 /// near.
-pub fn stray_key(
+pub fn stray_key<'t>(
     alloc: Global,
     path: &[Step<'_>],
-    table: &Tree,
+    table: &'t Tree,
     missing: &str,
-) -> Result<Option<String>, AllocError> {
+) -> Result<Option<&'t str>, AllocError> {
     let Some(members) = table.as_table() else {
         return Ok(None);
     };
@@ -106,10 +103,7 @@ pub fn stray_key(
             strays.push(key.as_str())?;
         }
     }
-    match nearest_name(alloc, missing, &strays)? {
-        Some(key) => Ok(Some(String::from_str(alloc, key)?)),
-        None => Ok(None),
-    }
+    nearest_name(alloc, missing, &strays)
 }
 
 /// The header of the script that is meant by the first key of a table at `script.setup` or
@@ -134,17 +128,17 @@ pub fn script_header(
     Ok(None)
 }
 
-/// The path of the table of a kind that is beside or around a table.
-fn beside<'p>(
+/// A path with more steps.
+fn longer<'p>(
     alloc: Global,
-    profile: &[Step<'p>],
+    path: &[Step<'p>],
     rest: &[Step<'p>],
 ) -> Result<Vec<Step<'p>>, AllocError> {
-    let mut path = Vec::from_slice(alloc, profile)?;
+    let mut longer = Vec::from_slice(alloc, path)?;
     for step in rest {
-        path.push(*step)?;
+        longer.push(*step)?;
     }
-    Ok(path)
+    Ok(longer)
 }
 
 /// Whether the table at a path knows a key.
@@ -159,11 +153,11 @@ fn in_overrides(
     profile: &[Step<'_>],
     key: &str,
 ) -> Result<Option<String>, AllocError> {
-    let rule = beside(alloc, profile, &[Step::Key("overrides"), Step::Position(0)])?;
+    let rule = longer(alloc, profile, &[Step::Key("overrides"), Step::Position(0)])?;
     if !knows(alloc, &rule, key)? {
         return Ok(None);
     }
-    let header = path_text(alloc, profile)?;
+    let header = header_text(alloc, profile)?;
     let help = format!(in alloc;
         "`{key}` is a setting of overrides: write it in `[[{header}.overrides]]`"
     )?;
@@ -179,9 +173,48 @@ fn in_profile(
     if !knows(alloc, profile, key)? {
         return Ok(None);
     }
-    let header = path_text(alloc, profile)?;
+    let header = header_text(alloc, profile)?;
     let help = format!(in alloc; "`{key}` is a setting of profiles: write it in `[{header}]`")?;
     Ok(Some(help))
+}
+
+/// Where a key of a table belongs that is one of a table in it: the first that knows it.
+fn in_part(alloc: Global, table: &[Step<'_>], key: &str) -> Result<Option<String>, AllocError> {
+    let file = file_shape(alloc)?;
+    for part in keys_at(alloc, &file, table)? {
+        let path = longer(alloc, table, &[Step::Key(part)])?;
+        let keys = keys_at(alloc, &file, &path)?;
+        if keys.iter().any(|other| *other == key) {
+            let header = header_text(alloc, &path)?;
+            let help = format!(in alloc; "`{key}` is a key of `{part}`: write `{header}.{key}`")?;
+            return Ok(Some(help));
+        }
+    }
+    Ok(None)
+}
+
+/// The name of the profile that has a path.
+fn profile_of<'p>(path: &[Step<'p>]) -> Option<&'p str> {
+    match key_at(path, 0) {
+        Some("profile") => key_at(path, 1),
+        _ => None,
+    }
+}
+
+/// Where a key belongs that a table of a profile does not know, and another one does.
+fn place_in_profile(
+    alloc: Global,
+    table: &[Step<'_>],
+    key: &str,
+) -> Result<Option<String>, AllocError> {
+    let Some(name) = profile_of(table) else {
+        return Ok(None);
+    };
+    let profile = [Step::Key("profile"), Step::Key(name)];
+    if table.len() == 2 {
+        return in_overrides(alloc, &profile, key);
+    }
+    in_profile(alloc, &profile, key)
 }
 
 /// Where a key belongs that its table does not know, and another one does.
@@ -190,37 +223,46 @@ fn place_elsewhere(
     table: &[Step<'_>],
     key: &str,
 ) -> Result<Option<String>, AllocError> {
-    match (table.len(), key_at(table, 0)) {
-        (0, _) => in_profile(alloc, &[Step::Key("profile"), Step::Key("default")], key),
-        (1, Some("scripts")) => Ok(Some(format!(in alloc;
+    if let (1, Some("scripts")) = (table.len(), key_at(table, 0)) {
+        return Ok(Some(format!(in alloc;
             "write `[scripts.setup.{key}]` or `[scripts.wrapper.{key}]`"
-        )?)),
-        (2, Some("profile")) => in_overrides(alloc, table, key),
-        (4, Some("profile")) => match table.split_last() {
-            Some((_, rules)) => match rules.split_last() {
-                Some((_, profile)) => in_profile(alloc, profile, key),
-                None => Ok(None),
-            },
-            None => Ok(None),
-        },
-        _ => Ok(None),
+        )?));
     }
-}
-
-/// Whether one of two texts, which has three bytes at least, begins the other.
-fn begins(one: &str, other: &str) -> bool {
-    let shorter = one.len().min(other.len());
-    shorter >= 3 && (one.starts_with(other) || other.starts_with(one))
-}
-
-/// The known key that a key begins, or that begins it.
-fn prefix_hint(alloc: Global, known: &[&str], key: &str) -> Result<Option<String>, AllocError> {
-    for other in known {
-        if begins(*other, key) {
-            return Ok(Some(format!(in alloc; "did you mean `{other}`?")?));
+    if table.is_empty() {
+        let profile = [Step::Key("profile"), Step::Key("default")];
+        if let Some(help) = in_profile(alloc, &profile, key)? {
+            return Ok(Some(help));
         }
     }
-    Ok(None)
+    if let Some(help) = place_in_profile(alloc, table, key)? {
+        return Ok(Some(help));
+    }
+    in_part(alloc, table, key)
+}
+
+/// Whether the values of a key of a table are arrays of tables.
+fn is_list(alloc: Global, table: &[Step<'_>], key: &'static str) -> Result<bool, AllocError> {
+    let path = longer(alloc, table, &[Step::Key(key)])?;
+    let file = file_shape(alloc)?;
+    match shape_at(&file, &path) {
+        Some(Shape::List { items, .. }) => Ok(has_fields(items)),
+        _ => Ok(false),
+    }
+}
+
+/// Whether a shape is that of tables.
+fn has_fields(shape: &Shape) -> bool {
+    matches!(shape, Shape::Table(_))
+}
+
+/// The hint that a key of a table is meant: by its header, where it is that of an array of tables.
+fn key_hint(alloc: Global, table: &[Step<'_>], key: &'static str) -> Result<String, AllocError> {
+    if !is_list(alloc, table, key)? {
+        return format!(in alloc; "did you mean `{key}`?");
+    }
+    let path = longer(alloc, table, &[Step::Key(key)])?;
+    let header = header_text(alloc, &path)?;
+    format!(in alloc; "did you mean `[[{header}]]`?")
 }
 
 /// What to do about a key that its table does not know, and whether it is that a near one is meant.
@@ -232,13 +274,17 @@ pub fn unknown_key_help(
         return Ok((None, HelpPlace::Below));
     };
     let known = known_keys(alloc, table)?;
-    if let Some(hint) = name_hint(alloc, *key, &known)? {
+    if let Some(near) = near_name(alloc, *key, &known)? {
+        let hint = key_hint(alloc, table, near)?;
         return Ok((Some(hint), HelpPlace::Beside));
     }
     if let Some(help) = place_elsewhere(alloc, table, *key)? {
         return Ok((Some(help), HelpPlace::Below));
     }
-    Ok((prefix_hint(alloc, &known, *key)?, HelpPlace::Beside))
+    match name_by_front(*key, &known) {
+        Some(near) => Ok((Some(key_hint(alloc, table, near)?), HelpPlace::Beside)),
+        None => Ok((None, HelpPlace::Beside)),
+    }
 }
 
 /// What is wrong with a key that its table does not know.

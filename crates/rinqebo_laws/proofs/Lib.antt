@@ -5,7 +5,9 @@ pub mod Origins
 pub mod Texts
 pub mod Keys
 pub mod Deciding
+pub mod RuleVerdicts
 pub mod Rows
+pub mod Fallbacks
 pub mod Why
 pub mod Runs
 pub mod Listed

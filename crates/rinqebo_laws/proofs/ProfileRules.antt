@@ -1,5 +1,5 @@
 -- The rules of a test in the profile of a name, and what is reported of the test, agree.
-use Rattle.std.proofs.Common.{◌≡◌, inl, inr, ◌∙◌, ℕ, Bool, List, [], ◌∷◌, ◌++◌, Contains, None, Option, Some, codes, option_map, slice_get, string_bytes, ap, subst}
+use Rattle.std.proofs.Common.{◌≡◌, inl, inr, ◌∙◌, ℕ, Bool, List, [], ◌∷◌, ◌++◌, Contains, None, Option, Some, codes, slice_get, string_bytes, sym, ap, subst}
 use Rattle.std.proofs.lemmas.List.Elements.{All-contains}
 use Rattle.std.specs.List.{AllByRecursion}
 use Rattle.nextest_elements.specs.declared.run_mode.NextestRunMode.{NextestRunMode}
@@ -20,8 +20,8 @@ use Rattle.rinqebo_laws.proofs.Profiles.{Reports, early, on}
 use Rattle.rinqebo_laws.proofs.Rows.{row_of}
 use Rattle.rinqebo_laws.proofs.Runs.{by_chain, by_filter, chain_origins, no_fallback_there}
 use Rattle.rinqebo_laws.proofs.Why.{all_before, before_or_last, by_fallback, by_rule, fallback_origins, never_fallback, no_rule_of, rule_of}
-use Rattle.rinqebo_laws.specs.Reasons.{HaveKeyIfDecided, IsByRule, NoneDecides}
-use Rattle.rinqebo_laws.specs.Runs.{IsByFilter, SaysByRule}
+use Rattle.rinqebo_laws.specs.Reasons.{HaveKeyIfDecided, IsByFallback, IsByRule, NoneDecides}
+use Rattle.rinqebo_laws.specs.Runs.{IsByChain, IsByFilter}
 use Rattle.rinqebo_load.specs.FoundTests.{found_view}
 use Rattle.rinqebo_load.specs.declared.found_test.FoundTest.{FoundTest}
 use Rattle.rinqebo_report.specs.declared.report.Rule.{Rule}
@@ -33,7 +33,6 @@ use Rattle.rinqebo_request.specs.declared.request.RequestedSettings.{RequestedSe
 use Rattle.rinqebo_request.specs.declared.request.RequestedSettings.TheVariants as requests
 use Rattle.rinqebo_rules.specs.Origins.{key_steps}
 use Rattle.rinqebo_rules.specs.ProfileOrigins.{AreProfileOrigins}
-use Rattle.rinqebo_rules.specs.Reported.{value_view}
 use Rattle.rinqebo_rules.specs.SettingRules.{rules_for}
 use Rattle.rinqebo_rules.specs.Settings.{IsSettingReported, is_by_rule, reported_settings}
 use Rattle.rinqebo_rules.specs.TestOrigins.{AreOriginsBy, wrapping_id}
@@ -53,7 +52,7 @@ pub record RowAgrees (layers : List Layer) (names : List Name) (s : Setting) (mo
   pub decided : (rule : Rule) → Contains rules rule → rule.verdict ≡ verdicts.Decides
       → IsByRule layers (key_steps (key_table s mode) (key_name s)) rule row
   pub undecided : NoneDecides rules → (rule : Rule) → Contains rules rule → rule.verdict ≡ verdicts.Fallback
-      → option_map value_view rule.value ≡ option_map value_view row.value
+      → IsByFallback s rule row
   pub origins : NoneDecides rules → AreOriginsBy (record { layers = layers; chain = names }) None (key_table s mode)
       (key_name s) (fallback_origin s) row.origins.items
 
@@ -63,7 +62,7 @@ pub record RunsAgree (layers : List Layer) (names : List Name) (is_ignored : Boo
   pub decided : (rule : Rule) → Contains rules rule → rule.verdict ≡ verdicts.Decides
       → IsByFilter layers is_ignored rule row
   pub undecided : NoneDecides rules → (rule : Rule) → Contains rules rule → rule.verdict ≡ verdicts.Fallback
-      → SaysByRule is_ignored rule row
+      → IsByChain is_ignored rule row
   pub origins : NoneDecides rules → AreProfileOrigins layers names None (codes "default-filter") row.origins.items
 
 module _ {M K P : Type 0} (meets : K → P → Option Bool) (matches : M → Test → M → Bool) (platforms : BuildPlatforms P)
@@ -81,7 +80,7 @@ module _ {M K P : Type 0} (meets : K → P → Option Bool) (matches : M → Tes
 
   -- the profile in which the rules are reported
   abbrev Reasons : Setting → Type 0
-  Reasons s = AreReasons layers meets matches platforms test s
+  Reasons s = AreReasons layers names meets matches platforms test s
       (early meets matches platforms root config layers profile scripts chain) rules
 
   none_before : (front : List Rule) (fallback : Rule) → rules ≡ front ++ fallback ∷ [] → NoneDecides rules
@@ -123,15 +122,20 @@ module _ {M K P : Type 0} (meets : K → P → Option Bool) (matches : M → Tes
               (subst (λ rs. slice_get rs place.0 ≡ Some rule) reasons.are place.1)) [
                 | inl there ↦ absurd (never_fallback layers meets platforms query
                     (rules_for s mode p.overrides p.script_rules) front all place.0 rule there falls)
-                | inr last ↦ subst (λ (r : Rule). option_map value_view r.value ≡ option_map value_view row.value) last
+                | inr last ↦ subst (λ (r : Rule). IsByFallback s r row) last
                     (by_fallback layers one names meets platforms query mode p.overrides p.script_rules p.facts.fields s front
-                    all row is fallback reasons.fallback_value (none_before front fallback reasons.are none))
+                    all row is fallback reasons.fallback_value reasons.fallback_origins
+                    (subst (λ (r : Rule). IsRuleAsWritten layers (key_steps (key_table s mode) (key_name s)) r)
+                    (sym last)
+                    (All-contains (IsRuleAsWritten layers (key_steps (key_table s mode) (key_name s))) rules rule
+                    reasons.as_written in_rules))
+                    (none_before front fallback reasons.are none))
               ]);
           origins = λ none. fallback_origins layers one names meets platforms query mode p.overrides p.script_rules
               p.facts.fields s front all row is (none_before front fallback reasons.are none);
         }
 
-    pub runs_agree : AreRunsReasons layers meets matches platforms test
+    pub runs_agree : AreRunsReasons layers names meets matches platforms test
         (early meets matches platforms root config layers profile scripts chain) rules
         → Told asked → RunsAgree layers names test.ignored rules rows.runs
     runs_agree reasons reported =
@@ -156,9 +160,10 @@ module _ {M K P : Type 0} (meets : K → P → Option Bool) (matches : M → Tes
               (subst (λ rs. slice_get rs place.0 ≡ Some rule) reasons.are place.1)) [
                 | inl there ↦ absurd (no_fallback_there layers meets platforms p.overrides selected front all place.0 rule
                     there falls)
-                | inr last ↦ subst (λ (r : Rule). SaysByRule test.ignored r rows.runs) last
+                | inr last ↦ subst (λ (r : Rule). IsByChain test.ignored r rows.runs) last
                     (by_chain layers meets platforms p.overrides selected front all one names test.ignored rows.runs is
-                    fallback reasons.fallback_value (none_before front fallback reasons.are none))
+                    fallback reasons.fallback_value reasons.fallback_origins
+                    (none_before front fallback reasons.are none))
               ]);
           origins = λ none. chain_origins layers meets platforms p.overrides selected front all one names test.ignored
               rows.runs is (none_before front fallback reasons.are none);

@@ -51,7 +51,7 @@ module _ {M K P : Type 0} (meets : K → P → Option Bool) (matches : M → Tes
   one_chain : (chain other : List Name) → IsChain parents profile chain → IsChain parents profile other → chain ≡ other
   one_chain chain other is are = lead_default_one parents profile chain other is.leads are.leads
 
-  one_default : (names others : List Name) → IsChainAndDefault parents profile names
+  pub one_default : (names others : List Name) → IsChainAndDefault parents profile names
       → IsChainAndDefault parents profile others → names ≡ others
   one_default names others is are =
       is.is ∙ ap with_default (one_chain is.chain are.chain is.is_chain are.is_chain) ∙ sym are.is

@@ -11,10 +11,10 @@ use Rattle.nextest_tables.specs.Written.{Name}
 use Rattle.rinqebo_files.specs.Origins.{IsFileAt}
 use Rattle.rinqebo_files.specs.declared.layers.Layer.{Layer}
 use Rattle.rinqebo_laws.proofs.Lists.{left_of, pair_at}
-use Rattle.rinqebo_laws.proofs.Origins.{rule_part}
+use Rattle.rinqebo_laws.proofs.Origins.{profile_shown, rule_part}
 use Rattle.rinqebo_laws.proofs.Why.{alone, before_or_last, decides_told, not_fallback}
-use Rattle.rinqebo_laws.specs.Reasons.{DecidesAt, HaveOneResult, NoneDecides}
-use Rattle.rinqebo_laws.specs.Runs.{IsByFilter, SaysByRule}
+use Rattle.rinqebo_laws.specs.Reasons.{DecidesAt, HaveOneResult, NoneDecides, origins_of}
+use Rattle.rinqebo_laws.specs.Runs.{IsByChain, IsByFilter}
 use Rattle.rinqebo_report.specs.declared.report.Rule.{Rule}
 use Rattle.rinqebo_report.specs.declared.report.SettingRow.{SettingRow}
 use Rattle.rinqebo_report.specs.declared.report.Verdict.TheVariants as told
@@ -219,20 +219,25 @@ module _ {M K P : Type 0} (layers : List Layer) (meets : K → P → Option Bool
           };
         }
 
-    pub by_chain : (fallback : Rule) → option_map value_view fallback.value
-        ≡ default_value (not (list_any is_decision (filter_verdicts filters))) matches → NoneDecides front
-        → SaysByRule is_ignored fallback row
-    by_chain fallback value none = record {
-      matches = matches;
-      rule_says = value ∙ ap (λ b. default_value (not b) matches) (no_decision none);
-      row_says = is.value_reported;
-    }
-
     pub chain_origins : NoneDecides front
         → AreProfileOrigins layers chain None (codes "default-filter") row.origins.items
     chain_origins none =
         subst (λ place. AreOriginsAt (record { layers = layers; chain = chain }) place None (codes "default-filter")
         row.origins.items) (none_counted none) is.origins_reported
+
+    pub by_chain : (fallback : Rule) → option_map value_view fallback.value
+        ≡ default_value (not (list_any is_decision (filter_verdicts filters))) matches
+        → AreProfileOrigins layers chain None (codes "default-filter") (origins_of fallback) → NoneDecides front
+        → IsByChain is_ignored fallback row
+    by_chain fallback value origins none = record {
+      says = record {
+        matches = matches;
+        rule_says = value ∙ ap (λ b. default_value (not b) matches) (no_decision none);
+        row_says = is.value_reported;
+      };
+      origins = profile_shown layers chain None (codes "default-filter") (origins_of fallback) row.origins.items origins
+          (chain_origins none);
+    }
 
   module _ (fallback : Rule) (is_fallback : fallback.verdict ≡ told.Fallback) where
     last_decides : (rule : Rule) → fallback ≡ rule → rule.verdict ≡ told.Decides → ⊥

@@ -15,16 +15,18 @@ use Rattle.nextest_tables.specs.Written.{Name, WrittenFields}
 use Rattle.rinqebo_files.specs.Origins.{IsFileAt}
 use Rattle.rinqebo_files.specs.declared.layers.Layer.{Layer}
 use Rattle.rinqebo_laws.proofs.Deciding.{about, any_wrapping, given, has_fallback, has_rule, mapped_back, not_ruled, one_decides, rule_with, some_mapped, source, wrapping}
+use Rattle.rinqebo_laws.proofs.Fallbacks.{fallback_agrees, fallback_node}
 use Rattle.rinqebo_laws.proofs.Lists.{all_contains, contains_at, left_of, pair_at, pair_from, right_of}
 use Rattle.rinqebo_laws.proofs.Origins.{rule_part}
 use Rattle.rinqebo_laws.proofs.Texts.{same_node, texts_alike}
-use Rattle.rinqebo_laws.specs.Reasons.{DecidesAt, HaveOneResult, IsByRule, NoneDecides}
+use Rattle.rinqebo_laws.specs.Reasons.{DecidesAt, HasOriginsOf, HaveOneResult, IsByFallback, IsByRule, NoneDecides, origins_of}
 use Rattle.rinqebo_report.specs.declared.report.Rule.{Rule}
 use Rattle.rinqebo_report.specs.declared.report.SettingRow.{SettingRow}
 use Rattle.rinqebo_report.specs.declared.report.Verdict.TheVariants as told
 use Rattle.rinqebo_request.specs.Keys.{key_name, key_table}
 use Rattle.rinqebo_rules.specs.AsWritten.{IsValueAsWritten, node_alone, origin_node}
 use Rattle.rinqebo_rules.specs.Origins.{IsOriginOf, key_steps}
+use Rattle.rinqebo_rules.specs.ProfileOrigins.{AreProfileOrigins}
 use Rattle.rinqebo_rules.specs.Reported.{reported_of, value_view}
 use Rattle.rinqebo_rules.specs.RuleAnswers.{answers_by}
 use Rattle.rinqebo_rules.specs.SettingRules.{RuleFor, writes_it}
@@ -232,16 +234,6 @@ module _ {M K P : Type 0} (layers : List Layer)
         };
       }
 
-  -- what the fallback gives where none decides
-  pub by_fallback : (fallback : Rule) → option_map value_view fallback.value
-      ≡ option_map (reported_of s) (fallback_of fields mode s) → NoneDecides front
-      → option_map value_view fallback.value ≡ option_map value_view row.value
-  by_fallback fallback value none =
-      let never = none_given layers meets platforms query (about meets platforms query mode overrides scripts fields s) front
-      all none in
-      let both = has_fallback meets platforms query mode overrides scripts fields s never in
-      value ∙ sym (is.value_reported ∙ ap (option_map (reported_of s)) both.0)
-
   pub fallback_origins : NoneDecides front → AreOriginsBy (record { layers = layers; chain = chain }) None
       (key_table s mode) (key_name s) (fallback_origin s) row.origins.items
   fallback_origins none =
@@ -252,3 +244,29 @@ module _ {M K P : Type 0} (layers : List Layer)
       any_wrapping (record { layers = layers; chain = chain }) wraps None (key_table s mode) (key_name s) s row.origins.items
       (subst (λ o. AreOriginsBy (record { layers = layers; chain = chain }) wraps (key_table s mode) (key_name s) o
       row.origins.items) both.1 is.origins_reported)
+
+  -- what the fallback gives where none decides
+  pub by_fallback : (fallback : Rule) → option_map value_view fallback.value
+      ≡ option_map (reported_of s) (fallback_of fields mode s)
+      → AreProfileOrigins layers chain (key_table s mode) (key_name s) (origins_of fallback)
+      → IsRuleAsWritten layers (key_steps (key_table s mode) (key_name s)) fallback → NoneDecides front
+      → IsByFallback s fallback row
+  by_fallback fallback value origins written none =
+      let steps = key_steps (key_table s mode) (key_name s) in
+      let never = none_given layers meets platforms query (about meets platforms query mode overrides scripts fields s) front
+      all none in
+      let both = has_fallback meets platforms query mode overrides scripts fields s never in
+      let values : option_map value_view fallback.value ≡ option_map value_view row.value =
+      value ∙ sym (is.value_reported ∙ ap (option_map (reported_of s)) both.0) in
+      let agree : HasOriginsOf s fallback row =
+      fallback_agrees layers chain s mode fallback row origins (fallback_origins none) in
+      let of_row : IfSome row.value (IsValueAsWritten (node_alone layers steps (origins_of fallback))) =
+      subst (λ node. IfSome row.value (IsValueAsWritten node)) (sym (fallback_node layers steps s fallback row agree))
+      is.value_as_written in
+      record {
+        value = record {
+          value = values;
+          texts = texts_alike (node_alone layers steps (origins_of fallback)) fallback.value row.value values written of_row;
+        };
+        origins = agree;
+      }

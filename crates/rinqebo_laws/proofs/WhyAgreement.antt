@@ -1,6 +1,9 @@
 -- What `--why` and `explain` report of a test of one session agrees.
 use Rattle.std.proofs.Common.{◌≡◌, ℕ, Bool, List, Contains, string_bytes, sym, subst}
-use Rattle.nextest_settings.specs.Profile.{profile_on}
+use Rattle.nextest_inheritance.specs.Parents.{parents_in}
+use Rattle.nextest_load.specs.Config.{ScriptTables, config_parents}
+use Rattle.nextest_profiles.specs.Profiles.{IsChainAndDefault}
+use Rattle.nextest_settings.specs.Profile.{profile_of, profile_on}
 use Rattle.nextest_settings.specs.Queries.{query_in}
 use Rattle.nextest_settings.specs.declared.setting.Setting.{Setting}
 use Rattle.nextest_tables.specs.Written.{Name}
@@ -24,64 +27,94 @@ use Rattle.rinqebo_request.specs.declared.request.RequestedSettings.{RequestedSe
 use Rattle.rinqebo_request.specs.declared.request.RequestedSettings.TheVariants as requests
 use Rattle.rinqebo_rules.specs.SettingRules.{rules_for}
 use Rattle.rinqebo_run.specs.Explained.{Explains, IfExplained}
-use Rattle.rinqebo_run.specs.ReportsReasons.{AreReasons, IfWhy, ReportsReasons}
-use Rattle.rinqebo_run.specs.RunsReasons.{AreRunsReasons, IfWhyRuns, ReportsRunsReasons, is_selected_on}
+use Rattle.rinqebo_run.specs.ReportsReasons.{AreReasons, AreReasonsIn, IfWhy, ReportsReasons, configured_by}
+use Rattle.rinqebo_run.specs.RunsReasons.{AreRunsReasons, AreRunsReasonsIn, ReportsRunsReasons, is_selected_on}
 use Rattle.rinqebo_laws.proofs.Agreement.{if_explained, matches_of, meets_of, root_of}
 use Rattle.rinqebo_laws.proofs.ProfileRules.{RunsAgree, listed_if_decided, row_agrees, runs_agree}
-use Rattle.rinqebo_laws.proofs.Profiles.{explained_by, reported_of_one}
+use Rattle.rinqebo_laws.proofs.Profiles.{explained_by, one_default, reported_of_one}
 use Rattle.rinqebo_laws.proofs.Runs.{one_filter}
 use Rattle.rinqebo_laws.proofs.Why.{one_result}
 use Rattle.rinqebo_load.specs.Meant.{config_meant}
 
 -- ---- contents of reports
 
-if_why : (content : Content) (P Q : TestId → List ℕ → List Rule → Type 0)
-    → ((named : TestId) (key : List ℕ) (rules : List Rule) → P named key rules → Q named key rules)
-    → IfWhy content P → IfWhy content Q
-if_why (contents.Why asked test key rules is_ignored) P Q turn is = turn test (string_bytes key) rules.items is
+if_why : (content : Content) (P Q : TestId → List ℕ → List Rule → Bool → Type 0)
+    → ((named : TestId) (key : List ℕ) (rules : List Rule) (ignored : Bool) → P named key rules ignored
+    → Q named key rules ignored) → IfWhy content P → IfWhy content Q
+if_why (contents.Why asked test key rules is_ignored) P Q turn is =
+    turn test (string_bytes key) rules.items is_ignored is
 if_why (contents.Explain asked test) P Q turn is = absurd is
 if_why (contents.List asked tests unused scripts objects) P Q turn is = absurd is
 if_why (contents.ShowConfig asked entries) P Q turn is = absurd is
 if_why contents.Check P Q turn is = absurd is
 
-if_why_runs : (content : Content) (P Q : TestId → List ℕ → List Rule → Bool → Type 0)
-    → ((named : TestId) (key : List ℕ) (rules : List Rule) (ignored : Bool) → P named key rules ignored
-    → Q named key rules ignored) → IfWhyRuns content P → IfWhyRuns content Q
-if_why_runs (contents.Why asked test key rules is_ignored) P Q turn is =
-    turn test (string_bytes key) rules.items is_ignored is
-if_why_runs (contents.Explain asked test) P Q turn is = absurd is
-if_why_runs (contents.List asked tests unused scripts objects) P Q turn is = absurd is
-if_why_runs (contents.ShowConfig asked entries) P Q turn is = absurd is
-if_why_runs contents.Check P Q turn is = absurd is
+-- ---- chains
+
+-- the rules of a profile are those of its one chain
+reasons_on : (session : Session) (profile : Name) (test : FoundTest) (s : Setting) (scripts : ScriptTables)
+    (names : List Name) (rules : List Rule)
+    → (it : AreReasonsIn session.layers.items (meets_of session) (matches_of session) session.engines.platforms
+    (configured_by session scripts) profile test s rules)
+    → IsChainAndDefault (parents_in (config_parents (config_meant session))) profile names
+    → AreReasons session.layers.items names (meets_of session) (matches_of session) session.engines.platforms test s
+    (profile_of (configured_by session scripts) profile it.is_profile.chain) rules
+reasons_on session profile test s scripts names rules it are_names =
+    let meets = meets_of session in
+    let matches = matches_of session in
+    let platforms = session.engines.platforms in
+    let layers = session.layers.items in
+    let here = profile_of (configured_by session scripts) profile it.is_profile.chain in
+    subst (λ ns. AreReasons layers ns meets matches platforms test s here rules)
+    (one_default meets matches platforms (root_of session) (config_meant session) layers profile it.chain names it.is_chain
+    are_names)
+    (subst (λ p. AreReasons layers it.chain meets matches platforms test s p rules) it.is_profile.is_profile it.reasons)
+
+runs_reasons_on : (session : Session) (profile : Name) (test : FoundTest) (scripts : ScriptTables) (names : List Name)
+    (rules : List Rule)
+    → (it : AreRunsReasonsIn session.layers.items (meets_of session) (matches_of session) session.engines.platforms
+    (configured_by session scripts) profile test rules)
+    → IsChainAndDefault (parents_in (config_parents (config_meant session))) profile names
+    → AreRunsReasons session.layers.items names (meets_of session) (matches_of session) session.engines.platforms test
+    (profile_of (configured_by session scripts) profile it.is_profile.chain) rules
+runs_reasons_on session profile test scripts names rules it are_names =
+    let meets = meets_of session in
+    let matches = matches_of session in
+    let platforms = session.engines.platforms in
+    let layers = session.layers.items in
+    let here = profile_of (configured_by session scripts) profile it.is_profile.chain in
+    subst (λ ns. AreRunsReasons layers ns meets matches platforms test here rules)
+    (one_default meets matches platforms (root_of session) (config_meant session) layers profile it.chain names it.is_chain
+    are_names)
+    (subst (λ p. AreRunsReasons layers it.chain meets matches platforms test p rules) it.is_profile.is_profile it.reasons)
 
 -- ---- rules
 
 -- rules have one result
 pub why_once : (session : Session) (profile : Name) (test : FoundTest) (s : Setting) (why : Report)
-    → ReportsReasons session profile test s why → IfWhy why.content (λ named key rules. HaveOneResult rules)
+    → ReportsReasons session profile test s why → IfWhy why.content (λ named key rules ignored. HaveOneResult rules)
 why_once session profile test s why reasons =
-    if_why why.content _ _ (λ named key rules is.
-    (let it = is.2.reasons in
+    if_why why.content _ _ (λ named key rules ignored is.
+    (let it = is.3.reasons in
     one_result session.layers.items (meets_of session) session.engines.platforms
-    (query_in (matches_of session) (profile_on (meets_of session) session.engines.platforms is.2.profile)
+    (query_in (matches_of session) (profile_on (meets_of session) session.engines.platforms is.3.profile)
     (found_view test).test)
-    (rules_for s test.mode is.2.profile.overrides is.2.profile.script_rules) it.before it.rules_reported it.fallback
+    (rules_for s test.mode is.3.profile.overrides is.3.profile.script_rules) it.before it.rules_reported it.fallback
     it.fallback_reported rules it.are)) reasons.told
 
 -- the rules and the row of a setting agree
 pub why_agrees : (request : Request) (gathered : Gathered) (session : Session) (profile : Name) (test other : FoundTest)
     (s : Setting) (asked : RequestedSettings) (why explained : Report) → IsSessionOf request gathered session
     → AreOneTest test other → ReportsReasons session profile test s why → Explains session profile other asked explained
-    → IfWhy why.content (λ named key rules. IfExplained explained.content (λ told. (row : SettingRow)
+    → IfWhy why.content (λ named key rules ignored. IfExplained explained.content (λ told. (row : SettingRow)
     → Contains told.settings.items row → string_bytes row.key ≡ key → AgreesWithRules session profile s test.mode rules row))
 why_agrees request gathered session profile test other s asked why explained is one_test reasons explains =
-    if_why why.content _ _ (λ named key rules has.
+    if_why why.content _ _ (λ named key rules ignored has.
     if_explained explained.content _ _ (λ told reports row in_rows same.
     (let meets = meets_of session in
     let matches = matches_of session in
     let platforms = session.engines.platforms in
     let layers = session.layers.items in
-    let it = has.2 in
+    let it = has.3 in
     let chain = it.is_profile.chain in
     let rows = reported_of_one meets matches platforms (root_of session) (config_meant session) layers profile
     explains.scripts chain reports.chain test other asked told one_test
@@ -90,7 +123,7 @@ why_agrees request gathered session profile test other s asked why explained is 
     let agrees = row_agrees meets matches platforms (root_of session) (config_meant session) layers profile test
     reasons.scripts explains.scripts chain reports.chain rules told
     (one_layer request gathered session is explains.acceptance) asked s row
-    (subst (λ p. AreReasons layers meets matches platforms test s p rules) it.is_profile.is_profile it.reasons) rows key
+    (reasons_on session profile test s reasons.scripts reports.chain rules it reports.is_chain) rows key
     has.1 in_rows same in
     record {
       decided = agrees.decided;
@@ -101,16 +134,16 @@ why_agrees request gathered session profile test other s asked why explained is 
 pub why_listed : (session : Session) (profile : Name) (test other : FoundTest) (s : Setting) (why explained : Report)
     → AreOneTest test other → ReportsReasons session profile test s why
     → Explains session profile other requests.Decided explained
-    → IfWhy why.content (λ named key rules. IfExplained explained.content
+    → IfWhy why.content (λ named key rules ignored. IfExplained explained.content
     (λ told. HaveKeyIfDecided rules told.settings.items key))
 why_listed session profile test other s why explained one_test reasons explains =
-    if_why why.content _ _ (λ named key rules has.
+    if_why why.content _ _ (λ named key rules ignored has.
     if_explained explained.content _ _ (λ told reports.
     (let meets = meets_of session in
     let matches = matches_of session in
     let platforms = session.engines.platforms in
     let layers = session.layers.items in
-    let it = has.2 in
+    let it = has.3 in
     let chain = it.is_profile.chain in
     let rows = reported_of_one meets matches platforms (root_of session) (config_meant session) layers profile
     explains.scripts chain reports.chain test other requests.Decided told one_test
@@ -118,7 +151,7 @@ why_listed session profile test other s why explained one_test reasons explains 
     reports.chain other requests.Decided told it.is_profile.is_chain reports.is_chain reports) in
     listed_if_decided meets matches platforms (root_of session) (config_meant session) layers profile test reasons.scripts
     explains.scripts chain reports.chain rules told s
-    (subst (λ p. AreReasons layers meets matches platforms test s p rules) it.is_profile.is_profile it.reasons) rows key
+    (reasons_on session profile test s reasons.scripts reports.chain rules it reports.is_chain) rows key
     has.1)) explains.told) reasons.told
 
 -- ---- whether a test runs
@@ -126,9 +159,9 @@ why_listed session profile test other s why explained one_test reasons explains 
 -- the rules of why a test runs have one result
 pub why_runs_once : (session : Session) (profile : Name) (test : FoundTest) (why : Report)
     → ReportsRunsReasons session profile test why
-    → IfWhyRuns why.content (λ named key rules ignored. HaveOneResult rules)
+    → IfWhy why.content (λ named key rules ignored. HaveOneResult rules)
 why_runs_once session profile test why reasons =
-    if_why_runs why.content _ _ (λ named key rules ignored is.
+    if_why why.content _ _ (λ named key rules ignored is.
     (let it = is.3.reasons in
     one_filter session.layers.items (meets_of session) session.engines.platforms is.3.profile.overrides
     (is_selected_on (matches_of session) (profile_on (meets_of session) session.engines.platforms is.3.profile)
@@ -138,10 +171,10 @@ pub why_runs_agrees : (request : Request) (gathered : Gathered) (session : Sessi
     (test other : FoundTest) (asked : RequestedSettings) (why explained : Report) → IsSessionOf request gathered session
     → AreOneTest test other → ReportsRunsReasons session profile test why
     → Explains session profile other asked explained
-    → IfWhyRuns why.content (λ named key rules ignored. IfExplained explained.content
+    → IfWhy why.content (λ named key rules ignored. IfExplained explained.content
     (λ told. AgreesWithFilters session profile ignored rules told.runs))
 why_runs_agrees request gathered session profile test other asked why explained is one_test reasons explains =
-    if_why_runs why.content _ _ (λ named key rules ignored has.
+    if_why why.content _ _ (λ named key rules ignored has.
     if_explained explained.content _ _ (λ told reports.
     (let meets = meets_of session in
     let matches = matches_of session in
@@ -156,7 +189,7 @@ why_runs_agrees request gathered session profile test other asked why explained 
     let agrees = subst (λ b. RunsAgree layers reports.chain b rules told.runs) (sym has.2)
     (runs_agree meets matches platforms (root_of session) (config_meant session) layers profile test reasons.scripts
     explains.scripts chain reports.chain rules told (one_layer request gathered session is explains.acceptance) asked
-    (subst (λ p. AreRunsReasons layers meets matches platforms test p rules) it.is_profile.is_profile it.reasons) rows) in
+    (runs_reasons_on session profile test reasons.scripts reports.chain rules it reports.is_chain) rows) in
     record {
       decided = agrees.decided;
       undecided = agrees.undecided;

@@ -2,3 +2,4 @@ pub mod Shown
 pub mod Rows
 pub mod Reasons
 pub mod Runs
+pub mod Verdicts

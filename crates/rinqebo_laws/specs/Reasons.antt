@@ -1,5 +1,5 @@
 -- Rules of a setting that agree with the value that is reported of it.
-use Rattle.std.specs.Prelude.{◌≡◌, ◌≢◌, ◌↔◌, ℕ, List, [], ◌∷◌, ◌++◌, Contains, IsSome, None, Some, option_map, slice_get, string_bytes}
+use Rattle.std.specs.Prelude.{◌≡◌, ◌≢◌, ◌↔◌, ℕ, List, [], ◌∷◌, ◌++◌, Contains, IsSome, None, Some, map, slice_get, string_bytes}
 use Rattle.std.specs.List.{AllByRecursion}
 use Rattle.nextest_elements.specs.declared.run_mode.NextestRunMode.{NextestRunMode}
 use Rattle.nextest_inheritance.specs.Parents.{parents_in}
@@ -7,18 +7,19 @@ use Rattle.nextest_load.specs.Config.{config_parents}
 use Rattle.nextest_profiles.specs.Profiles.{IsChainAndDefault}
 use Rattle.nextest_settings.specs.Queries.{fallback_origin}
 use Rattle.nextest_settings.specs.declared.setting.Setting.{Setting}
+use Rattle.nextest_settings.specs.declared.setting.Setting.TheVariants as at
 use Rattle.nextest_tables.specs.Written.{Name}
 use Rattle.rinqebo_files.specs.declared.layers.Layer.{Layer}
-use Rattle.rinqebo_laws.specs.Shown.{AreAlike, part_of}
+use Rattle.rinqebo_laws.specs.Shown.{AreAlike, origin_shown, part_of}
 use Rattle.rinqebo_load.specs.Meant.{config_meant}
 use Rattle.rinqebo_load.specs.declared.session.Session.{Session}
 use Rattle.rinqebo_report.specs.declared.origin.Origin.{Origin}
+use Rattle.rinqebo_report.specs.declared.origin.Origin.TheVariants as kinds
 use Rattle.rinqebo_report.specs.declared.report.Rule.{Rule}
 use Rattle.rinqebo_report.specs.declared.report.SettingRow.{SettingRow}
 use Rattle.rinqebo_report.specs.declared.report.Verdict.TheVariants as verdicts
 use Rattle.rinqebo_request.specs.Keys.{key_name, key_table}
 use Rattle.rinqebo_rules.specs.Origins.{IsOriginOf, PathStep, key_steps}
-use Rattle.rinqebo_rules.specs.Reported.{value_view}
 use Rattle.rinqebo_rules.specs.RulePlaces.{Place}
 use Rattle.rinqebo_rules.specs.TestOrigins.{AreOriginsBy}
 
@@ -70,6 +71,23 @@ pub record IsByRule (layers : List Layer) (steps : List PathStep) (rule : Rule) 
   pub alone : row.origins.items ≡ origin ∷ []
   pub within : IsWithin layers steps rule.origin origin
 
+-- where a rule of `--why` comes from: its origin, and the others
+abbrev pub origins_of : Rule → List Origin
+origins_of rule = rule.origin ∷ rule.others.items
+
+-- A row has the origins of the fallback of a setting. That of a run wrapper is not written, and a
+-- row of it has no origins.
+abbrev pub HasOriginsOf : Setting → Rule → SettingRow → Type 0
+HasOriginsOf at.RunWrapper fallback row =
+    (origins_of fallback ≡ kinds.BuiltIn ∷ []) × (row.origins.items ≡ [])
+HasOriginsOf s fallback row =
+    map origin_shown (origins_of fallback) ≡ map origin_shown row.origins.items
+
+-- A row has what the fallback of a setting is: its value, and its origins.
+pub record IsByFallback (s : Setting) (fallback : Rule) (row : SettingRow) : Type 0 where
+  pub value : AreAlike fallback.value row.value
+  pub origins : HasOriginsOf s fallback row
+
 -- Origins are those of a setting that no rule writes, in the profile of a name: nothing writes a
 -- priority, a run wrapper has none, and other settings come from the chain of the profile.
 pub record AreFallbackOrigins (session : Session) (profile : Name) (s : Setting)
@@ -81,12 +99,11 @@ pub record AreFallbackOrigins (session : Session) (profile : Name) (s : Setting)
       (key_table s mode) (key_name s) (fallback_origin s) origins
 
 -- A row of a setting agrees with its rules: it has what the rule writes that decides, or, where
--- none decides, the value of the fallback, with the origins of a setting that no rule writes.
+-- none decides, what the fallback is, with the origins of a setting that no rule writes.
 pub record AgreesWithRules (session : Session) (profile : Name) (s : Setting)
     (mode : NextestRunMode) (rules : List Rule) (row : SettingRow) : Type 0 where
   pub decided : (rule : Rule) → Contains rules rule → rule.verdict ≡ verdicts.Decides
       → IsByRule session.layers.items (key_steps (key_table s mode) (key_name s)) rule row
   pub undecided : NoneDecides rules → (rule : Rule) → Contains rules rule
-      → rule.verdict ≡ verdicts.Fallback
-      → option_map value_view rule.value ≡ option_map value_view row.value
+      → rule.verdict ≡ verdicts.Fallback → IsByFallback s rule row
   pub origins : NoneDecides rules → AreFallbackOrigins session profile s mode row.origins.items

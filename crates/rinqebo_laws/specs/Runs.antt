@@ -1,11 +1,12 @@
 -- Why a test runs, and whether it does, that agree.
-use Rattle.std.specs.Prelude.{◌≡◌, ◌∷◌, [], Bool, List, Contains, None, Some, codes, option_map}
+use Rattle.std.specs.Prelude.{◌≡◌, ◌∷◌, [], Bool, List, Contains, None, Some, codes, map, option_map}
 use Rattle.nextest_inheritance.specs.Parents.{parents_in}
 use Rattle.nextest_load.specs.Config.{config_parents}
 use Rattle.nextest_profiles.specs.Profiles.{IsChainAndDefault}
 use Rattle.nextest_tables.specs.Written.{Name}
 use Rattle.rinqebo_files.specs.declared.layers.Layer.{Layer}
-use Rattle.rinqebo_laws.specs.Reasons.{IsWithin, NoneDecides}
+use Rattle.rinqebo_laws.specs.Reasons.{IsWithin, NoneDecides, origins_of}
+use Rattle.rinqebo_laws.specs.Shown.{origin_shown}
 use Rattle.rinqebo_load.specs.Meant.{config_meant}
 use Rattle.rinqebo_load.specs.declared.session.Session.{Session}
 use Rattle.rinqebo_report.specs.declared.origin.Origin.{Origin}
@@ -34,6 +35,12 @@ pub record IsByFilter (layers : List Layer) (is_ignored : Bool) (rule : Rule) (r
   pub alone : row.origins.items ≡ origin ∷ []
   pub within : IsWithin layers (key_steps None (codes "default-filter")) rule.origin origin
 
+-- A row comes from the default filter of a chain of profiles, where no override decides: it says
+-- what that filter does, with the origins of the filter.
+pub record IsByChain (is_ignored : Bool) (fallback : Rule) (row : SettingRow) : Type 0 where
+  pub says : SaysByRule is_ignored fallback row
+  pub origins : map origin_shown (origins_of fallback) ≡ map origin_shown row.origins.items
+
 -- Origins are those of the default filter of the chain of a profile.
 pub record AreFilterOrigins (session : Session) (profile : Name) (origins : List Origin) : Type 0
   where
@@ -50,5 +57,5 @@ pub record AgreesWithFilters (session : Session) (profile : Name) (is_ignored : 
   pub decided : (rule : Rule) → Contains rules rule → rule.verdict ≡ verdicts.Decides
       → IsByFilter session.layers.items is_ignored rule row
   pub undecided : NoneDecides rules → (rule : Rule) → Contains rules rule
-      → rule.verdict ≡ verdicts.Fallback → SaysByRule is_ignored rule row
+      → rule.verdict ≡ verdicts.Fallback → IsByChain is_ignored rule row
   pub origins : NoneDecides rules → AreFilterOrigins session profile row.origins.items

@@ -22,23 +22,24 @@ ghost use Rattle.rinqebo_request.specs.declared.request.RequestedTest.{Requested
 ghost use Rattle.rinqebo_run.specs.Explained.{Explains, IfExplained};
 ghost use Rattle.rinqebo_run.specs.Listed.{IfListed, ReportsTests};
 ghost use Rattle.rinqebo_run.specs.ReportsReasons.{IfWhy, ReportsReasons};
-ghost use Rattle.rinqebo_run.specs.RunsReasons.{IfWhyRuns, ReportsRunsReasons};
+ghost use Rattle.rinqebo_run.specs.RunsReasons.{ReportsRunsReasons};
 
 /// What `explain --why` and `explain` report of a setting of a test agree, in one session, profile
 /// and mode. At most one rule decides. Where one does, the value is what that rule writes, and it
-/// comes from the place of the key in that rule. Where none does, the value is that of the
-/// fallback, and it comes from where the chain of profiles has it. Where no keys are requested,
+/// comes from the place of the key in that rule. Where none does, the value and the origins are
+/// those of the fallback, and come from the chain of profiles; of a run wrapper, which has neither,
+/// the fallback is built in, and `explain` reports no origins. Where no keys are requested,
 /// `explain` reports the setting exactly where some rule decides.
 pub fn law_why_agrees()
     ensures one { (session : Session) (profile : Name) (test : FoundTest) (s : Setting)
         (why : Report) → ReportsReasons session profile test s why
-        → IfWhy why.content (λ named key rules. HaveOneResult rules) }
+        → IfWhy why.content (λ named key rules ignored. HaveOneResult rules) }
     ensures agrees { (request : Request) (gathered : Gathered) (session : Session)
         (profile : Name) (test other : FoundTest) (s : Setting) (asked : RequestedSettings)
         (why explained : Report) → IsSessionOf request gathered session → AreOneTest test other
         → ReportsReasons session profile test s why
         → Explains session profile other asked explained
-        → IfWhy why.content (λ named key rules. IfExplained explained.content
+        → IfWhy why.content (λ named key rules ignored. IfExplained explained.content
         (λ told. (row : SettingRow) → Contains told.settings.items row
         → string_bytes row.key ≡ key
         → AgreesWithRules session profile s test.mode rules row)) }
@@ -46,7 +47,7 @@ pub fn law_why_agrees()
         (why explained : Report) → AreOneTest test other
         → ReportsReasons session profile test s why
         → Explains session profile other RequestedSettings.Decided explained
-        → IfWhy why.content (λ named key rules. IfExplained explained.content
+        → IfWhy why.content (λ named key rules ignored. IfExplained explained.content
         (λ told. HaveKeyIfDecided rules told.settings.items key)) }
 {}
 
@@ -54,17 +55,17 @@ pub fn law_why_agrees()
 /// profile and mode. At most one override decides. Where one does, the test runs exactly where the
 /// default filter of this override matches it and no list says that it is ignored, and that comes
 /// from the place of the filter. Where none does, the same is so of the default filter of the chain
-/// of profiles.
+/// of profiles, and both report the same origins of it.
 pub fn law_why_runs_agrees()
     ensures one { (session : Session) (profile : Name) (test : FoundTest) (why : Report)
         → ReportsRunsReasons session profile test why
-        → IfWhyRuns why.content (λ named key rules ignored. HaveOneResult rules) }
+        → IfWhy why.content (λ named key rules ignored. HaveOneResult rules) }
     ensures agrees { (request : Request) (gathered : Gathered) (session : Session)
         (profile : Name) (test other : FoundTest) (asked : RequestedSettings)
         (why explained : Report) → IsSessionOf request gathered session → AreOneTest test other
         → ReportsRunsReasons session profile test why
         → Explains session profile other asked explained
-        → IfWhyRuns why.content (λ named key rules ignored. IfExplained explained.content
+        → IfWhy why.content (λ named key rules ignored. IfExplained explained.content
         (λ told. AgreesWithFilters session profile ignored rules told.runs)) }
 {}
 

@@ -2,5 +2,7 @@
 #![tactic(auto)]
 
 mod laws;
+mod verdicts;
 
 pub use laws::{law_list_agrees, law_why_agrees, law_why_runs_agrees};
+pub use verdicts::law_rule_verdicts;

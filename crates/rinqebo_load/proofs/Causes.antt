@@ -118,9 +118,12 @@ pub host_fault : (names : MachineNames) (request : Request) (triples : Triples) 
     → OrMemory (IsMachineFault (IsAboutNamed names) (machine_of gathered.host_cfg (string_bytes triples.host))) fault
     → OrMemory (IsBuildFault request triples gathered) fault
 host_fault names request triples gathered fault source list cfg option known =
-    or_more fault (λ is. inr (known, about_more (IsAboutNamed names) (IsAboutHost request triples)
-    (machine_of gathered.host_cfg (string_bytes triples.host)) fault
-    (λ subject. about_host names request triples subject source list cfg option) is))
+    or_more fault (λ is. inr (
+      known,
+      about_more (IsAboutNamed names) (IsAboutHost request triples)
+          (machine_of gathered.host_cfg (string_bytes triples.host)) fault
+          (λ subject. about_host names request triples subject source list cfg option) is,
+    ))
 
 -- a text of which trimming leaves nothing
 pub blank : (text trimmed : List ℕ) → IsTrimResult text trimmed → trimmed ≡ [] → IsBlank text

@@ -1,6 +1,6 @@
 -- Rules that are marked by whether they hold for some tests.
-use Rattle.std.proofs.Common.{◌≡◌, ◌∙◌, ◌<◌, ◌≤◌, ◌++◌, ◌∷◌, [], ◌||◌, ◌+◌, ℕ, zero, suc, List, Bool, arith, get_or, not, replicate, take, true, false, Some, ap, length, map, option_map, slice_get, unwrap_or, refl, subst, sym}
-use Rattle.std.proofs.lemmas.List.{map-append, take-map, take_all}
+use Rattle.std.proofs.Common.{◌≡◌, ◌∙◌, ◌<◌, ◌≤◌, ◌++◌, ◌∷◌, [], ◌||◌, ◌+◌, ℕ, List, Bool, get_or, not, replicate, take, true, false, Some, ap, length, map, option_map, slice_get, unwrap_or, refl, subst, sym}
+use Rattle.std.proofs.lemmas.List.{map-append, take-map, take_all, take_more}
 use Rattle.std.proofs.lemmas.List.Folds.{list_any-append}
 use Rattle.std.proofs.lemmas.Option.{get_or_from_slice_get, slice_get-get_or, slice_get-map, slice_get_within}
 use Rattle.nextest_settings.specs.Deciding.{QueryContext, rule_holds}
@@ -11,9 +11,9 @@ use Rattle.rinqebo_rules.specs.Unused.{is_used, unused_among}
 -- what is made of one element more
 pub map_more : {A B : Type 0} (f : A → B) (xs : List A) (i : ℕ) (x d : A) → i < length xs → x ≡ get_or xs i d
     → map f (take i xs) ++ f x ∷ [] ≡ map f (take (i + 1) xs)
-map_more f [] i x d below is = absurd (omega arith)
-map_more f (y ∷ xs) zero x d below is = let e : x ≡ y = cc in ap (λ z. f z ∷ []) e
-map_more f (y ∷ xs) (suc i) x d below is = ap (λ rest. f y ∷ rest) (map_more f xs i x d (omega arith) is)
+map_more f xs i x d below same =
+    sym (map-append f (take i xs) (x ∷ []))
+    ∙ ap (map f) (ap (λ z. take i xs ++ z ∷ []) same ∙ sym (take_more xs i d below))
 
 -- what is made in three steps
 pub twice : {A B C D : Type 0} (h : C → D) (g : B → C) (f : A → B) (xs : List A)

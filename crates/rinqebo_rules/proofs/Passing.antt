@@ -120,15 +120,16 @@ module _ {M : Type 0} (query : QueryContext M) (mode : NextestRunMode)
       → deciding_override query mode rules s ≡ found
       → override_in (option_or (option_map (λ r. by_override r.writes.id) found) (fallback_origin s)) ≡ None
       → IsPassed query mode rules s count
-  none_by s count None none no n rule below stands =
+  none_by s count None none unnamed n rule below stands =
       find-none (decides query (wants s)) rules n rule none stands
-  none_by s count (Some r) none no = absurd cc
+  none_by s count (Some r) none unnamed n rule below stands = absurd cc
 
   -- no override decides a setting
   pub passed_all : (s : Setting) (count : ℕ) → override_in (origin_by query mode rules scripts s) ≡ None
       → IsPassed query mode rules s count
-  passed_all at.RunWrapper count no n rule below stands = and_false (rule_holds query rule)
-  passed_all s count no = none_by s count (deciding_override query mode rules s) refl no
+  passed_all at.RunWrapper count unnamed n rule below stands = and_false (rule_holds query rule)
+  passed_all s count unnamed n rule below stands =
+      none_by s count (deciding_override query mode rules s) refl unnamed n rule below stands
 
 -- the setting that an override of a number is known to write
 pub written_of : {M : Type 0} (mode : NextestRunMode) (rules : List (EvaluatedRule M (OverrideUse M)))

@@ -5,7 +5,7 @@ ghost use Rattle.nextest_profiles.specs.SettingsOf.{AreSettingsOf};
 ghost use Rattle.nextest_rules.specs.View.{id_view};
 ghost use Rattle.nextest_settings.specs.Deciding.{QueryContext};
 ghost use Rattle.nextest_settings.specs.Profile.{EvaluatableModel};
-ghost use Rattle.nextest_settings.specs.Settings.{index_of, settings as all_settings};
+ghost use Rattle.nextest_settings.specs.Settings.{index_of, is_set, settings as all_settings};
 ghost use Rattle.nextest_settings.specs.SettingsView.{origin_at};
 ghost use Rattle.nextest_settings.specs.View.{meant_override};
 ghost use Rattle.rinqebo_rules.specs.Passed.{HasNoId, IsPassed, IsRuledOut, IsWritten, override_in};
@@ -93,6 +93,18 @@ pub(crate) fn passed_in<'c, F: Filters, S: Specs>(
     Ok(counts)
 }
 
+/// Whether an override writes a setting in a mode.
+fn writes<F: Filters, S: Specs>(
+    rule: &EvaluatedOverride<'_, F, S>,
+    setting: Setting,
+    mode: NextestRunMode,
+) -> bool
+    ensures { result
+        ≡ is_set (meant_override F.meaning rule.now).writes.settings mode setting }
+{
+    rule.rule().settings().value(setting, mode).is_some()
+}
+
 /// A setting that an override writes in a mode, if it writes one.
 fn one_written<F: Filters, S: Specs>(
     rule: &EvaluatedOverride<'_, F, S>,
@@ -100,9 +112,8 @@ fn one_written<F: Filters, S: Specs>(
 ) -> Option<Setting>
     ensures { IsWritten mode (meant_override F.meaning rule.now) result }
 {
-    let written = rule.rule().settings();
     for setting in Setting::ALL.iter() {
-        if written.value(*setting, mode).is_some() {
+        if writes(rule, *setting, mode) {
             return Some(*setting);
         }
     }

@@ -2,6 +2,7 @@ pub mod Statuses
 pub mod Refused
 pub mod Loads
 pub mod Rows
+pub mod FirstOrigins
 pub mod Reasons
 pub mod Pairs
 pub mod Requests

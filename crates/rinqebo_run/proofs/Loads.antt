@@ -1,50 +1,94 @@
 -- What comes of loads.
-use Rattle.std.proofs.Common.{◌≡◌, ◌⊎◌, inl, inr, ℕ, Result, Ok, Err, IfOk, arith}
+use Rattle.std.proofs.Common.{◌≡◌, ◌⊎◌, inl, inr, ℕ, Bool, true, false, cond, ◌&&◌, ◌||◌, not, ◌==◌, List, length, Result, Ok, Err, IfOk, refl, sym, ap, ◌∙◌, subst, arith}
+use Rattle.std.specs.List.{list_any}
 use Rattle.nextest_sources.specs.Endings.{IsMemory}
 use Rattle.nextest_sources.specs.declared.error.ConfigParseError.{ConfigParseError}
+use Rattle.rinqebo_findings.specs.Faults.{ShowsFaults}
 use Rattle.rinqebo_load.specs.Accepted.{AreAccepted}
-use Rattle.rinqebo_run.specs.Checked.{IsCheckStatus}
+use Rattle.rinqebo_report.specs.declared.finding.Finding.{Finding}
+use Rattle.rinqebo_report.specs.declared.report.Report.{Report}
+use Rattle.rinqebo_run.specs.Checked.{IsCheckStatus, accepted_status, is_error}
 use Rattle.rinqebo_run.specs.declared.answer.Answer.{Answer}
 use Rattle.rinqebo_load.specs.declared.session.Session.{Session}
 
+-- the status of a check by whether a finding is an error, and whether one is denied
+abbrev status : Bool → Bool → ℕ
+status error denied = cond (error || denied) 1 0
+
+-- a finding is an error
+pub by_error : (error denied r : Bool) → r ≡ error → r ≡ true → status error denied ≡ 1
+by_error error denied r is holds = ap (λ e. status e denied) (sym is ∙ holds)
+
+-- none is an error, and one is denied
+pub by_denied : (error denied r s : Bool) → r ≡ error → r ≡ false → s ≡ denied → s ≡ true
+    → status error denied ≡ 1
+by_denied error denied r s is unset is' holds =
+    ap (λ e. status e denied) (sym is ∙ unset) ∙ ap (λ d. status false d) (sym is' ∙ holds)
+
+-- none is an error, and none is denied
+pub by_none : (error denied r s : Bool) → r ≡ error → r ≡ false → s ≡ denied → s ≡ false
+    → status error denied ≡ 0
+by_none error denied r s is unset is' unset' =
+    ap (λ e. status e denied) (sym is ∙ unset) ∙ ap (λ d. status false d) (sym is' ∙ unset')
+
+abbrev IsZeroOrOne : ℕ → Type 0
+IsZeroOrOne n = (n ≡ 0) ⊎ (n ≡ 1)
+
+by_test : (test : Bool) → IsZeroOrOne (cond test 1 0)
+by_test true = inr refl
+by_test false = inl refl
+
 -- the status of a check whose load accepts
-pub accepts : (session : Session) (n : ℕ) → AreAccepted session → (n ≡ 0) ⊎ (n ≡ 1) → IsCheckStatus session n
-accepts session n accepted (inl zero) = record {
-  refused = λ three. absurd (omega arith);
-  accepted = λ _. accepted;
-  is_status = inl zero;
-}
-accepts session n accepted (inr one) = record {
-  refused = λ three. absurd (omega arith);
-  accepted = λ _. accepted;
-  is_status = inr (inl one);
-}
+status_cases : (denies : Bool) (findings : List Finding) → IsZeroOrOne (accepted_status denies findings)
+status_cases denies findings = by_test (list_any is_error findings || (denies && not (length findings == 0)))
+
+three_or : {P Q : Type 0} → P ⊎ Q → {R : Type 0} → P ⊎ Q ⊎ R
+three_or (inl p) = inl p
+three_or (inr q) = inr (inl q)
 
 -- no status but 3
 other : {X : Type 0} (n : ℕ) → n ≡ 3 → (n ≡ 0) ⊎ (n ≡ 1) → X
 other n three (inl zero) = absurd (omega arith)
 other n three (inr one) = absurd (omega arith)
 
+pub accepts : (session : Session) (denies : Bool) (report : Report) (n : ℕ) → AreAccepted session
+    → n ≡ accepted_status denies report.findings.items → IsCheckStatus session denies report n
+accepts session denies report n accepted is =
+    let cases : IsZeroOrOne n = subst IsZeroOrOne (sym is) (status_cases denies report.findings.items) in
+    record {
+      refused = λ three. other n three cases;
+      accepted = λ _. accepted;
+      is_status = three_or cases;
+      faults = λ three. other n three cases;
+      by_findings = inr is;
+    }
+
 -- the status of a check whose load refuses
-pub refuses : (session : Session) (n : ℕ) {M : Type 0} → M ⊎ (¬ AreAccepted session) → (¬ M) → n ≡ 3
-    → IsCheckStatus session n
-refuses session n (inl memory) not_memory three = absurd (not_memory memory)
-refuses session n (inr refused) not_memory three = record {
+pub refuses : (session : Session) (denies : Bool) (report : Report) (n : ℕ) {M : Type 0}
+    → M ⊎ (¬ AreAccepted session) → (¬ M) → ShowsFaults session.layers.items report.findings.items
+    → n ≡ 3 → IsCheckStatus session denies report n
+refuses session denies report n (inl memory) not_memory shown three = absurd (not_memory memory)
+refuses session denies report n (inr refused) not_memory shown three = record {
   refused = λ _. refused;
   accepted = λ accepted. other n three accepted;
   is_status = inr (inr three);
+  faults = λ _. shown;
+  by_findings = inl three;
 }
 
 -- the answer of a check whose load accepts
-pub accepted_status : {E : Type 0} (session : Session) (answer : Result Answer E) → AreAccepted session
-    → IfOk answer (λ a. (a.status ≡ 0) ⊎ (a.status ≡ 1))
-    → IfOk answer (λ a. IsCheckStatus session a.status)
-accepted_status session (Ok a) accepted is = accepts session a.status accepted is
-accepted_status session (Err e) accepted is = tt
+pub accepted_answer : {E : Type 0} (session : Session) (denies : Bool) (answer : Result Answer E)
+    → AreAccepted session → IfOk answer (λ a. a.status ≡ accepted_status denies a.report.findings.items)
+    → IfOk answer (λ a. IsCheckStatus session denies a.report a.status)
+accepted_answer session denies (Ok a) accepted is = accepts session denies a.report a.status accepted is
+accepted_answer session denies (Err e) accepted is = tt
 
 -- the answer of a check whose load refuses
-pub refused_status : {E : Type 0} (session : Session) (error : ConfigParseError) (answer : Result Answer E)
-    → IsMemory error ⊎ (¬ AreAccepted session) → IfOk answer (λ a. a.status ≡ 3) → IfOk answer (λ _. ¬ IsMemory error)
-    → IfOk answer (λ a. IsCheckStatus session a.status)
-refused_status session error (Ok a) loaded three not_memory = refuses session a.status loaded not_memory three
-refused_status session error (Err e) loaded three not_memory = tt
+pub refused_answer : {E : Type 0} (session : Session) (denies : Bool) (error : ConfigParseError)
+    (answer : Result Answer E) → IsMemory error ⊎ (¬ AreAccepted session) → IfOk answer (λ a. a.status ≡ 3)
+    → IfOk answer (λ _. ¬ IsMemory error)
+    → IfOk answer (λ a. ShowsFaults session.layers.items a.report.findings.items)
+    → IfOk answer (λ a. IsCheckStatus session denies a.report a.status)
+refused_answer session denies error (Ok a) loaded three not_memory shown =
+    refuses session denies a.report a.status loaded not_memory shown three
+refused_answer session denies error (Err e) loaded three not_memory shown = tt

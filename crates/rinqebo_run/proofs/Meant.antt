@@ -10,6 +10,7 @@ use Rattle.nextest_inheritance.specs.Parents.{parents_in, with_default, IsChain}
 use Rattle.nextest_load.specs.Config.{ConfigModel, config_parents}
 use Rattle.nextest_load.specs.Meaning.{config_meaning}
 use Rattle.nextest_profiles.proofs.MeaningOfTexts.{overrides_meaning, script_rules_meaning, profile_means}
+use Rattle.nextest_profiles.specs.Profiles.{IsChainAndDefault}
 use Rattle.nextest_profiles.specs.Meaning.{with_config, configured_meaning}
 use Rattle.nextest_rules.specs.Meaning.{rule_meaning, override_meaning, script_rule_meaning}
 use Rattle.nextest_rules.specs.Rules.{Compiled, OverrideUse, ScriptRuleUse}
@@ -163,10 +164,10 @@ module _ {E N M K P : Type 0} (f : E → M) (g : N → K) (meets : K → P → O
     read_matches e asked default = matches (f e) asked (f default)
 
     -- what is told of the rules of a chain
-    reasons_meant : (chain : List Name)
-        → AreReasons layers read_meets read_matches platforms test s (profile_of c name chain) rules
-        → AreReasons layers meets matches platforms test s (profile_of (configured_meaning f g c) name chain) rules
-    reasons_meant chain is =
+    reasons_meant : (names chain : List Name)
+        → AreReasons layers names read_meets read_matches platforms test s (profile_of c name chain) rules
+        → AreReasons layers names meets matches platforms test s (profile_of (configured_meaning f g c) name chain) rules
+    reasons_meant names chain is =
         let profile = profile_of c name chain in
         let written = rules_for s test.mode profile.overrides profile.script_rules in
         let meant = profile_of (configured_meaning f g c) name chain in
@@ -191,6 +192,8 @@ module _ {E N M K P : Type 0} (f : E → M) (g : N → K) (meets : K → P → O
               (rules_meant (query (f default)) layers written is.before is.rules_reported));
           fallback_reported = is.fallback_reported;
           fallback_value = is.fallback_value;
+          fallback_origins = is.fallback_origins;
+          fallback_conditions = is.fallback_conditions;
           as_written = is.as_written;
         }
 
@@ -208,8 +211,11 @@ module _ {E N M K P : Type 0} (f : E → M) (g : N → K) (meets : K → P → O
                 is.is_profile.is_chain;
             is_profile = refl;
           };
-          reasons = subst (λ config. AreReasons layers meets matches platforms test s
+          chain = is.chain;
+          is_chain = subst (λ config. IsChainAndDefault (parents_in (config_parents config)) name is.chain) same is.is_chain;
+          reasons = subst (λ config. AreReasons layers is.chain meets matches platforms test s
               (profile_of (with_config c config) name chain) rules) same
-              (reasons_meant chain (subst (λ p. AreReasons layers read_meets read_matches platforms test s p rules)
+              (reasons_meant is.chain chain
+              (subst (λ p. AreReasons layers is.chain read_meets read_matches platforms test s p rules)
               is.is_profile.is_profile is.reasons));
         }

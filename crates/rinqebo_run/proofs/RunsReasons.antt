@@ -14,6 +14,7 @@ use Rattle.nextest_load.specs.Config.{ConfigModel, config_parents}
 use Rattle.nextest_load.specs.Load.{Loaded}
 use Rattle.nextest_load.specs.Meaning.{config_meaning}
 use Rattle.nextest_profiles.proofs.MeaningOfTexts.{overrides_meaning, profile_means}
+use Rattle.nextest_profiles.specs.Profiles.{IsChainAndDefault}
 use Rattle.nextest_profiles.specs.Meaning.{with_config, configured_meaning}
 use Rattle.nextest_rules.specs.Meaning.{override_meaning}
 use Rattle.nextest_rules.specs.Rules.{Compiled, OverrideUse}
@@ -32,25 +33,27 @@ use Rattle.rinqebo_load.specs.Sessions.{files_view, readings, IsLoadedFrom}
 use Rattle.rinqebo_load.specs.declared.found_test.FoundTest.{FoundTest}
 use Rattle.rinqebo_load.specs.declared.session.Session.{Session}
 use Rattle.rinqebo_report.specs.declared.report.Content.{Content}
-use Rattle.rinqebo_report.specs.declared.report.Content.TheVariants as contents
 use Rattle.rinqebo_report.specs.declared.report.Report.{Report}
 use Rattle.rinqebo_report.specs.declared.report.Rule.{Rule}
 use Rattle.rinqebo_report.specs.declared.report.TestId.{TestId}
 use Rattle.rinqebo_report.specs.declared.report.Verdict.TheVariants as told
 use Rattle.rinqebo_rules.specs.Conditions.{is_met_by, filter_matches}
 use Rattle.rinqebo_rules.specs.FilterRules.{FilterRule, filter_facts, filter_rule_on, filter_rule_view, filter_rules, has_default}
+use Rattle.rinqebo_rules.specs.ProfileOrigins.{AreProfileOrigins}
 use Rattle.rinqebo_rules.specs.RulePlaces.{id_place}
 use Rattle.rinqebo_rules.specs.Reported.{value_view}
 use Rattle.rinqebo_rules.specs.VerdictsBy.{verdicts_by}
 use Rattle.rinqebo_rules.specs.declared.chain_rules.SettingRule.{SettingRule}
 use Rattle.rinqebo_rules.specs.declared.verdict.RuleVerdict.{RuleVerdict}
 use Rattle.rinqebo_rules.proofs.Listing.{made_twice}
+use Rattle.rinqebo_run.proofs.Gathering.{why_moved}
 use Rattle.rinqebo_run.proofs.Meant.{condition_meant, read_meets, specs_meant}
 use Rattle.rinqebo_run.proofs.Pairs.{zip_moved}
 use Rattle.rinqebo_run.proofs.Requests.{requested_meant}
 use Rattle.rinqebo_run.specs.Requested.{IsRequestedIn}
-use Rattle.rinqebo_run.specs.RunsReasons.{AreFilterRulesReported, AreHeldReported, AreRunsReasons, AreRunsReasonsIn, AreRunsReported, IfWhyRuns, IsFilterRuleReported, ReportsRunsReasons, default_answer, default_value, filter_verdicts, is_decision, is_selected_on}
-use Rattle.rinqebo_run.specs.ReportsReasons.{IsTestNamed, configured_by}
+use Rattle.rinqebo_run.specs.ConditionTexts.{HasText, IsAbsent, default_text}
+use Rattle.rinqebo_run.specs.RunsReasons.{AreFilterRulesReported, AreHeldReported, AreRunsReasons, AreRunsReasonsIn, AreRunsReported, IsFilterRuleReported, ReportsRunsReasons, default_answer, default_value, filter_verdicts, is_decision, is_selected_on}
+use Rattle.rinqebo_run.specs.ReportsReasons.{IfWhy, IsTestNamed, configured_by}
 
 -- the verdicts of rules as code holds them
 held_verdicts : (rules : List SettingRule) (found : List FilterRule) → map filter_rule_view rules ≡ found
@@ -72,7 +75,7 @@ reported_found layers matches rules found given told same all =
 pub runs_here : (layers : List FileLayer) (platforms : BuildPlatforms Platform) (test : FoundTest) (query : TestQuery)
     (default : FilterChoice (Filterset FieldMatcher)) (profile : EarlyModel (Filterset FieldMatcher) TargetSpec)
     (matches : Bool) (held : List SettingRule) (given : List RuleVerdict) (before : List Rule) (fallback : Rule)
-    (rules : List Rule)
+    (rules : List Rule) (chain : List Name)
     → default ≡ (profile_on is_met_by platforms profile).default_filter
     → test_view query ≡ (found_view test).test
     → matches ≡ filter_matches default.filter (test_view query) default.filter
@@ -82,15 +85,18 @@ pub runs_here : (layers : List FileLayer) (platforms : BuildPlatforms Platform) 
     → fallback.verdict ≡ told.Fallback
     → fallback.filter.answer ≡ default_answer (not (list_any is_decision given)) matches
     → option_map value_view fallback.value ≡ default_value (not (list_any is_decision given)) matches
+    → AreProfileOrigins layers chain None (codes "default-filter") (fallback.origin ∷ fallback.others.items)
+    → HasText (default_text layers fallback.origin) fallback.filter
+    → IsAbsent fallback.host → IsAbsent fallback.target
     → rules ≡ before ++ fallback ∷ []
-    → AreRunsReasons layers is_met_by filter_matches platforms test profile rules
-runs_here layers platforms test query default profile matches held given before fallback rules same asked selected
-    found verdicts here last filtered valued are =
+    → AreRunsReasons layers chain is_met_by filter_matches platforms test profile rules
+runs_here layers platforms test query default profile matches held given before fallback rules chain same asked selected
+    found verdicts here last filtered valued origins text host target are =
     let overrides = filter_rules is_met_by platforms profile.overrides in
     let all : given ≡ filter_verdicts overrides = verdicts ∙ held_verdicts held overrides found in
     let there : matches ≡ is_selected_on filter_matches (profile_on is_met_by platforms profile) (found_view test).test =
     selected ∙ (λ i. filter_matches (same i).filter (asked i) (same i).filter) in
-    let whole : AreRunsReported layers overrides matches rules = record {
+    let whole : AreRunsReported layers chain overrides matches rules = record {
       before = before;
       fallback = fallback;
       are = are;
@@ -99,8 +105,12 @@ runs_here layers platforms test query default profile matches held given before 
       fallback_reported = last;
       fallback_filter = filtered ∙ ap (λ vs. default_answer (not (list_any is_decision vs)) matches) all;
       fallback_value = valued ∙ ap (λ vs. default_value (not (list_any is_decision vs)) matches) all;
+      fallback_origins = origins;
+      fallback_text = text;
+      fallback_host = host;
+      fallback_target = target;
     } in
-    subst (λ m. AreRunsReported layers overrides m rules) there whole
+    subst (λ m. AreRunsReported layers chain overrides m rules) there whole
 
 -- something that is there is there by what it means
 some_meant : {E M : Type 0} (f : E → M) (o : Option E) → is_some o ≡ is_some (option_map f o)
@@ -147,10 +157,11 @@ module _ {E N M K P : Type 0} (f : E → M) (g : N → K) (meets : K → P → O
     abbrev pub matches_read : E → Test → E → Bool
     matches_read e asked default = matches (f e) asked (f default)
 
-    runs_meant : (chain : List Name)
-        → AreRunsReasons layers (read_meets f g meets platforms) matches_read platforms test (profile_of c name chain) rules
-        → AreRunsReasons layers meets matches platforms test (profile_of (configured_meaning f g c) name chain) rules
-    runs_meant chain is =
+    runs_meant : (names chain : List Name)
+        → AreRunsReasons layers names (read_meets f g meets platforms) matches_read platforms test (profile_of c name chain)
+        rules
+        → AreRunsReasons layers names meets matches platforms test (profile_of (configured_meaning f g c) name chain) rules
+    runs_meant names chain is =
         let profile = profile_of c name chain in
         let meant = profile_of (configured_meaning f g c) name chain in
         let asked = (found_view test).test in
@@ -161,9 +172,10 @@ module _ {E N M K P : Type 0} (f : E → M) (g : N → K) (meets : K → P → O
         let default : f (profile_on (read_meets f g meets platforms) platforms profile).default_filter.filter
         ≡ (profile_on meets platforms meant).default_filter.filter =
         ap (λ p. p.default_filter.filter) (profile_means f g meets platforms c name chain) in
-        subst (λ found. AreRunsReported layers found
+        subst (λ found. AreRunsReported layers names found
         (is_selected_on matches (profile_on meets platforms meant) asked) rules) found
-        (subst (λ m. AreRunsReported layers (filter_rules (read_meets f g meets platforms) platforms profile.overrides) m rules)
+        (subst (λ m. AreRunsReported layers names (filter_rules (read_meets f g meets platforms) platforms profile.overrides) m
+        rules)
         (ap (λ d. matches d asked d) default) is)
 
     -- why a test runs or not in a profile, by what texts mean
@@ -180,24 +192,14 @@ module _ {E N M K P : Type 0} (f : E → M) (g : N → K) (meets : K → P → O
                 is.is_profile.is_chain;
             is_profile = refl;
           };
-          reasons = subst (λ config. AreRunsReasons layers meets matches platforms test
+          chain = is.chain;
+          is_chain = subst (λ config. IsChainAndDefault (parents_in (config_parents config)) name is.chain) same is.is_chain;
+          reasons = subst (λ config. AreRunsReasons layers is.chain meets matches platforms test
               (profile_of (with_config c config) name chain) rules) same
-              (runs_meant chain
-              (subst (λ p. AreRunsReasons layers (read_meets f g meets platforms) matches_read platforms test p rules)
+              (runs_meant is.chain chain
+              (subst (λ p. AreRunsReasons layers is.chain (read_meets f g meets platforms) matches_read platforms test p rules)
               is.is_profile.is_profile is.reasons));
         }
-
--- a fact of a test, a key and rules follows from another one
-why_runs_moved : (content : Content) (P Q : TestId → List ℕ → List Rule → Bool → Type 0)
-    → ((named : TestId) (key : List ℕ) (rules : List Rule) (ignored : Bool) → P named key rules ignored
-    → Q named key rules ignored)
-    → IfWhyRuns content P → IfWhyRuns content Q
-why_runs_moved (contents.Explain asked test) P Q moved is = absurd is
-why_runs_moved (contents.Why asked test key rules is_ignored) P Q moved is =
-    moved test (string_bytes key) rules.items is_ignored is
-why_runs_moved (contents.List asked tests unused scripts objects) P Q moved is = absurd is
-why_runs_moved (contents.ShowConfig asked entries) P Q moved is = absurd is
-why_runs_moved contents.Check P Q moved is = absurd is
 
 -- a report tells why a test runs or not by what was loaded
 pub tells_runs : (session : Session) (profile : Name) (test : FoundTest) (report : Report) (content : Content)
@@ -205,7 +207,7 @@ pub tells_runs : (session : Session) (profile : Name) (test : FoundTest) (report
     → AreAccepted session
     → IsLoadedFrom (readings session.engines.filters) (files_view session.gathered.now) loaded
     → IsIn (names_in loaded.config.profiles) profile → report.content ≡ content
-    → IfWhyRuns content (λ named key rules ignored. IsTestNamed test named × (key ≡ codes "runs")
+    → IfWhy content (λ named key rules ignored. IsTestNamed test named × (key ≡ codes "runs")
     × (ignored ≡ test.ignored)
     × AreRunsReasonsIn session.layers.items is_met_by filter_matches session.engines.platforms (record {
       root = string_bytes session.gathered.now.paths.workspace_root;
@@ -233,7 +235,7 @@ tells_runs session profile test report content loaded accepted from there same i
       scripts = loaded.scripts;
       are_scripts = from.scripts;
       known = subst (λ config. IsIn (names_in config.profiles) profile) from.means there;
-      told = why_runs_moved report.content Read Meant
+      told = why_moved report.content Read Meant
           (λ named key rules ignored h. (
             h.0,
             h.1,
@@ -241,6 +243,6 @@ tells_runs session profile test report content loaded accepted from there same i
             runs_of_texts (marks_view names_of) spec_view engines.meets session.engines.platforms
                 session.layers.items engines.matches_test test read profile rules _ from.means h.3,
           ))
-          (subst (λ content. IfWhyRuns content Read) (sym same) is);
+          (subst (λ content. IfWhy content Read) (sym same) is);
       requested = requested_meant session profile test.mode report.content content loaded from same requested;
     }

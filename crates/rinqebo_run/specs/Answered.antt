@@ -48,7 +48,7 @@ AnswersQuestion (questions.List profile mode list asked) session report status =
 AnswersQuestion (questions.ShowConfig profile keys with_hidden) session report status =
     ShowsConfig session profile.now (keys_view keys.items) with_hidden report status
 AnswersQuestion (questions.Check deny_warnings) session report status =
-    IsCheckStatus session status
+    IsCheckStatus session deny_warnings report status
 
 -- the result of a list has objects, whose findings are the warnings of the load
 abbrev pub HasObjectsFor : Session → Question → Content → Type 0

@@ -1,11 +1,36 @@
--- The exit status of a check.
-use Rattle.std.specs.Prelude.{◌≡◌, ◌⊎◌, ℕ}
+-- The exit status of a check, and what its report shows.
+use Rattle.std.specs.Prelude.{◌≡◌, ◌⊎◌, ℕ, Bool, true, false, ◌&&◌, ◌||◌, not, ◌==◌, List, length, if◌then◌else◌}
+use Rattle.std.specs.List.{list_any}
+use Rattle.rinqebo_findings.specs.Faults.{ShowsFaults}
 use Rattle.rinqebo_load.specs.Accepted.{AreAccepted}
 use Rattle.rinqebo_load.specs.declared.session.Session.{Session}
+use Rattle.rinqebo_report.specs.declared.finding.Finding.{Finding}
+use Rattle.rinqebo_report.specs.declared.finding.Level.{Level}
+use Rattle.rinqebo_report.specs.declared.finding.Level.TheVariants as levels
+use Rattle.rinqebo_report.specs.declared.report.Report.{Report}
 
--- The status of a check: 3 only where some rule does not hold of the files, and another one only
--- where all do.
-pub record IsCheckStatus (session : Session) (status : ℕ) : Type 0 where
+-- whether a level is that of errors
+abbrev pub is_error_level : Level → Bool
+is_error_level levels.Error = true
+is_error_level levels.Warning = false
+
+-- whether a finding is an error
+abbrev pub is_error : Finding → Bool
+is_error finding = is_error_level finding.level
+
+-- The status of a check whose load accepts: 1 exactly where a finding is an error, or there is one
+-- and warnings are denied.
+abbrev pub accepted_status : Bool → List Finding → ℕ
+accepted_status denies findings =
+    if list_any is_error findings || (denies && not (length findings == 0)) then 1 else 0
+
+-- The status of a check: 3 only where some rule does not hold of the files, and then the report
+-- shows all that is wrong with their values; and another one only where all rules hold, which the
+-- findings of the report decide.
+pub record IsCheckStatus (session : Session) (denies : Bool) (report : Report) (status : ℕ)
+    : Type 0 where
   pub refused : status ≡ 3 → ¬ AreAccepted session
   pub accepted : (status ≡ 0) ⊎ (status ≡ 1) → AreAccepted session
   pub is_status : (status ≡ 0) ⊎ (status ≡ 1) ⊎ (status ≡ 3)
+  pub faults : status ≡ 3 → ShowsFaults session.layers.items report.findings.items
+  pub by_findings : (status ≡ 3) ⊎ (status ≡ accepted_status denies report.findings.items)

@@ -4,6 +4,7 @@ pub mod Explained
 pub mod Checked
 pub mod Answered
 pub mod Refused
+pub mod ConditionTexts
 pub mod Reasons
 pub mod ReportsReasons
 pub mod RunsReasons

@@ -5,6 +5,8 @@ use Rattle.nextest_engines.specs.declared.queries.BuildPlatforms.{BuildPlatforms
 use Rattle.nextest_settings.specs.Deciding.{QueryContext}
 use Rattle.nextest_settings.specs.Platforms.{rule_on}
 use Rattle.rinqebo_files.specs.declared.layers.Layer.{Layer}
+use Rattle.rinqebo_report.specs.declared.origin.Origin.{Origin}
+use Rattle.rinqebo_report.specs.declared.origin.Origin.TheVariants as kinds
 use Rattle.rinqebo_report.specs.declared.report.Rule.{Rule}
 use Rattle.rinqebo_report.specs.declared.report.Verdict as report
 use Rattle.rinqebo_report.specs.declared.report.Verdict.TheVariants as told
@@ -21,6 +23,7 @@ use Rattle.rinqebo_rules.specs.SettingRules.{RuleFor, RuleValue, writes_it}
 use Rattle.rinqebo_rules.specs.declared.chain_rules.SettingRule.{SettingRule}
 use Rattle.rinqebo_rules.specs.declared.conditions.Answers.{Answers}
 use Rattle.rinqebo_rules.specs.declared.conditions.Asking.{Asking}
+use Rattle.rinqebo_run.specs.ConditionTexts.{AreTextsReported, IsAbsent, filter_text}
 
 -- a verdict, as a report shows it
 abbrev pub page_verdict : RuleVerdict → report.Verdict
@@ -30,8 +33,8 @@ page_verdict verdicts.SetsNothing = told.SetsNothing
 page_verdict verdicts.DecidedBefore = told.DecidedBefore
 page_verdict verdicts.Decides = told.Decides
 
--- A report has a rule: its verdict, its place in the layers, what its conditions say, and what it
--- writes for a setting.
+-- A report has a rule: its verdict, its place in the layers, its conditions, with what they say and
+-- with their texts, and what it writes for a setting.
 pub record IsRuleReported (layers : List Layer) (written : RuleValue) (answers : Answers)
     (verdict : RuleVerdict) (rule : Rule) : Type 0 where
   pub verdict_reported : rule.verdict ≡ page_verdict verdict
@@ -40,7 +43,19 @@ pub record IsRuleReported (layers : List Layer) (written : RuleValue) (answers :
   pub host : rule.host.answer ≡ answers.host
   pub target : rule.target.answer ≡ answers.target
   pub filter : rule.filter.answer ≡ answers.filter
+  pub texts : AreTextsReported layers (filter_text layers rule.origin) rule
   pub value : option_map value_view rule.value ≡ written.value
+
+-- some origins, or, where there are none, that nothing is written
+abbrev pub or_built_in : List Origin → List Origin
+or_built_in [] = kinds.BuiltIn ∷ []
+or_built_in (origin ∷ others) = origin ∷ others
+
+-- A report has no conditions of what counts where no rule decides.
+pub record HasNoConditions (fallback : Rule) : Type 0 where
+  pub host : IsAbsent fallback.host
+  pub target : IsAbsent fallback.target
+  pub filter : IsAbsent fallback.filter
 
 -- A report has what a rule writes at some steps, with its durations as a file writes them, where
 -- one file alone writes the value.

@@ -1,13 +1,13 @@
 -- Why a test runs or not: the overrides that have a default filter, the result of each, and how a
 -- report lists them.
-use Rattle.std.specs.Prelude.{◌≡◌, ℕ, List, [], ◌∷◌, ◌++◌, Bool, true, false, not, map, None, Option, Some, option_map, codes, string_bytes}
+use Rattle.std.specs.Prelude.{◌≡◌, ℕ, List, [], ◌∷◌, ◌++◌, Bool, true, false, not, map, None, Option, Some, option_map, codes}
 use Rattle.std.specs.List.{AllZip, list_any, zip}
 use Rattle.nextest_engines.specs.Engines.{Test}
 use Rattle.nextest_engines.specs.declared.queries.BuildPlatforms.{BuildPlatforms}
 use Rattle.nextest_inheritance.specs.Parents.{parents_in}
 use Rattle.nextest_load.specs.Config.{ScriptTables, config_parents}
 use Rattle.nextest_load.specs.Scripts.{AreScriptsOf}
-use Rattle.nextest_profiles.specs.Profiles.{IsProfileOf}
+use Rattle.nextest_profiles.specs.Profiles.{IsChainAndDefault, IsProfileOf}
 use Rattle.nextest_settings.specs.Profile.{Configured, EarlyModel, EvaluatableModel, profile_on}
 use Rattle.nextest_settings.specs.Queries.{query_in}
 use Rattle.nextest_sources.specs.Inputs.{sources_in}
@@ -22,24 +22,23 @@ use Rattle.rinqebo_load.specs.declared.found_test.FoundTest.{FoundTest}
 use Rattle.rinqebo_load.specs.declared.session.Session.{Session}
 use Rattle.rinqebo_report.specs.declared.report.ConditionAnswer.{ConditionAnswer}
 use Rattle.rinqebo_report.specs.declared.report.ConditionAnswer.TheVariants as says
-use Rattle.rinqebo_report.specs.declared.report.Content.{Content}
-use Rattle.rinqebo_report.specs.declared.report.Content.TheVariants as contents
 use Rattle.rinqebo_report.specs.declared.report.Report.{Report}
 use Rattle.rinqebo_report.specs.declared.report.Rule.{Rule}
-use Rattle.rinqebo_report.specs.declared.report.TestId.{TestId}
 use Rattle.rinqebo_report.specs.declared.report.Verdict.TheVariants as told
 use Rattle.rinqebo_rules.specs.Conditions.{reported_answer}
 use Rattle.rinqebo_rules.specs.FilterRules.{FilterRule, filter_rule_view, filter_rules}
 use Rattle.rinqebo_rules.specs.Origins.{IsOriginOf}
+use Rattle.rinqebo_rules.specs.ProfileOrigins.{AreProfileOrigins}
 use Rattle.rinqebo_rules.specs.Runs.{is_selected}
 use Rattle.rinqebo_rules.specs.Reported.{ReportedScalar, ReportedValue, value_view}
 use Rattle.rinqebo_rules.specs.VerdictsBy.{verdicts_by}
 use Rattle.rinqebo_rules.specs.declared.chain_rules.SettingRule.{SettingRule}
 use Rattle.rinqebo_rules.specs.declared.verdict.RuleVerdict.{RuleVerdict}
 use Rattle.rinqebo_rules.specs.declared.verdict.RuleVerdict.TheVariants as verdicts
+use Rattle.rinqebo_run.specs.ConditionTexts.{AreTextsReported, HasText, IsAbsent, default_text}
 use Rattle.rinqebo_run.specs.Reasons.{page_verdict}
 use Rattle.rinqebo_run.specs.Requested.{IsRequestedIn}
-use Rattle.rinqebo_run.specs.ReportsReasons.{IsTestNamed, configured_by}
+use Rattle.rinqebo_run.specs.ReportsReasons.{IfWhy, IsTestNamed, configured_by}
 
 -- What a report says of a default filter and a test, by whether the filter is the one that counts
 -- and whether that one matches the test: the program evaluates only the one that counts.
@@ -65,7 +64,8 @@ abbrev pub filter_verdicts : List FilterRule → List RuleVerdict
 filter_verdicts rules = verdicts_by false (map (λ rule. rule.facts) rules)
 
 -- A report has an override with a default filter: its verdict, its place in the layers, what its
--- platforms say, and whether the test runs by its default filter, if that is the one that counts.
+-- platforms say, whether the test runs by its default filter, if that is the one that counts, and
+-- the texts of these.
 pub record IsFilterRuleReported (layers : List Layer) (matches : Bool) (found : FilterRule)
     (verdict : RuleVerdict) (rule : Rule) : Type 0 where
   pub verdict_reported : rule.verdict ≡ page_verdict verdict
@@ -74,6 +74,7 @@ pub record IsFilterRuleReported (layers : List Layer) (matches : Bool) (found : 
   pub host : rule.host.answer ≡ found.host
   pub target : rule.target.answer ≡ found.target
   pub filter : rule.filter.answer ≡ default_answer (is_decision verdict) matches
+  pub texts : AreTextsReported layers (default_text layers rule.origin) rule
   pub value : option_map value_view rule.value ≡ default_value (is_decision verdict) matches
 
 -- a report lists overrides that have a default filter, with verdicts
@@ -93,9 +94,9 @@ AreHeldReported layers matches rules given told = AllZip
 
 -- A report lists why a test runs or not, by the overrides that have a default filter and whether
 -- the one that counts matches the test: these overrides in order, with the result of each, and then
--- the default filter of the chain of profiles, which counts where none of them decides.
-pub record AreRunsReported (layers : List Layer) (found : List FilterRule) (matches : Bool)
-    (rules : List Rule) : Type 0 where
+-- the default filter of a chain of profiles, which counts where none of them decides.
+pub record AreRunsReported (layers : List Layer) (chain : List Name) (found : List FilterRule)
+    (matches : Bool) (rules : List Rule) : Type 0 where
   pub before : List Rule
   pub fallback : Rule
   pub are : rules ≡ before ++ fallback ∷ []
@@ -105,6 +106,11 @@ pub record AreRunsReported (layers : List Layer) (found : List FilterRule) (matc
       ≡ default_answer (not (list_any is_decision (filter_verdicts found))) matches
   pub fallback_value : option_map value_view fallback.value
       ≡ default_value (not (list_any is_decision (filter_verdicts found))) matches
+  pub fallback_origins : AreProfileOrigins layers chain None (codes "default-filter")
+      (fallback.origin ∷ fallback.others.items)
+  pub fallback_text : HasText (default_text layers fallback.origin) fallback.filter
+  pub fallback_host : IsAbsent fallback.host
+  pub fallback_target : IsAbsent fallback.target
 
 -- whether the default filter that counts in a profile matches a test
 abbrev pub is_selected_on : {M : Type 0} → (M → Test → M → Bool) → EvaluatableModel M → Test
@@ -112,27 +118,23 @@ abbrev pub is_selected_on : {M : Type 0} → (M → Test → M → Bool) → Eva
 is_selected_on matches profile test = is_selected (query_in matches profile test) profile
 
 -- A report lists why a test runs or not in a profile, on the platforms of a build.
-abbrev pub AreRunsReasons : {M K P : Type 0} → List Layer → (K → P → Option Bool)
+abbrev pub AreRunsReasons : {M K P : Type 0} → List Layer → List Name → (K → P → Option Bool)
     → (M → Test → M → Bool) → BuildPlatforms P → FoundTest → EarlyModel M K → List Rule
     → Type 0
-AreRunsReasons layers meets matches platforms test profile rules =
-    AreRunsReported layers (filter_rules meets platforms profile.overrides)
+AreRunsReasons layers chain meets matches platforms test profile rules =
+    AreRunsReported layers chain (filter_rules meets platforms profile.overrides)
     (is_selected_on matches (profile_on meets platforms profile) (found_view test).test) rules
 
--- A report lists why a test runs or not in the profile of a name.
+-- A report lists why a test runs or not in the profile of a name. The default filter that counts
+-- where no override decides comes from the chain of the profile.
 pub record AreRunsReasonsIn {M K P : Type 0} (layers : List Layer) (meets : K → P → Option Bool)
     (matches : M → Test → M → Bool) (platforms : BuildPlatforms P) (configured : Configured M K)
     (name : Name) (test : FoundTest) (rules : List Rule) : Type 0 where
   pub profile : EarlyModel M K
   pub is_profile : IsProfileOf configured name profile
-  pub reasons : AreRunsReasons layers meets matches platforms test profile rules
-
--- a fact of the test, the key and the rules of a report, and of whether it shows the test as
--- ignored
-abbrev pub IfWhyRuns : Content → (TestId → List ℕ → List Rule → Bool → Type 0) → Type 0
-IfWhyRuns (contents.Why asked test key rules is_ignored) P =
-    P test (string_bytes key) rules.items is_ignored
-IfWhyRuns _ P = ⊥
+  pub chain : List Name
+  pub is_chain : IsChainAndDefault (parents_in (config_parents configured.config)) name chain
+  pub reasons : AreRunsReasons layers chain meets matches platforms test profile rules
 
 -- A report lists why a test runs or not in a profile, by what the files mean.
 pub record ReportsRunsReasons (session : Session) (profile : List ℕ) (test : FoundTest)
@@ -146,7 +148,7 @@ pub record ReportsRunsReasons (session : Session) (profile : List ℕ) (test : F
   pub known : IsIn (names_in (configured_by session scripts).config.profiles) profile
   -- The report names the test, and shows the result of each override that has a default filter, and
   -- whether the test is ignored.
-  pub told : IfWhyRuns report.content (λ named key rules ignored. IsTestNamed test named
+  pub told : IfWhy report.content (λ named key rules ignored. IsTestNamed test named
       × (key ≡ codes "runs") × (ignored ≡ test.ignored)
       × AreRunsReasonsIn session.layers.items (readings session.engines.filters).meets
       (readings session.engines.filters).matches_test session.engines.platforms

@@ -1,28 +1,69 @@
 //! The result of a check: what is wrong with files.
-ghost use Rattle.std.specs.Prelude.{◌≡◌, ◌⊎◌, IfOk, IfErr};
+ghost use Rattle.std.specs.Prelude.{◌≡◌, ◌==◌, ◌&&◌, IfOk, IfErr, length, not};
+ghost use Rattle.std.specs.List.{list_any};
 ghost use Rattle.nextest_sources.specs.Endings.{IsMemory};
 ghost use Rattle.rinqebo_findings.specs.Reports.{IsReportOf};
+ghost use Rattle.rinqebo_findings.specs.Faults.{ShowsFaults};
 ghost use Rattle.rinqebo_load.specs.declared.failure.Failure.TheVariants.{Memory};
-ghost use Rattle.rinqebo_run.specs.Checked.{IsCheckStatus};
+ghost use Rattle.rinqebo_run.specs.Checked.{IsCheckStatus, accepted_status, is_error};
 
 use crate::answer::Answer;
 use crate::open_filters::open_filters_note;
 use crate::status::Status;
 use nextest_config::{ConfigParseError, DefaultConfigWarnings};
-use rinqebo_findings::{report_of, report_of_refusal, warning_findings};
+use rinqebo_findings::{nextest_findings, report_of, report_of_refused_check, warning_findings};
 use rinqebo_load::{Config, Failure, Session};
-use rinqebo_report::{Content, Finding};
+use rinqebo_report::{Content, Finding, Level};
 use std::alloc::{AllocError, Global};
+
+/// Whether a finding is an error.
+fn is_error(finding: &Finding) -> bool
+    ensures { result ≡ is_error finding.now }
+{
+    match finding.level {
+        Level::Error => true,
+        Level::Warning => false,
+    }
+}
+
+/// Whether some finding is an error.
+fn has_error(findings: &[Finding]) -> bool
+    ensures { result ≡ list_any is_error findings.now }
+{
+    findings.iter().any(|finding| is_error(finding))
+}
+
+/// Whether there is a finding, where warnings are denied.
+fn is_denied(findings: &[Finding], deny_warnings: bool) -> bool
+    ensures { result ≡ (deny_warnings && not (length findings.now == 0)) }
+{
+    deny_warnings && !findings.is_empty()
+}
 
 /// The exit status of a check whose load accepts.
 fn status_of(findings: &[Finding], deny_warnings: bool) -> u8
-    ensures { (result ≡ 0) ⊎ (result ≡ 1) }
+    ensures { result ≡ accepted_status deny_warnings findings.now }
 {
-    if deny_warnings && !findings.is_empty() {
-        Status::Negative as u8
-    } else {
-        Status::Success as u8
+    if has_error(findings) {
+        return Status::Negative as u8;
     }
+    if is_denied(findings, deny_warnings) {
+        return Status::Negative as u8;
+    }
+    Status::Success as u8
+}
+
+/// What is wrong with files that a load accepts: its warnings, and what nextest refuses.
+fn accepted_findings(
+    alloc: Global,
+    session: &Session<'_>,
+    warnings: &DefaultConfigWarnings,
+) -> Result<Vec<Finding>, AllocError> {
+    let mut findings = warning_findings(alloc, &session.layers, warnings)?;
+    for finding in nextest_findings(alloc, &session.layers)? {
+        findings.push(finding)?;
+    }
+    Ok(findings)
 }
 
 /// The result of a check whose load accepts, and returns a configuration.
@@ -33,12 +74,13 @@ fn accepted(
     warnings: &DefaultConfigWarnings,
     deny_warnings: bool,
 ) -> Result<Answer, AllocError>
-    ensures status { IfOk result (λ answer. (answer.status ≡ 0) ⊎ (answer.status ≡ 1)) }
+    ensures status { IfOk result (λ answer. answer.status
+        ≡ accepted_status deny_warnings answer.report.findings.items) }
     ensures about { IfOk result (λ answer. IsReportOf session.now answer.report) }
 {
-    let findings = warning_findings(alloc, &session.layers, warnings)?;
-    let status = status_of(&findings, deny_warnings);
+    let findings = accepted_findings(alloc, session, warnings)?;
     let report = report_of(alloc, session, findings, Vec::new(alloc), Content::Check)?;
+    let status = status_of(&report.findings, deny_warnings);
     Ok(Answer {
         report,
         status,
@@ -55,12 +97,14 @@ fn refused(
 ) -> Result<Answer, AllocError>
     ensures status { IfOk result (λ answer. answer.status ≡ 3) }
     ensures cause { IfOk result (λ _. ¬ IsMemory error.now) }
+    ensures faults { IfOk result (λ answer.
+        ShowsFaults session.now.layers.items answer.report.findings.items) }
     ensures about { IfOk result (λ answer. IsReportOf session.now answer.report) }
 {
     if error.config_file().is_none() {
         return Err(AllocError);
     }
-    let report = report_of_refusal(alloc, session, warnings, error)?;
+    let report = report_of_refused_check(alloc, session, warnings, error)?;
     Ok(Answer {
         report,
         status: Status::Refused as u8,
@@ -70,7 +114,8 @@ fn refused(
 
 /// The result of a check.
 fn checked(alloc: Global, session: &Session<'_>, deny_warnings: bool) -> Result<Answer, AllocError>
-    ensures status { IfOk result (λ answer. IsCheckStatus session.now answer.status) }
+    ensures status { IfOk result (λ answer.
+        IsCheckStatus session.now deny_warnings answer.report answer.status) }
     ensures about { IfOk result (λ answer. IsReportOf session.now answer.report) }
 {
     let mut warnings = DefaultConfigWarnings::new(alloc);
@@ -82,7 +127,8 @@ fn checked(alloc: Global, session: &Session<'_>, deny_warnings: bool) -> Result<
 
 /// What is wrong with the files.
 pub fn check(alloc: Global, session: &Session<'_>, deny_warnings: bool) -> Result<Answer, Failure>
-    ensures ok { IfOk result (λ answer. IsCheckStatus session.now answer.status) }
+    ensures ok { IfOk result (λ answer.
+        IsCheckStatus session.now deny_warnings answer.report answer.status) }
     ensures about { IfOk result (λ answer. IsReportOf session.now answer.report) }
     ensures err { IfErr result (λ failure. failure ≡ Memory) }
 {

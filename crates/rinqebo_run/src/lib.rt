@@ -9,6 +9,7 @@ mod answer;
 mod asked;
 mod check;
 mod codes;
+mod condition_texts;
 mod explain;
 mod id_note;
 mod idle;

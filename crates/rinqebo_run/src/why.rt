@@ -1,5 +1,6 @@
 //! The rules of a setting, and the result of each.
-ghost use Rattle.std.specs.Prelude.{◌≡◌, All, IfErr, IfOk, List, map, option_map};
+ghost use Rattle.std.specs.Prelude.{◌≡◌, ◌∷◌, All, IfErr, IfOk, List, map, option_map};
+ghost use Rattle.nextest_grounds.specs.Layers.{keys_view};
 ghost use Rattle.nextest_inheritance.specs.Parents.{parents_in};
 ghost use Rattle.nextest_load.specs.Config.{config_parents};
 ghost use Rattle.nextest_settings.specs.Settings.{fallback_of};
@@ -8,8 +9,9 @@ ghost use Rattle.rinqebo_report.specs.declared.report.Verdict.TheVariants as tol
 ghost use Rattle.rinqebo_request.specs.Keys.{key_name, key_table, key_text};
 ghost use Rattle.rinqebo_rules.specs.Conditions.{is_met_by, filter_matches};
 ghost use Rattle.rinqebo_run.specs.ListedBy.{read_by};
-ghost use Rattle.rinqebo_run.specs.Reasons.{page_verdict, AreRulesReportedHere, AreReportedWith, IsRuleAsWritten, IsRuleReported};
+ghost use Rattle.rinqebo_run.specs.Reasons.{page_verdict, AreRulesReportedHere, AreReportedWith, HasNoConditions, IsRuleAsWritten, IsRuleReported, or_built_in};
 ghost use Rattle.rinqebo_rules.specs.Origins.{key_steps};
+ghost use Rattle.rinqebo_rules.specs.ProfileOrigins.{AreProfileOrigins};
 ghost use Rattle.rinqebo_rules.specs.RuleAnswers.{judged_here};
 ghost use Rattle.rinqebo_run.specs.LookedUp.{IsFailureOn, IsLookedUp};
 ghost use Rattle.rinqebo_findings.specs.Reports.{IsReportOf};
@@ -21,6 +23,7 @@ ghost use Rattle.rinqebo_rules.specs.Reported.{reported_of, value_view};
 
 use crate::answer::Answer;
 use crate::asked::requested_of;
+use crate::condition_texts::{condition, filter_text, host_text, no_condition, target_text};
 use crate::id_note::id_note;
 use crate::idle::findings_on;
 use crate::looked_up::config_looked_up;
@@ -31,30 +34,16 @@ use nextest_config::{
     BuildPlatforms, DefaultConfigWarnings, Filters, NextestRunMode, Setting, TestQuery,
 };
 use platform_table::Platform;
-use rinqebo_files::{Layer, host_text, target_text, text_at};
+use rinqebo_files::Layer;
 use rinqebo_findings::report_of;
 use rinqebo_load::{Config, Failure, FoundTest, Session, chain_of_profile};
-use rinqebo_report::{Condition, ConditionAnswer, Content, Origin, Rule, TestId, Verdict};
+use rinqebo_report::{Content, Origin, Rule, TestId, Verdict};
 use rinqebo_request::SettingKey;
 use rinqebo_rules::{
     Asking, SettingRule, node_alone, profile_grounds, reported_if_set, reported_platform,
     rules_for, verdicts_of,
 };
 use std::alloc::{AllocError, Global};
-
-/// A condition, with its text.
-pub(crate) fn condition(
-    alloc: Global,
-    text: Option<&str>,
-    answer: ConditionAnswer,
-) -> Result<Condition, AllocError>
-    ensures { IfOk result (λ condition. condition.answer ≡ answer) }
-{
-    Ok(Condition {
-        text: String::from_str(alloc, text.unwrap_or(""))?,
-        answer,
-    })
-}
 
 /// A verdict, as a report shows it.
 pub(crate) fn reported_verdict(verdict: rinqebo_rules::RuleVerdict) -> Verdict
@@ -82,18 +71,20 @@ fn reported_rule(
     ensures written { IfOk result (IsRuleAsWritten layers.now
         (key_steps (option_map (λ table. table.now) key.table) key.key.now)) }
 {
-    let table = rule.place.table(layers);
     let answers = rule.answers;
     let origin = rule.place.origin(alloc, layers)?;
     let others = Vec::new(alloc);
     let node = node_alone(layers, key, &origin, &others);
+    let host = condition(alloc, host_text(layers, &origin), answers.host)?;
+    let target = condition(alloc, target_text(layers, &origin), answers.target)?;
+    let filter = condition(alloc, filter_text(layers, &origin), answers.filter)?;
     Ok(Rule {
         verdict: reported_verdict(verdict),
         origin,
         others,
-        host: condition(alloc, host_text(table), answers.host)?,
-        target: condition(alloc, target_text(table), answers.target)?,
-        filter: condition(alloc, text_at(table, "filter"), answers.filter)?,
+        host,
+        target,
+        filter,
         value: reported_if_set(alloc, rule.value, node)?,
     })
 }
@@ -137,17 +128,14 @@ fn reported_rules(
 }
 
 /// The first of some origins, or built in where there is none, and the others.
-pub(crate) fn first_and_others(
-    alloc: Global,
-    origins: Vec<Origin>,
-) -> Result<(Origin, Vec<Origin>), AllocError> {
-    let mut rest = origins.into_iter();
-    let first = rest.next().unwrap_or(Origin::BuiltIn);
-    let mut others = Vec::new(alloc);
-    for origin in rest {
-        others.push(origin)?;
+pub(crate) fn first_and_others(alloc: Global, mut origins: Vec<Origin>) -> (Origin, Vec<Origin>)
+    ensures { result.0 ∷ result.1.items ≡ or_built_in origins.items }
+{
+    if origins.is_empty() {
+        return (Origin::BuiltIn, Vec::new(alloc));
     }
-    Ok((first, others))
+    let first = origins.remove(0);
+    (first, origins)
 }
 
 /// What counts where no rule of a profile decides.
@@ -164,18 +152,22 @@ fn fallback_rule(
         ≡ option_map (reported_of setting) (fallback_of profile.now.facts.fields mode setting)) }
     ensures written { IfOk result (IsRuleAsWritten session.now.layers.items
         (key_steps (key_table setting mode) (key_name setting))) }
+    ensures origins { IfOk result (λ rule. AreProfileOrigins session.now.layers.items
+        (keys_view chain.now) (key_table setting mode) (key_name setting)
+        (rule.origin ∷ rule.others.items)) }
+    ensures conditions { IfOk result HasNoConditions }
 {
     let key = SettingKey::of(setting, mode);
     let origins = profile_grounds(alloc, &session.layers, chain, key)?;
-    let (origin, others) = first_and_others(alloc, origins)?;
+    let (origin, others) = first_and_others(alloc, origins);
     let node = node_alone(&session.layers, key, &origin, &others);
     Ok(Rule {
         verdict: Verdict::Fallback,
         origin,
         others,
-        host: condition(alloc, None, ConditionAnswer::Absent)?,
-        target: condition(alloc, None, ConditionAnswer::Absent)?,
-        filter: condition(alloc, None, ConditionAnswer::Absent)?,
+        host: no_condition(alloc),
+        target: no_condition(alloc),
+        filter: no_condition(alloc),
         value: reported_if_set(alloc, profile.fallback(setting, mode), node)?,
     })
 }
@@ -206,8 +198,9 @@ fn rules_and_fallback<'c>(
     test: &'c FoundTest,
     setting: Setting,
 ) -> Result<Vec<Rule>, AllocError>
-    ensures { IfOk result (λ rules. AreReasons session.now.layers.items is_met_by filter_matches
-        session.now.engines.platforms test.now setting profile.now rules.items) }
+    ensures { IfOk result (λ rules. AreReasons session.now.layers.items (keys_view chain.now)
+        is_met_by filter_matches session.now.engines.platforms test.now setting profile.now
+        rules.items) }
 {
     let platforms = &session.engines.platforms;
     let listed = test.listed();
@@ -244,9 +237,9 @@ fn reasons<'c>(
     requires { IsIn (names_in config.now.config.profiles) profile.now }
     ensures requested { IfOk result (IsRequestedIn session.now
         (parents_in (config_parents config.now.config)) profile.now test.now.mode) }
-    ensures told { IfOk result (λ content. IfWhy content (λ named key rules.
+    ensures told { IfOk result (λ content. IfWhy content (λ named key rules ignored.
         IsTestNamed test.now named
-        × (key ≡ key_text setting test.now.mode)
+        × (key ≡ key_text setting test.now.mode) × (ignored ≡ test.now.ignored)
         × AreReasonsIn session.now.layers.items is_met_by filter_matches
         session.now.engines.platforms (read_by session.now config.now) profile.now test.now setting
         rules)) }

@@ -1,42 +1,43 @@
 //! Why a test runs or not: the overrides that have a default filter, and the result of each.
-ghost use Rattle.std.specs.Prelude.{◌≡◌, not, codes, IfErr, IfOk, option_map};
+ghost use Rattle.std.specs.Prelude.{◌≡◌, ◌∷◌, not, codes, IfErr, IfOk, None, option_map};
 ghost use Rattle.std.specs.List.{list_any};
+ghost use Rattle.nextest_grounds.specs.Layers.{keys_view};
 ghost use Rattle.nextest_inheritance.specs.Parents.{parents_in};
 ghost use Rattle.nextest_load.specs.Config.{config_parents};
 ghost use Rattle.nextest_tables.specs.FileTexts.{names_in, IsIn};
 ghost use Rattle.rinqebo_report.specs.declared.report.Verdict.TheVariants as told;
 ghost use Rattle.rinqebo_rules.specs.Conditions.{is_met_by, filter_matches};
 ghost use Rattle.rinqebo_rules.specs.FilterRules.{filter_rule_view};
+ghost use Rattle.rinqebo_rules.specs.ProfileOrigins.{AreProfileOrigins};
 ghost use Rattle.rinqebo_rules.specs.Reported.{value_view};
+ghost use Rattle.rinqebo_run.specs.ConditionTexts.{default_text, HasText, IsAbsent};
 ghost use Rattle.rinqebo_run.specs.ListedBy.{read_by};
 ghost use Rattle.rinqebo_run.specs.LookedUp.{IsFailureOn, IsLookedUp};
 ghost use Rattle.rinqebo_findings.specs.Reports.{IsReportOf};
 ghost use Rattle.rinqebo_run.specs.Requested.{IsRequestedIn};
-ghost use Rattle.rinqebo_run.specs.RunsReasons.{AreHeldReported, AreRunsReasons, AreRunsReasonsIn, IfWhyRuns, IsFilterRuleReported, ReportsRunsReasons, default_answer, default_value, is_decision};
-ghost use Rattle.rinqebo_run.specs.ReportsReasons.{IsTestNamed};
+ghost use Rattle.rinqebo_run.specs.RunsReasons.{AreHeldReported, AreRunsReasons, AreRunsReasonsIn, IsFilterRuleReported, ReportsRunsReasons, default_answer, default_value, is_decision};
+ghost use Rattle.rinqebo_run.specs.ReportsReasons.{IfWhy, IsTestNamed};
 
 use crate::answer::Answer;
 use crate::asked::requested_of;
+use crate::condition_texts::{condition, default_text, host_text, no_condition, target_text};
 use crate::id_note::id_note;
 use crate::idle::findings_on;
 use crate::looked_up::config_looked_up;
 use crate::profile::{Early, early_profile};
 use crate::status::Status;
-use crate::why::{condition, first_and_others, named_test, reported_verdict};
+use crate::why::{first_and_others, named_test, reported_verdict};
 use nextest_config::DefaultConfigWarnings;
-use rinqebo_files::{Layer, host_text, profile_table, target_text, text_at};
+use rinqebo_files::Layer;
 use rinqebo_findings::report_of;
 use rinqebo_load::{Config, Failure, FoundTest, Session, chain_of_profile};
-use rinqebo_report::{ConditionAnswer, Content, Origin, Rule, Scalar, Value, Verdict};
+use rinqebo_report::{ConditionAnswer, Content, Rule, Scalar, Value, Verdict};
 use rinqebo_request::RUNS;
 use rinqebo_rules::{
     RuleVerdict, SettingRule, default_filter_key, filter_rules, is_matched_by_default,
     profile_grounds, verdicts_of,
 };
 use std::alloc::{AllocError, Global};
-
-/// The name of the profile of the defaults.
-const DEFAULT: &str = "default";
 
 /// What a default filter says of a test: only the one that counts is evaluated.
 fn default_answer(counts: bool, matches: bool) -> ConditionAnswer
@@ -87,17 +88,20 @@ fn reported_filter_rule(
     ensures { IfOk result (IsFilterRuleReported layers.now matches (filter_rule_view rule.now)
         verdict) }
 {
-    let table = rule.place.table(layers);
     let answers = rule.answers;
     let counts = is_decision(verdict);
+    let origin = rule.place.origin(alloc, layers)?;
+    let host = condition(alloc, host_text(layers, &origin), answers.host)?;
+    let target = condition(alloc, target_text(layers, &origin), answers.target)?;
     let answer = default_answer(counts, matches);
+    let filter = condition(alloc, default_text(layers, &origin), answer)?;
     Ok(Rule {
         verdict: reported_verdict(verdict),
-        origin: rule.place.origin(alloc, layers)?,
+        origin,
         others: Vec::new(alloc),
-        host: condition(alloc, host_text(table), answers.host)?,
-        target: condition(alloc, target_text(table), answers.target)?,
-        filter: condition(alloc, text_at(table, "default-filter"), answer)?,
+        host,
+        target,
+        filter,
         value: default_value(counts, matches),
     })
 }
@@ -120,17 +124,6 @@ fn reported_filter_rules(
     Ok(reported)
 }
 
-/// The text of the default filter that a profile writes at an origin.
-fn default_text<'l>(layers: &'l [Layer<'_>], origin: &Origin) -> Option<&'l str> {
-    let (source, profile) = match origin {
-        Origin::Written(written) => (written.place.source, written.profile.as_str()),
-        Origin::DefaultTable => (0, DEFAULT),
-        Origin::BuiltIn | Origin::File(_) => return None,
-    };
-    let tree = layers.get(source)?.tree()?;
-    text_at(profile_table(tree, profile), "default-filter")
-}
-
 /// The default filter of a chain of profiles, which counts where no override decides.
 fn runs_fallback(
     alloc: Global,
@@ -143,17 +136,23 @@ fn runs_fallback(
     ensures filter { IfOk result (λ rule. rule.filter.answer ≡ default_answer counts matches) }
     ensures value { IfOk result (λ rule.
         option_map value_view rule.value ≡ default_value counts matches) }
+    ensures origins { IfOk result (λ rule. AreProfileOrigins session.now.layers.items
+        (keys_view chain.now) None (codes "default-filter") (rule.origin ∷ rule.others.items)) }
+    ensures text { IfOk result (λ rule.
+        HasText (default_text session.now.layers.items rule.origin) rule.filter) }
+    ensures host { IfOk result (λ rule. IsAbsent rule.host) }
+    ensures target { IfOk result (λ rule. IsAbsent rule.target) }
 {
     let origins = profile_grounds(alloc, &session.layers, chain, default_filter_key())?;
-    let (origin, others) = first_and_others(alloc, origins)?;
+    let (origin, others) = first_and_others(alloc, origins);
     let text = default_text(&session.layers, &origin);
     let filter = condition(alloc, text, default_answer(counts, matches))?;
     Ok(Rule {
         verdict: Verdict::Fallback,
         origin,
         others,
-        host: condition(alloc, None, ConditionAnswer::Absent)?,
-        target: condition(alloc, None, ConditionAnswer::Absent)?,
+        host: no_condition(alloc),
+        target: no_condition(alloc),
         filter,
         value: default_value(counts, matches),
     })
@@ -167,8 +166,8 @@ fn runs_rules<'c>(
     chain: &[&str],
     test: &'c FoundTest,
 ) -> Result<Vec<Rule>, AllocError>
-    ensures { IfOk result (λ rules. AreRunsReasons session.now.layers.items is_met_by filter_matches
-        session.now.engines.platforms test.now profile.now rules.items) }
+    ensures { IfOk result (λ rules. AreRunsReasons session.now.layers.items (keys_view chain.now)
+        is_met_by filter_matches session.now.engines.platforms test.now profile.now rules.items) }
 {
     let platforms = &session.engines.platforms;
     let listed = test.listed();
@@ -194,7 +193,7 @@ fn runs_reasons<'c>(
     requires { IsIn (names_in config.now.config.profiles) profile.now }
     ensures requested { IfOk result (IsRequestedIn session.now
         (parents_in (config_parents config.now.config)) profile.now test.now.mode) }
-    ensures told { IfOk result (λ content. IfWhyRuns content (λ named key rules ignored.
+    ensures told { IfOk result (λ content. IfWhy content (λ named key rules ignored.
         IsTestNamed test.now named × (key ≡ codes "runs") × (ignored ≡ test.now.ignored)
         × AreRunsReasonsIn session.now.layers.items is_met_by filter_matches
         session.now.engines.platforms (read_by session.now config.now) profile.now test.now

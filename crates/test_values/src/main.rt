@@ -6,6 +6,7 @@
 //! | Word | A row of the kind |
 //! |---|---|
 //! | `value` | a value of a configuration, as its reader reads it (`value.rt`) |
+//! | `faults` | a file, whose faults of elements are printed (`faults.rt`) |
 //! | `place` | a path in a text, whose lines are printed (`place.rt`) |
 //! | `schema` | a place of a configuration file, and what its shape says of it (`schema.rt`) |
 //! | `platform` | the spec of platforms, read, or evaluated on a platform (`platform.rt`) |
@@ -15,6 +16,7 @@
 #![tactic(auto)]
 
 mod escapes;
+mod faults;
 mod filter;
 mod place;
 mod platform;
@@ -33,6 +35,7 @@ use std::process::ExitCode;
 #[derive(Clone, Copy)]
 enum Kind {
     Value,
+    Faults,
     Place,
     Schema,
     Platform,
@@ -44,6 +47,7 @@ impl Kind {
     fn of(word: &str) -> Result<Kind, RowError> {
         match word {
             "value" => Ok(Kind::Value),
+            "faults" => Ok(Kind::Faults),
             "place" => Ok(Kind::Place),
             "schema" => Ok(Kind::Schema),
             "platform" => Ok(Kind::Platform),
@@ -68,6 +72,7 @@ impl<'a> Defined<'a> {
         let (word, row) = line.split_once('\t').ok_or(RowError::NoRow)?;
         match Kind::of(word)? {
             Kind::Value => value::answer_to(alloc, row).map(Some),
+            Kind::Faults => faults::answer_to(alloc, row).map(Some),
             Kind::Place => place::answer_to(alloc, row).map(Some),
             Kind::Schema => schema::answer_to(alloc, row).map(Some),
             Kind::Platform => platform::answer_to(alloc, &mut self.platforms, row),

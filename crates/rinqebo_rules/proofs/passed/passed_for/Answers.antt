@@ -13,5 +13,5 @@ returns-in-Some g c = λ query mode profile same are.
 
 pub returns-in-None : goal.returns-in-None
 returns-in-None g c = λ query mode profile same are.
-    passed_all query mode profile.overrides profile.script_rules c.args.setting c.len.result
+    passed_all query mode profile.overrides profile.script_rules c.args.setting _
     (ap override_in (sym (are.origins c.args.setting)) ∙ sym c.in-None.ensures)

@@ -32,9 +32,10 @@ returns c =
     subst (λ ss. All (IsRuleAsWritten layers ss) before) same
     (subst (λ ls. All (IsRuleAsWritten ls held) before) c.deref.ensures.value c.in_ok-reported.ensures.written) in
     reasons_here c.args.session.now.layers.items platforms c.args.test.now c.listed-listed.result.query c.args.setting _
-    profile c.in_ok-reported.reported.items c.in_ok-fallback.fallback _ c.in_ok-on.ensures.default_filter
+    profile c.in_ok-reported.reported.items c.in_ok-fallback.fallback _ _ c.in_ok-on.ensures.default_filter
     (ap (λ t. t.test) c.listed-listed.ensures) told
-    c.in_ok-fallback.ensures.verdict c.in_ok-fallback.ensures.value
+    c.in_ok-fallback.ensures.verdict c.in_ok-fallback.ensures.value c.in_ok-fallback.ensures.origins
+    c.in_ok-fallback.ensures.conditions
     c.in_ok-push.ensures.items
     (rw c.in_ok-push.ensures.items
     (All-push (IsRuleAsWritten layers steps) before c.in_ok-fallback.fallback written c.in_ok-fallback.ensures.written))

@@ -1,6 +1,8 @@
-use Rattle.std.proofs.Common.{ap, refl}
+use Rattle.std.proofs.Common.{ap, refl, subst}
 use Rattle.nextest_inheritance.specs.View.{borrowed_view}
+use Rattle.rinqebo_rules.specs.Conditions.{is_met_by, filter_matches}
 use Rattle.rinqebo_run.proofs.Requests.{requested_on}
+use Rattle.rinqebo_run.specs.RunsReasons.{AreRunsReasons}
 use Rattle.rinqebo_run.proofs.why_runs.runs_reasons.Goals as goal
 
 pub early_profile-requires : goal.early_profile-requires
@@ -22,6 +24,10 @@ returns-clause-told c = (
   record {
     profile = c.in_ok-early.early;
     is_profile = c.in_ok-early.ensures;
-    reasons = c.in_ok-rules.ensures;
+    chain = borrowed_view c.in_ok-chain.chain.items;
+    is_chain = c.in_ok-chain.ensures c.requires;
+    reasons = subst (λ chain. AreRunsReasons c.args.session.now.layers.items chain is_met_by filter_matches
+        c.args.session.now.engines.platforms c.args.test.now c.in_ok-early.early
+        c.in_ok-rules.rules.items) (ap borrowed_view c.deref-2.ensures.value) c.in_ok-rules.ensures;
   },
 )

@@ -20,7 +20,7 @@ returns-in_err-host-clause-cause c =
     rw (p.1, p.2)
     (unusable c.args.request.now c.args.gathered.now c.in_err-host.field-0.0
     (or_more c.in_err-host.field-0.0
-    (λ why. inr (record { tests = c.in_ok-tests.tests; are_tests = c.in_ok-tests.ensures.ok; cause = inl why; }))
+    (λ why. inr (record { tests = c.in_ok-tests.tests; are_tests = c.in_ok-tests.ensures.ok; cause = inl why }))
     c.in_err-host.ensures.err))
 
 pub returns-in_err-engines-clause-cause : goal.returns-in_err-engines-clause-cause
@@ -32,16 +32,19 @@ returns-in_err-engines-clause-cause c =
     (λ why. inr (record {
       tests = c.in_ok-tests.tests;
       are_tests = c.in_ok-tests.ensures.ok;
-      cause = inr (c.in_ok-host.ensures.named, record {
-        triples = c.in_ok-triples.triples;
-        are_triples = record {
-          host = rw c.in_ok-host.ensures.ok at c.in_ok-triples.ensures.host;
-          target = c.in_ok-triples.ensures.target;
-          host_source = rw c.in_ok-host.ensures.ok at c.in_ok-triples.ensures.host_source;
-          target_source = c.in_ok-triples.ensures.target_source;
-        };
-        cause = why;
-      });
+      cause = inr (
+        c.in_ok-host.ensures.named,
+        record {
+          triples = c.in_ok-triples.triples;
+          are_triples = record {
+            host = rw c.in_ok-host.ensures.ok at c.in_ok-triples.ensures.host;
+            target = c.in_ok-triples.ensures.target;
+            host_source = rw c.in_ok-host.ensures.ok at c.in_ok-triples.ensures.host_source;
+            target_source = c.in_ok-triples.ensures.target_source;
+          };
+          cause = why;
+        },
+      );
     })) c.in_err-engines.ensures.err))
 
 pub returns-clause-begun : goal.returns-clause-begun

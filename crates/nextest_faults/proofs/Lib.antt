@@ -1,0 +1,7 @@
+pub mod Reading
+pub mod Adding
+pub mod Words
+pub mod Paths
+pub mod Listed
+pub mod Views
+pub mod Trees

@@ -1,0 +1,117 @@
+-- Findings of values.
+use Rattle.std.proofs.Common.{◌≡◌, ℕ, List, [], ◌++◌, Bool, false, Option, None, Some, is_some, String, inl, inr, refl, sym, ap, ◌∙◌, subst}
+use Rattle.std.specs.Borrow.{Bor}
+use Rattle.std.specs.declared.alloc.Global.{Global}
+use Rattle.std.proofs.lemmas.List.{append_assoc, append-nil}
+use Rattle.nextest_places.specs.declared.step.Step.{Step}
+use Rattle.nextest_tree.specs.declared.fault.ElementCause.{ElementCause}
+use Rattle.nextest_tree.specs.declared.fault.ElementCause.TheVariants as causes
+use Rattle.rinqebo_codes.specs.declared.code.Code.TheVariants.{MaxDelayBelowDelay}
+use Rattle.rinqebo_files.specs.Origins.{IsPartPlace}
+use Rattle.rinqebo_files.specs.declared.layers.Layer.{Layer}
+use Rattle.rinqebo_files.specs.declared.places.SpanPart.{SpanPart}
+use Rattle.rinqebo_files.specs.declared.places.SpanPart.TheVariants as parts
+use Rattle.rinqebo_report.specs.declared.finding.Finding.{Finding}
+use Rattle.rinqebo_report.specs.declared.origin.FilePlace.{FilePlace}
+use Rattle.rinqebo_findings.specs.Placed.{IsOnLines, IsPlaceIn, IsPlacedAt, file_and_lines}
+use Rattle.rinqebo_findings.specs.Subjects.{IsDelaysFinding, IsElementFinding, IsErrorAt, code_of, error_at, part_of, subject}
+
+-- a place of a known source
+pub placed_in : (part : SpanPart) (layers : List Layer) (source : Option ℕ) (n : ℕ) (path : List Step)
+    (place : FilePlace) → source ≡ Some n → IsPartPlace part layers n path place
+    → IsPlaceIn part layers source path (Some place)
+placed_in part layers source n path place is there =
+    subst (λ s. IsPlaceIn part layers s path (Some place)) (sym is) there
+
+-- there is no place of a source that is not known
+pub placed_nowhere : (part : SpanPart) (layers : List Layer) (source : Option ℕ) (path : List Step) → source ≡ None
+    → IsPlaceIn part layers source path None
+placed_nowhere part layers source path is = subst (λ s. IsPlaceIn part layers s path None) (sym is) refl
+
+-- what is not there
+pub not_some : {A : Type 0} (o : Option A) (b : Bool) → b ≡ is_some o → b ≡ false → o ≡ None
+not_some (Some x) b same unset = cc
+not_some None b same unset = refl
+
+-- a place in another file
+pub placed_elsewhere : (part : SpanPart) (layers : List Layer) (source : Option ℕ) (path : List Step)
+    (given : Option FilePlace) (own place : FilePlace) → given ≡ Some own → own.lines ≡ None
+    → (other : ℕ) × IsPartPlace part layers other path place → IsPlaceIn part layers source path given
+    → IsPlacedAt part layers source path (Some place)
+placed_elsewhere part layers source path given own place is unwritten there own_is =
+    inr (record {
+      own = own;
+      own_is = subst (IsPlaceIn part layers source path) is own_is;
+      unwritten = unwritten;
+      other = there.0;
+      elsewhere = there.1;
+    })
+
+module _ (layers : List Layer) (source : Option ℕ) where
+  -- the finding of a value, at its path
+  pub element_here : (cause : ElementCause) (path : List Step) (finding : Finding)
+      → IsErrorAt layers source (code_of cause) (part_of cause) path finding
+      → IsElementFinding layers source cause path None finding
+  element_here causes.WrongKind path finding is = is
+  element_here (causes.Missing key) path finding is = is
+  element_here (causes.BadValue given expected) path finding is = is
+  element_here causes.OutOfRange path finding is = inl is
+  element_here causes.UnknownField path finding is = is
+  element_here causes.Memory path finding is = is
+
+  -- the finding of a value that lacks no key
+  pub other_here : (cause : ElementCause) (path : List Step) (stray : Option (Bor (List ℕ))) (finding : Finding)
+      → ((key : String Global) → cause ≡ causes.Missing key → ⊥)
+      → IsElementFinding layers source cause path None finding
+      → IsElementFinding layers source cause path stray finding
+  other_here causes.WrongKind path stray finding other is = is
+  other_here (causes.Missing key) path stray finding other is = absurd (other key refl)
+  other_here (causes.BadValue given expected) path stray finding other is = is
+  other_here causes.OutOfRange path stray finding other is = is
+  other_here causes.UnknownField path stray finding other is = is
+  other_here causes.Memory path stray finding other is = is
+
+  -- delays that do not agree, at their table
+  pub delays_here : (table : List Step) (finding : Finding)
+      → subject finding ≡ error_at MaxDelayBelowDelay table
+      → IsPlacedAt parts.Value layers source table finding.place
+      → IsDelaysFinding layers source table finding
+  delays_here table finding about place =
+      let same : table ≡ table ++ [] = sym (append-nil table) in
+      record {
+        rest = [];
+        about = about ∙ ap (error_at MaxDelayBelowDelay) same;
+        place = record {
+          value = finding.place;
+          value_is = subst (λ path. IsPlacedAt parts.Value layers source path finding.place) same place;
+          same = refl;
+        };
+      }
+
+  -- delays that do not agree, at one of them
+  pub delays_of : (path : List Step) (found shown : Finding)
+      → IsErrorAt layers source MaxDelayBelowDelay parts.Value path found → subject shown ≡ subject found
+      → file_and_lines shown.place ≡ file_and_lines found.place → IsDelaysFinding layers source path shown
+  delays_of path found shown is same_subject same_lines =
+      let same : path ≡ path ++ [] = sym (append-nil path) in
+      record {
+        rest = [];
+        about = same_subject ∙ is.about ∙ ap (error_at MaxDelayBelowDelay) same;
+        place = record {
+          value = found.place;
+          value_is = subst (λ p. IsPlacedAt parts.Value layers source p found.place) same is.place;
+          same = same_lines;
+        };
+      }
+
+  -- delays that do not agree, which values of a table have
+  pub delays_above : (table rest path : List Step) (finding : Finding) → path ≡ table ++ rest
+      → IsDelaysFinding layers source path finding → IsDelaysFinding layers source table finding
+  delays_above table rest path finding path_is is =
+      let same : path ++ is.rest ≡ table ++ (rest ++ is.rest) =
+      ap (λ p. p ++ is.rest) path_is ∙ append_assoc table rest is.rest in
+      record {
+        rest = rest ++ is.rest;
+        about = is.about ∙ ap (error_at MaxDelayBelowDelay) same;
+        place = subst (λ p. IsOnLines layers source p finding.place) same is.place;
+      }

@@ -1,0 +1,130 @@
+//! Edits that leave out what is refused in the files of a run, so that the rest can be checked.
+use crate::left_out::LeftOut;
+use nextest_places::Step;
+use std::alloc::{AllocError, Global};
+use std::collections::{BTreeMap, BTreeSet};
+
+/// A path below another one, both as marks: texts of which no two paths have the same.
+pub fn mark_below(alloc: Global, mark: &str, step: Step<'_>) -> Result<String, AllocError> {
+    match step {
+        Step::Key(key) => {
+            let length = key.len();
+            format!(in alloc; "{mark}/{length}:{key}")
+        }
+        Step::Position(position) => format!(in alloc; "{mark}/{position}"),
+    }
+}
+
+/// The mark of the whole source at a place among the layers.
+pub fn mark_of_source(alloc: Global, place: usize) -> Result<String, AllocError> {
+    format!(in alloc; "{place}")
+}
+
+/// The mark of a path in the source at a place among the layers.
+fn mark_of(alloc: Global, place: usize, path: &[Step<'_>]) -> Result<String, AllocError> {
+    let mut mark = mark_of_source(alloc, place)?;
+    for step in path {
+        mark = mark_below(alloc, mark.as_str(), *step)?;
+    }
+    Ok(mark)
+}
+
+/// What the files of a run are read without, and with in its place.
+#[derive(Drop)]
+pub struct Edits {
+    alloc: Global,
+    /// The paths whose values are left out.
+    removed: BTreeSet<String>,
+    /// What is read in place of the values at paths.
+    replaced: BTreeMap<String, &'static str>,
+    /// What is read behind the keys of the tables at paths.
+    added: BTreeMap<String, String>,
+    /// The names whose definitions are left out.
+    pub left_out: LeftOut,
+}
+
+impl Edits {
+    /// No edits.
+    pub fn new(alloc: Global) -> Edits {
+        Edits {
+            alloc,
+            removed: BTreeSet::new(alloc),
+            replaced: BTreeMap::new(alloc),
+            added: BTreeMap::new(alloc),
+            left_out: LeftOut::new(alloc),
+        }
+    }
+
+    /// How many there are.
+    pub fn count(&self) -> usize {
+        self.removed
+            .len()
+            .saturating_add(self.replaced.len())
+            .saturating_add(self.added.len())
+    }
+
+    /// Leaves out the value at a path of a source.
+    pub fn remove(&mut self, place: usize, path: &[Step<'_>]) -> Result<(), AllocError> {
+        let mark = mark_of(self.alloc, place, path)?;
+        self.removed.insert(mark)?;
+        Ok(())
+    }
+
+    /// Leaves out the value at a key of the table at a path of a source.
+    pub fn remove_key(
+        &mut self,
+        place: usize,
+        table: &[Step<'_>],
+        key: &str,
+    ) -> Result<(), AllocError> {
+        let mark = mark_of(self.alloc, place, table)?;
+        let mark = mark_below(self.alloc, mark.as_str(), Step::Key(key))?;
+        self.removed.insert(mark)?;
+        Ok(())
+    }
+
+    /// Reads something in place of the value at a path of a source.
+    pub fn replace(
+        &mut self,
+        place: usize,
+        path: &[Step<'_>],
+        text: &'static str,
+    ) -> Result<(), AllocError> {
+        let mark = mark_of(self.alloc, place, path)?;
+        drop(self.replaced.insert(mark, text)?);
+        Ok(())
+    }
+
+    /// Reads one more key in the table at a path of a source.
+    pub fn add(&mut self, place: usize, path: &[Step<'_>], entry: &str) -> Result<(), AllocError> {
+        let mark = mark_of(self.alloc, place, path)?;
+        let mut entries = String::from_str(self.alloc, entry)?;
+        if let Some(earlier) = self.added.get(mark.as_str()) {
+            entries.push_str(", ")?;
+            entries.push_str(earlier.as_str())?;
+        }
+        drop(self.added.insert(mark, entries)?);
+        Ok(())
+    }
+
+    /// Whether the value at a mark is left out.
+    pub fn removes(&self, mark: &str) -> bool {
+        self.removed.contains(mark)
+    }
+
+    /// What is read in place of the value at a mark.
+    pub fn replacement(&self, mark: &str) -> Option<&'static str> {
+        match self.replaced.get(mark) {
+            Some(text) => Some(*text),
+            None => None,
+        }
+    }
+
+    /// What is read behind the keys of the table at a mark.
+    pub fn additions(&self, mark: &str) -> Option<&str> {
+        match self.added.get(mark) {
+            Some(entries) => Some(entries.as_str()),
+            None => None,
+        }
+    }
+}

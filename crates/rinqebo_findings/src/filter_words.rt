@@ -1,0 +1,436 @@
+//! What is wrong with filters that are refused, in words: the part that is at fault, what is
+//! expected there, and what to do.
+use crate::hints::near_name;
+use crate::regex_words::regex_fault;
+use crate::worded::{Stopped, Worded, first_of};
+use crate::words::owned;
+use filter_engine::FaultKind;
+use std::alloc::{AllocError, Global};
+
+/// The predicates of filters.
+const PREDICATES: [&str; 12] = [
+    "package",
+    "test",
+    "binary_id",
+    "binary",
+    "kind",
+    "platform",
+    "deps",
+    "rdeps",
+    "group",
+    "default",
+    "all",
+    "none",
+];
+
+/// A predicate, in words.
+const A_PREDICATE: &str = "a predicate: `package`, `test`, `binary_id`, `binary`, `kind`, \
+    `platform`, `deps`, `rdeps`, `group`, `default`, `all` or `none`";
+
+/// What may follow an operand, in words.
+const AN_OPERATOR: &str = "an operator (`and`, `or` or `-`), or the end of the filter";
+
+/// Predicates by names that filters do not have.
+const OTHER_NAMES: [(&str, &str); 6] = [
+    ("pkg", "package"),
+    ("crate", "package"),
+    ("name", "test"),
+    ("bin", "binary"),
+    ("file", "binary"),
+    ("target", "platform"),
+];
+
+/// What may be wrong with a filter.
+const KINDS: [FaultKind; 16] = [
+    FaultKind::ExpectedExpr,
+    FaultKind::TooDeeplyNested,
+    FaultKind::ExpectedOpenParenthesis,
+    FaultKind::ExpectedCloseParenthesis,
+    FaultKind::UnexpectedArgument,
+    FaultKind::UnexpectedComma,
+    FaultKind::InvalidString,
+    FaultKind::InvalidEscapeCharacter,
+    FaultKind::InvalidGlob,
+    FaultKind::InvalidRegex,
+    FaultKind::TooLarge,
+    FaultKind::ExpectedCloseRegex,
+    FaultKind::InvalidPlatformArgument,
+    FaultKind::InvalidOrOperator,
+    FaultKind::InvalidAndOperator,
+    FaultKind::ExpectedEndOfExpression,
+];
+
+/// What follows the blanks of a filter: spaces and ends of lines.
+fn behind_blanks(text: &str) -> &str {
+    for (at, c) in text.char_indices() {
+        if c != ' ' && c != '\n' && c != '\r' {
+            return text.get(at..).unwrap_or(text);
+        }
+    }
+    ""
+}
+
+/// Whether a character may be in the name of a test or of a predicate.
+fn is_of_name(c: char) -> bool {
+    c.is_ascii_alphanumeric() || c == '_' || c == '-' || c == ':'
+}
+
+/// The name that a text begins with.
+fn name_at(text: &str) -> &str {
+    for (at, c) in text.char_indices() {
+        if !is_of_name(c) {
+            return text.get(..at).unwrap_or(text);
+        }
+    }
+    text
+}
+
+/// The name that a text ends with.
+fn last_name(text: &str) -> &str {
+    let mut start = 0usize;
+    for (at, c) in text.char_indices() {
+        if !is_of_name(c) {
+            start = at.saturating_add(c.len_utf8());
+        }
+    }
+    text.get(start..).unwrap_or("")
+}
+
+/// What a text begins with up to a blank.
+fn word_at(text: &str) -> &str {
+    for (at, c) in text.char_indices() {
+        if c.is_whitespace() {
+            return text.get(..at).unwrap_or(text);
+        }
+    }
+    text
+}
+
+/// The predicate whose argument a text begins.
+fn called_predicate(before: &str) -> &str {
+    last_name(before.trim_end().trim_end_matches('(').trim_end())
+}
+
+/// The predicate that is meant by a name that filters do not have.
+fn predicate_meant(alloc: Global, name: &str) -> Result<Option<String>, AllocError> {
+    for (other, predicate) in &OTHER_NAMES {
+        if *other == name {
+            return Ok(Some(format!(in alloc; "the predicate is `{predicate}`")?));
+        }
+    }
+    match near_name(alloc, name, &PREDICATES)? {
+        Some(near) => Ok(Some(format!(in alloc; "did you mean `{near}`?")?)),
+        None => Ok(None),
+    }
+}
+
+/// A name is no predicate: it may be that of a test.
+fn no_predicate(
+    alloc: Global,
+    place: (usize, usize),
+    name: &str,
+    behind: &str,
+) -> Result<Worded, AllocError> {
+    let message = format!(in alloc; "`{name}` is not a predicate")?;
+    let help = if behind_blanks(behind).starts_with('(') {
+        predicate_meant(alloc, name)?
+    } else {
+        Some(format!(in alloc; "write `test({name})`")?)
+    };
+    Ok(Worded::of(alloc, place, message, A_PREDICATE)?.advised(help))
+}
+
+/// `not` has no space behind it.
+fn not_alone(alloc: Global, place: (usize, usize), name: &str) -> Result<Worded, AllocError> {
+    let message = format!(in alloc; "`{name}` has no space behind it")?;
+    let help = String::from_str(alloc, "write `not (..)`")?;
+    let expected = "`not` and a space";
+    Ok(Worded::of(alloc, place, message, expected)?.advised(Some(help)))
+}
+
+/// An operator has nothing behind it.
+fn no_right_side(
+    alloc: Global,
+    place: (usize, usize),
+    operator: &str,
+) -> Result<Worded, AllocError> {
+    let message = format!(in alloc; "`{operator}` has no right side")?;
+    Worded::of(alloc, place, message, A_PREDICATE)
+}
+
+/// There is nothing where an operand is due.
+fn nothing_there(alloc: Global, stopped: Stopped<'_>) -> Result<Worded, AllocError> {
+    let place = (stopped.start, stopped.start);
+    if stopped.text.trim().is_empty() {
+        let message = String::from_str(alloc, "the filter is empty")?;
+        return Worded::of(alloc, place, message, A_PREDICATE);
+    }
+    let before = stopped.before().trim_end();
+    let name = last_name(before);
+    if !name.is_empty() {
+        return no_right_side(alloc, place, name);
+    }
+    let message = String::from_str(alloc, "the filter ends where a predicate is due")?;
+    Worded::of(alloc, place, message, A_PREDICATE)
+}
+
+/// There is no operand where one is due.
+fn no_operand(alloc: Global, stopped: Stopped<'_>) -> Result<Worded, AllocError> {
+    let rest = behind_blanks(stopped.rest());
+    if rest.is_empty() {
+        return nothing_there(alloc, stopped);
+    }
+    let name = name_at(rest);
+    if name.is_empty() {
+        let c = first_of(rest);
+        let message = format!(in alloc; "`{c}` is not a predicate")?;
+        return Worded::of(alloc, stopped.place_of(rest, c.len()), message, A_PREDICATE);
+    }
+    let place = stopped.place_of(rest, name.len());
+    if name.eq_ignore_ascii_case("not") {
+        return not_alone(alloc, place, name);
+    }
+    let behind = rest.get(name.len()..).unwrap_or("");
+    no_predicate(alloc, place, name, behind)
+}
+
+/// What to do about a mark between a predicate and what may be its argument.
+fn compared(alloc: Global, predicate: &str, rest: &str) -> Result<Option<String>, AllocError> {
+    let Some(behind) = rest.strip_prefix('=') else {
+        return Ok(None);
+    };
+    let value = behind.trim_start_matches('=').trim_start();
+    let name = name_at(value.trim_start_matches('"').trim_start_matches('\''));
+    if name.is_empty() {
+        return Ok(None);
+    }
+    Ok(Some(format!(in alloc; "write `{predicate}(={name})`")?))
+}
+
+/// A predicate has no `(` behind it.
+fn no_argument(alloc: Global, stopped: Stopped<'_>) -> Result<Worded, AllocError> {
+    let predicate = last_name(stopped.before());
+    let tail = name_at(stopped.rest());
+    if !tail.is_empty() {
+        let name = format!(in alloc; "{predicate}{tail}")?;
+        let start = stopped.start.saturating_sub(predicate.len());
+        let place = (start, stopped.start.saturating_add(tail.len()));
+        let behind = stopped.rest().get(tail.len()..).unwrap_or("");
+        return no_predicate(alloc, place, name.as_str(), behind);
+    }
+    let rest = behind_blanks(stopped.rest());
+    let next = word_at(rest);
+    let expected = format!(in alloc; "`(` behind `{predicate}`")?;
+    if next.is_empty() {
+        let message = format!(in alloc; "`{predicate}` has no argument")?;
+        return Worded::of(
+            alloc,
+            (stopped.start, stopped.start),
+            message,
+            expected.as_str(),
+        );
+    }
+    let message = format!(in alloc; "`{predicate}` is followed by `{next}`")?;
+    let place = stopped.place_of(rest, next.len());
+    let help = compared(alloc, predicate, rest)?;
+    Ok(Worded::of(alloc, place, message, expected.as_str())?.advised(help))
+}
+
+/// What follows an operand is a word: an operator without anything behind it, or no operator.
+fn no_operator(alloc: Global, stopped: Stopped<'_>, rest: &str) -> Result<Worded, AllocError> {
+    let name = name_at(rest);
+    let behind = rest.get(name.len()..).unwrap_or("");
+    let is_operator = name.eq_ignore_ascii_case("and") || name.eq_ignore_ascii_case("or");
+    let place = stopped.place_of(rest, name.len());
+    if is_operator && behind.trim().is_empty() {
+        return no_right_side(alloc, place, name);
+    }
+    if is_operator {
+        let message = format!(in alloc; "`{name}` has no space behind it")?;
+        return Worded::of(alloc, place, message, "`and` or `or`, and a space");
+    }
+    let word = word_at(rest);
+    let message = format!(in alloc; "there is no operator before `{word}`")?;
+    Worded::of(
+        alloc,
+        stopped.place_of(rest, word.len()),
+        message,
+        AN_OPERATOR,
+    )
+}
+
+/// There is more behind a filter.
+fn more_text(alloc: Global, stopped: Stopped<'_>) -> Result<Worded, AllocError> {
+    let rest = behind_blanks(stopped.rest());
+    let place = stopped.place_of(rest, first_of(rest).len());
+    if rest.starts_with('\t') {
+        let message = String::from_str(alloc, "a tab is no blank of a filter")?;
+        return Worded::of(alloc, place, message, "a space or a line break");
+    }
+    if rest.starts_with(')') {
+        let message = String::from_str(alloc, "`)` closes nothing")?;
+        return Worded::of(alloc, place, message, AN_OPERATOR);
+    }
+    no_operator(alloc, stopped, rest)
+}
+
+/// An operator is one that other languages have.
+fn other_operator(
+    alloc: Global,
+    stopped: Stopped<'_>,
+    expected: &str,
+    help: &str,
+) -> Result<Worded, AllocError> {
+    let operator = stopped.part().trim_end();
+    let place = (stopped.start, stopped.start.saturating_add(operator.len()));
+    let message = format!(in alloc; "`{operator}` is not an operator")?;
+    let help = owned(alloc, Some(help))?;
+    Ok(Worded::of(alloc, place, message, expected)?.advised(help))
+}
+
+/// A regular expression is malformed.
+fn bad_regex(alloc: Global, stopped: Stopped<'_>) -> Result<Worded, AllocError> {
+    let place = (stopped.start, stopped.end);
+    let pattern = stopped.part();
+    match regex_fault(alloc, pattern)? {
+        Some((message, expected)) => Worded::of(alloc, place, message, expected),
+        None => {
+            let message = format!(in alloc; "`{pattern}` is not a regular expression")?;
+            Worded::of(alloc, place, message, "a regular expression")
+        }
+    }
+}
+
+/// What is wrong with the argument that a text is.
+fn argument_message(
+    alloc: Global,
+    kind: FaultKind,
+    part: &str,
+) -> Result<Option<String>, AllocError> {
+    let message = match kind {
+        FaultKind::InvalidEscapeCharacter => format!(in alloc; "`{part}` is not an escape")?,
+        FaultKind::InvalidGlob => format!(in alloc; "`{part}` is not a glob")?,
+        FaultKind::TooLarge => format!(in alloc; "`{part}` is too large a pattern")?,
+        FaultKind::InvalidPlatformArgument => {
+            format!(in alloc; "`{part}` is not a platform of builds")?
+        }
+        FaultKind::InvalidString => String::from_str(alloc, "the argument is empty")?,
+        _ => return Ok(None),
+    };
+    Ok(Some(message))
+}
+
+/// What is expected of an argument.
+fn argument_expected(kind: FaultKind) -> &'static str {
+    match kind {
+        FaultKind::InvalidEscapeCharacter => {
+            "`\\n`, `\\r`, `\\t`, `\\\\`, `\\/`, `\\)`, `\\,` or `\\u{..}`"
+        }
+        FaultKind::InvalidGlob => "a glob in which each `[` has its `]`",
+        FaultKind::TooLarge => "a pattern whose automaton has at most 16384 states",
+        FaultKind::InvalidPlatformArgument => "`host` or `target`",
+        _ => "an argument of at least one character",
+    }
+}
+
+/// What is wrong with an argument.
+fn bad_argument(
+    alloc: Global,
+    stopped: Stopped<'_>,
+    kind: FaultKind,
+) -> Result<Option<Worded>, AllocError> {
+    let Some(message) = argument_message(alloc, kind, stopped.part().trim())? else {
+        return Ok(None);
+    };
+    let place = (stopped.start, stopped.end);
+    Ok(Some(Worded::of(alloc, place, message, argument_expected(kind))?))
+}
+
+/// A predicate has an argument and takes none.
+fn undue_argument(alloc: Global, stopped: Stopped<'_>) -> Result<Worded, AllocError> {
+    let predicate = called_predicate(stopped.before());
+    let part = stopped.part().trim();
+    let message = format!(in alloc; "`{predicate}` takes no argument, but has `{part}`")?;
+    let expected = format!(in alloc; "no argument: `{predicate}()`")?;
+    let place = (stopped.start, stopped.end);
+    Worded::of(alloc, place, message, expected.as_str())
+}
+
+/// A further argument.
+fn second_argument(alloc: Global, stopped: Stopped<'_>) -> Result<Worded, AllocError> {
+    let rest = behind_blanks(stopped.rest());
+    let message = String::from_str(alloc, "`,` begins a second argument")?;
+    let place = stopped.place_of(rest, first_of(rest).len());
+    Worded::of(
+        alloc,
+        place,
+        message,
+        "one argument, in which `\\,` is a comma",
+    )
+}
+
+/// A set is not allowed in a filter.
+fn banned(alloc: Global, stopped: Stopped<'_>) -> Result<Option<Worded>, AllocError> {
+    let place = (stopped.start, stopped.end);
+    let (message, expected) = match name_at(stopped.part()) {
+        "default" => (
+            "`default()` cannot be in a default filter, for which it stands",
+            "a predicate other than `default`",
+        ),
+        "group" => (
+            "`group(..)` cannot be in this filter: overrides set the groups of tests",
+            "a predicate other than `group`",
+        ),
+        _ => return Ok(None),
+    };
+    let message = String::from_str(alloc, message)?;
+    Ok(Some(Worded::of(alloc, place, message, expected)?))
+}
+
+/// What a text lacks at the place where its reader stopped.
+fn lacking(
+    alloc: Global,
+    stopped: Stopped<'_>,
+    message: &str,
+    expected: &str,
+) -> Result<Worded, AllocError> {
+    let message = String::from_str(alloc, message)?;
+    Worded::of(alloc, (stopped.start, stopped.end), message, expected)
+}
+
+/// What is wrong with a filter of which a reader says so, in words. There are none for what the
+/// reader words well.
+pub fn filter_words(alloc: Global, stopped: Stopped<'_>) -> Result<Option<Worded>, AllocError> {
+    let label = stopped.label;
+    let Some(kind) = KINDS.iter().find(|kind| (**kind).label() == label).copied() else {
+        return banned(alloc, stopped);
+    };
+    let worded = match kind {
+        FaultKind::ExpectedExpr => no_operand(alloc, stopped)?,
+        FaultKind::TooDeeplyNested => lacking(
+            alloc,
+            stopped,
+            "the filter is nested too deep",
+            "at most 128 levels of `not` and of parentheses",
+        )?,
+        FaultKind::ExpectedOpenParenthesis => no_argument(alloc, stopped)?,
+        FaultKind::ExpectedCloseRegex => lacking(
+            alloc,
+            stopped,
+            "the regular expression is not closed",
+            "a closing `/`",
+        )?,
+        FaultKind::ExpectedEndOfExpression => more_text(alloc, stopped)?,
+        FaultKind::InvalidOrOperator => {
+            other_operator(alloc, stopped, "`or`, `|` or `+`", "write `or` or `|`")?
+        }
+        FaultKind::InvalidAndOperator => {
+            other_operator(alloc, stopped, "`and` or `&`", "write `and` or `&`")?
+        }
+        FaultKind::InvalidRegex => bad_regex(alloc, stopped)?,
+        FaultKind::UnexpectedComma => second_argument(alloc, stopped)?,
+        FaultKind::UnexpectedArgument => undue_argument(alloc, stopped)?,
+        kind => return bad_argument(alloc, stopped, kind),
+    };
+    Ok(Some(worded))
+}

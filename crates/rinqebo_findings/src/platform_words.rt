@@ -1,0 +1,302 @@
+//! What is wrong with platforms that are refused, in words: the part that is at fault, what is
+//! expected there, and what to do.
+use crate::hints::near_hint;
+use crate::worded::{Stopped, Worded};
+use crate::words::{owned, quoted};
+use std::alloc::{AllocError, Global};
+
+/// The keys of targets.
+const TARGET_KEYS: [&str; 10] = [
+    "target_os",
+    "target_arch",
+    "target_family",
+    "target_env",
+    "target_abi",
+    "target_vendor",
+    "target_endian",
+    "target_pointer_width",
+    "target_has_atomic",
+    "target_feature",
+];
+
+/// What `cfg(..)` has, in words.
+const AN_EXPRESSION: &str = "a key, `all(..)`, `any(..)` or `not(..)`";
+
+/// What a value is, in words.
+const A_VALUE: &str = "a value in quotes, as in `target_os = \"linux\"`";
+
+/// Whether a text is a name without quotes.
+fn is_name(text: &str) -> bool {
+    !text.is_empty()
+        && text
+            .chars()
+            .all(|c| c.is_ascii_alphanumeric() || c == '_' || c == '-')
+}
+
+/// What was read of the parts of a function.
+#[derive(Clone, Copy)]
+struct Parts {
+    /// How many parentheses are open.
+    depth: usize,
+    /// Whether a string is open.
+    in_quotes: bool,
+    /// How many commas part them.
+    commas: usize,
+}
+
+/// Reads a character of a function.
+fn with_character(parts: Parts, c: char) -> Parts {
+    let mut next = parts;
+    match c {
+        '"' => next.in_quotes = !parts.in_quotes,
+        _ if parts.in_quotes => {}
+        '(' => next.depth = parts.depth.saturating_add(1),
+        ')' => next.depth = parts.depth.saturating_sub(1),
+        ',' if parts.depth == 1 => next.commas = parts.commas.saturating_add(1),
+        _ => {}
+    }
+    next
+}
+
+/// How many parts the function has that a text is.
+fn count_parts(function: &str) -> usize {
+    let inside = match function.split_once('(') {
+        Some((_name, inside)) => inside.trim_end_matches(')').trim(),
+        None => return 0,
+    };
+    if inside.is_empty() {
+        return 0;
+    }
+    let mut parts = Parts {
+        depth: 0,
+        in_quotes: false,
+        commas: 0,
+    };
+    for c in function.chars() {
+        parts = with_character(parts, c);
+    }
+    parts.commas.saturating_add(1)
+}
+
+/// What is wrong with the part of a platform at a place.
+fn at(
+    alloc: Global,
+    place: (usize, usize),
+    message: &str,
+    expected: &str,
+) -> Result<Worded, AllocError> {
+    Worded::of(alloc, place, String::from_str(alloc, message)?, expected)
+}
+
+/// The place of the first character of the part at fault, which has one byte.
+fn first_byte(stopped: Stopped<'_>) -> (usize, usize) {
+    (stopped.start, stopped.start.saturating_add(1))
+}
+
+/// A key of targets is not known.
+fn unknown_key(alloc: Global, stopped: Stopped<'_>) -> Result<Worded, AllocError> {
+    let key = stopped.part();
+    let message = format!(in alloc; "`{key}` is not a key of targets")?;
+    let expected = quoted(alloc, &TARGET_KEYS, " or ")?;
+    let help = near_hint(alloc, key, &TARGET_KEYS)?;
+    let place = (stopped.start, stopped.end);
+    Ok(Worded::of(alloc, place, message, expected.as_str())?.advised(help))
+}
+
+/// There are several expressions.
+fn several(alloc: Global, stopped: Stopped<'_>) -> Result<Worded, AllocError> {
+    let parts = stopped.part().trim();
+    let help = format!(in alloc; "write `all({parts})` or `any({parts})`")?;
+    let place = (stopped.start, stopped.end);
+    let message = "`cfg(..)` has several expressions";
+    Ok(at(alloc, place, message, "one expression")?.advised(Some(help)))
+}
+
+/// A function of one part has several, or none.
+fn not_one(alloc: Global, stopped: Stopped<'_>) -> Result<Worded, AllocError> {
+    let count = count_parts(stopped.part());
+    let message = format!(in alloc; "`not(..)` has {count} parts")?;
+    Worded::of(alloc, (stopped.start, stopped.end), message, "one part")
+}
+
+/// What is wrong with a value.
+fn bad_value(
+    alloc: Global,
+    stopped: Stopped<'_>,
+    what: &str,
+    expected: &str,
+) -> Result<Worded, AllocError> {
+    let value = stopped.part();
+    let message = format!(in alloc; "`{value}` is not {what}")?;
+    Worded::of(alloc, (stopped.start, stopped.end), message, expected)
+}
+
+/// A character is none that a text may have.
+fn bad_character(
+    alloc: Global,
+    stopped: Stopped<'_>,
+    what: &str,
+    expected: &str,
+) -> Result<Worded, AllocError> {
+    let c = stopped.first();
+    let message = format!(in alloc; "`{c}` is not a character of {what}")?;
+    Worded::of(alloc, (stopped.start, stopped.end), message, expected)
+}
+
+/// A key has no value.
+fn value_wanted(alloc: Global, stopped: Stopped<'_>) -> Result<Worded, AllocError> {
+    let key = stopped.part();
+    let message = format!(in alloc; "`{key}` has no value")?;
+    let expected = format!(in alloc; "`{key} = \"..\"`")?;
+    let place = (stopped.start, stopped.end);
+    Worded::of(alloc, place, message, expected.as_str())
+}
+
+/// A value may have no quotes, or is missing.
+fn no_value(alloc: Global, stopped: Stopped<'_>) -> Result<Worded, AllocError> {
+    let part = stopped.part();
+    let place = (stopped.start, stopped.end);
+    if !is_name(part) {
+        return at(alloc, place, "the value is missing", A_VALUE);
+    }
+    let message = format!(in alloc; "the value `{part}` has no quotes")?;
+    let help = format!(in alloc; "write `\"{part}\"`")?;
+    Ok(Worded::of(alloc, place, message, A_VALUE)?.advised(Some(help)))
+}
+
+/// Something else is there than a reader expects, which says so.
+fn unexpected(alloc: Global, stopped: Stopped<'_>) -> Result<Option<Worded>, AllocError> {
+    let Some(rest) = stopped.label.strip_prefix("expected ") else {
+        return Ok(None);
+    };
+    let expected = rest.strip_suffix(" here").unwrap_or(rest);
+    let expected = expected.strip_prefix("one of ").unwrap_or(expected);
+    let part = stopped.part();
+    let place = (stopped.start, stopped.end);
+    let message = if part.is_empty() {
+        String::from_str(alloc, "the platform ends too early")?
+    } else {
+        format!(in alloc; "`{part}` cannot be here")?
+    };
+    Ok(Some(Worded::of(alloc, place, message, expected)?))
+}
+
+/// What is wrong with parentheses or quotes.
+fn unpaired(alloc: Global, stopped: Stopped<'_>) -> Result<Option<Worded>, AllocError> {
+    let place = first_byte(stopped);
+    if stopped.text.starts_with("cfg(") && !stopped.text.ends_with(')') {
+        return Ok(Some(at(alloc, place, "`(` is not closed", "a closing `)`")?));
+    }
+    let worded = match stopped.label {
+        "unclosed quotes" => at(alloc, place, "`\"` is not closed", "a closing `\"`")?,
+        "unclosed parentheses" => at(alloc, place, "`(` is not closed", "a closing `)`")?,
+        "unopened parentheses" => at(
+            alloc,
+            place,
+            "`)` closes nothing",
+            "the end of the platform, or a `(` before it",
+        )?,
+        _ => return Ok(None),
+    };
+    Ok(Some(worded))
+}
+
+/// What is wrong with a key or a value.
+fn bad_leaf(alloc: Global, stopped: Stopped<'_>) -> Result<Option<Worded>, AllocError> {
+    let worded = match stopped.label {
+        "unknown key" => unknown_key(alloc, stopped)?,
+        "this key takes no value" => bad_value(alloc, stopped, "due here", "the key alone")?,
+        "expected a feature" => bad_value(alloc, stopped, "a feature", "the name of a feature")?,
+        "expected `big` or `little`" => {
+            bad_value(alloc, stopped, "a byte order", "`big` or `little`")?
+        }
+        "expected a number to 255" => {
+            bad_value(
+                alloc,
+                stopped,
+                "a width of pointers",
+                "an integer from 0 to 255",
+            )?
+        }
+        "expected `ptr` or a number to 65535" => bad_value(
+            alloc,
+            stopped,
+            "a width of atomics",
+            "`ptr`, or an integer from 0 to 65535",
+        )?,
+        "expected `= \"<value>\"` behind this key" => value_wanted(alloc, stopped)?,
+        "expected a `\"` here" | "expected a `\"<value>\"` here" => no_value(alloc, stopped)?,
+        _ => return Ok(None),
+    };
+    Ok(Some(worded))
+}
+
+/// What is wrong with a platform as a whole, or with its characters.
+fn bad_whole(alloc: Global, stopped: Stopped<'_>) -> Result<Option<Worded>, AllocError> {
+    let place = (stopped.start, stopped.end);
+    let worded = match stopped.label {
+        "expected a triple or `cfg(`" => at(
+            alloc,
+            place,
+            "the platform is empty",
+            "a target triple, or `cfg(..)`",
+        )?,
+        "expected a letter, a digit, `_`, `-` or `.`" => bad_character(
+            alloc,
+            stopped,
+            "target triples",
+            "a triple of letters, digits, `_`, `-` and `.`, or `cfg(..)`",
+        )?,
+        "foreign character" => bad_character(alloc, stopped, "`cfg(..)`", AN_EXPRESSION)?,
+        "expected an expression" => at(alloc, place, "`cfg(..)` is empty", AN_EXPRESSION)?,
+        "expected one expression, and not several" => several(alloc, stopped)?,
+        "`not` takes one part" => not_one(alloc, stopped)?,
+        "functions stand more than 128 deep" => at(
+            alloc,
+            place,
+            "the platform is nested too deep",
+            "at most 128 levels",
+        )?,
+        _ => return Ok(None),
+    };
+    Ok(Some(worded))
+}
+
+/// What is meant by a text that is no triple, where that is plain.
+fn platform_meant(text: &str) -> Option<&'static str> {
+    match text.trim() {
+        "windows" => Some("write `cfg(windows)`"),
+        "unix" => Some("write `cfg(unix)`"),
+        "linux" => Some("write `cfg(target_os = \"linux\")`"),
+        "macos" | "osx" | "darwin" => Some("write `cfg(target_os = \"macos\")`"),
+        _ => None,
+    }
+}
+
+/// What is wrong with a platform of which a reader says so, in words, where these are plainer than
+/// the reader's.
+fn plain_words(alloc: Global, stopped: Stopped<'_>) -> Result<Option<Worded>, AllocError> {
+    if let Some(worded) = unpaired(alloc, stopped)? {
+        return Ok(Some(worded));
+    }
+    if let Some(worded) = bad_leaf(alloc, stopped)? {
+        return Ok(Some(worded));
+    }
+    if let Some(worded) = bad_whole(alloc, stopped)? {
+        return Ok(Some(worded));
+    }
+    unexpected(alloc, stopped)
+}
+
+/// What is wrong with a platform of which a reader says so, in words. There are none for what the
+/// reader words well.
+pub fn platform_words(alloc: Global, stopped: Stopped<'_>) -> Result<Option<Worded>, AllocError> {
+    let Some(worded) = plain_words(alloc, stopped)? else {
+        return Ok(None);
+    };
+    if worded.help.is_some() {
+        return Ok(Some(worded));
+    }
+    let help = owned(alloc, platform_meant(stopped.text))?;
+    Ok(Some(worded.advised(help)))
+}

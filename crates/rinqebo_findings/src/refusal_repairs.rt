@@ -1,0 +1,248 @@
+//! What files are read without where a later check refuses them.
+use crate::cycles::parent_path;
+use crate::edits::Edits;
+use crate::paths::path_with;
+use crate::refusals::section_path;
+use nextest_config::{
+    ConfigCompileError, ConfigCompileErrorKind, ConfigCompileSection, CustomTestGroup,
+    InheritsError, ProfileScriptErrors, ScriptId, Tree, UnknownTestGroupError,
+};
+use nextest_places::Step;
+use rinqebo_files::profile_table;
+use std::alloc::{AllocError, Global};
+use std::collections::{BTreeMap, BTreeSet};
+
+/// Any filter, in place of one that is refused.
+const FILTER: &str = "\"all()\"";
+
+/// Any platform, in place of one that is refused.
+const PLATFORM: &str = "\"cfg(unix)\"";
+
+/// Any platform, for a rule that has no condition.
+const CONDITION: &str = "platform = \"cfg(unix)\"";
+
+/// Leaves out groups of a source.
+pub fn leave_out_foreign_groups(
+    alloc: Global,
+    edits: &mut Edits,
+    place: usize,
+    groups: &BTreeSet<CustomTestGroup>,
+) -> Result<(), AllocError> {
+    for group in groups.iter() {
+        let name = group.to_string(alloc)?;
+        edits.remove(place, &[Step::Key("test-groups"), Step::Key(name.as_str())])?;
+        edits.left_out.groups.add(name.as_str())?;
+    }
+    Ok(())
+}
+
+/// Leaves out scripts of a source.
+pub fn leave_out_scripts(
+    alloc: Global,
+    edits: &mut Edits,
+    place: usize,
+    scripts: &BTreeSet<ScriptId>,
+) -> Result<(), AllocError> {
+    for script in scripts.iter() {
+        let name = script.to_string(alloc)?;
+        let name = name.as_str();
+        for kind in ["setup", "wrapper"] {
+            edits.remove(
+                place,
+                &[Step::Key("scripts"), Step::Key(kind), Step::Key(name)],
+            )?;
+        }
+        edits.remove(place, &[Step::Key("script"), Step::Key(name)])?;
+        edits.left_out.scripts.add(name)?;
+    }
+    Ok(())
+}
+
+/// The old table of scripts of a file.
+fn old_scripts(tree: Option<&Tree>) -> Option<&BTreeMap<String, Tree>> {
+    tree?.get("script")?.as_table()
+}
+
+/// Leaves out the old table of scripts of a source.
+pub fn leave_out_old_scripts(
+    edits: &mut Edits,
+    place: usize,
+    tree: Option<&Tree>,
+) -> Result<(), AllocError> {
+    if let Some(scripts) = old_scripts(tree) {
+        for name in scripts.keys() {
+            edits.left_out.scripts.add(name.as_str())?;
+        }
+    }
+    edits.remove(place, &[Step::Key("script")])
+}
+
+/// Leaves out the parent of a profile, in any source.
+fn leave_out_parent(edits: &mut Edits, sources: usize, profile: &str) -> Result<(), AllocError> {
+    for place in 0..sources {
+        edits.remove(place, &parent_path(profile))?;
+    }
+    Ok(())
+}
+
+/// Leaves out parents that profiles may not have.
+pub fn leave_out_parents(
+    edits: &mut Edits,
+    sources: usize,
+    errors: &[InheritsError],
+) -> Result<(), AllocError> {
+    for error in errors {
+        match error {
+            InheritsError::DefaultProfileInheritance(profile)
+            | InheritsError::SelfReferentialInheritance(profile)
+            | InheritsError::UnknownInheritance(profile, _) => {
+                leave_out_parent(edits, sources, profile.as_str())?;
+            }
+            InheritsError::InheritanceCycle(cycles) => {
+                for cycle in cycles {
+                    for profile in cycle {
+                        leave_out_parent(edits, sources, profile.as_str())?;
+                    }
+                }
+            }
+        }
+    }
+    Ok(())
+}
+
+/// Reads something in place of what does not compile.
+fn leave_out_section(
+    alloc: Global,
+    edits: &mut Edits,
+    place: usize,
+    error: &ConfigCompileError,
+) -> Result<(), AllocError> {
+    let section = section_path(alloc, error.profile_name.as_str(), error.section)?;
+    if let ConfigCompileSection::DefaultFilter = error.section {
+        return edits.replace(place, &section, FILTER);
+    }
+    match &error.kind {
+        ConfigCompileErrorKind::ConstraintsNotSpecified { .. } => {
+            edits.add(place, &section, CONDITION)
+        }
+        ConfigCompileErrorKind::FilterAndDefaultFilterSpecified => {
+            edits.remove_key(place, &section, "filter")
+        }
+        ConfigCompileErrorKind::Parse {
+            host_parse_error,
+            target_parse_error,
+            filter_parse_error,
+            default_filter_parse_error,
+        } => {
+            if host_parse_error.is_some() || target_parse_error.is_some() {
+                edits.replace(place, &path_with(alloc, &section, "platform")?, PLATFORM)?;
+            }
+            if filter_parse_error.is_some() {
+                edits.replace(place, &path_with(alloc, &section, "filter")?, FILTER)?;
+            }
+            if default_filter_parse_error.is_some() {
+                let path = path_with(alloc, &section, "default-filter")?;
+                edits.replace(place, &path, FILTER)?;
+            }
+            Ok(())
+        }
+    }
+}
+
+/// Reads something in place of all that does not compile.
+pub fn leave_out_sections(
+    alloc: Global,
+    edits: &mut Edits,
+    place: usize,
+    errors: &[ConfigCompileError],
+) -> Result<(), AllocError> {
+    for error in errors {
+        leave_out_section(alloc, edits, place, error)?;
+    }
+    Ok(())
+}
+
+/// The overrides of a profile of a file.
+fn overrides_of<'t>(tree: Option<&'t Tree>, profile: &str) -> Option<&'t [Tree]> {
+    profile_table(tree?, profile)?.get("overrides")?.as_array()
+}
+
+/// The group that an override sets.
+fn group_of(rule: &Tree) -> Option<&str> {
+    rule.get("test-group")?.as_str()
+}
+
+/// Leaves out a group that overrides of a profile set.
+fn leave_out_group(
+    edits: &mut Edits,
+    place: usize,
+    tree: Option<&Tree>,
+    profile: &str,
+    name: &str,
+) -> Result<(), AllocError> {
+    let Some(overrides) = overrides_of(tree, profile) else {
+        return Ok(());
+    };
+    for (index, rule) in overrides.iter().enumerate() {
+        if group_of(rule) == Some(name) {
+            let path = [
+                Step::Key("profile"),
+                Step::Key(profile),
+                Step::Key("overrides"),
+                Step::Position(index),
+                Step::Key("test-group"),
+            ];
+            edits.remove(place, &path)?;
+        }
+    }
+    Ok(())
+}
+
+/// Leaves out groups that overrides set and no file defines.
+pub fn leave_out_groups(
+    alloc: Global,
+    edits: &mut Edits,
+    place: usize,
+    tree: Option<&Tree>,
+    errors: &[UnknownTestGroupError],
+) -> Result<(), AllocError> {
+    for error in errors {
+        let name = error.name.to_string(alloc)?;
+        leave_out_group(
+            edits,
+            place,
+            tree,
+            error.profile_name.as_str(),
+            name.as_str(),
+        )?;
+    }
+    Ok(())
+}
+
+/// Leaves out the script rules of a profile.
+fn leave_out_rules(edits: &mut Edits, place: usize, profile: &str) -> Result<(), AllocError> {
+    let path = [
+        Step::Key("profile"),
+        Step::Key(profile),
+        Step::Key("scripts"),
+    ];
+    edits.remove(place, &path)
+}
+
+/// Leaves out the script rules of the profiles in which a rule names a script that it may not.
+pub fn leave_out_script_rules(
+    edits: &mut Edits,
+    place: usize,
+    errors: &ProfileScriptErrors,
+) -> Result<(), AllocError> {
+    for error in &errors.unknown_scripts {
+        leave_out_rules(edits, place, error.profile_name.as_str())?;
+    }
+    for error in &errors.wrong_script_types {
+        leave_out_rules(edits, place, error.profile_name.as_str())?;
+    }
+    for error in &errors.list_scripts_using_run_filters {
+        leave_out_rules(edits, place, error.profile_name.as_str())?;
+    }
+    Ok(())
+}

@@ -1,0 +1,145 @@
+//! What is wrong with regular expressions, where that is plain.
+use std::alloc::{AllocError, Global};
+
+/// What is wrong with a regular expression.
+#[derive(Clone, Copy)]
+enum Flaw {
+    /// A group is not closed.
+    OpenGroup,
+    /// A parenthesis closes no group.
+    StrayClose,
+    /// A class is not closed.
+    OpenClass,
+    /// A range of a class ends before it starts.
+    Range(char, char),
+}
+
+/// What was read of a regular expression.
+#[derive(Clone, Copy)]
+struct Scan {
+    /// How many groups are open.
+    depth: usize,
+    /// Whether a class is open.
+    in_class: bool,
+    /// Whether the last character was a backslash.
+    is_escaped: bool,
+    /// The last character of a class.
+    last: Option<char>,
+    /// The character with which a range of a class starts.
+    from: Option<char>,
+}
+
+impl Scan {
+    /// Reads a character of a class.
+    fn within(self, c: char) -> Result<Scan, Flaw> {
+        let mut next = self;
+        next.last = Some(c);
+        next.from = None;
+        match (c, self.from) {
+            (']', _) => next.in_class = false,
+            ('-', _) => {
+                next.from = self.last;
+                next.last = None;
+            }
+            (_, Some(from)) if from > c => return Err(Flaw::Range(from, c)),
+            _ => {}
+        }
+        Ok(next)
+    }
+
+    /// Reads a character outside classes.
+    fn without(self, c: char) -> Result<Scan, Flaw> {
+        let mut next = self;
+        match c {
+            '[' => {
+                next.in_class = true;
+                next.last = None;
+                next.from = None;
+            }
+            '(' => next.depth = self.depth.saturating_add(1),
+            ')' if self.depth == 0 => return Err(Flaw::StrayClose),
+            ')' => next.depth = self.depth.saturating_sub(1),
+            _ => {}
+        }
+        Ok(next)
+    }
+
+    /// Reads a character.
+    fn read(self, c: char) -> Result<Scan, Flaw> {
+        let mut next = self;
+        if self.is_escaped || c == '\\' {
+            next.is_escaped = !self.is_escaped;
+            next.last = None;
+            next.from = None;
+            return Ok(next);
+        }
+        if self.in_class {
+            self.within(c)
+        } else {
+            self.without(c)
+        }
+    }
+
+    /// What is wrong at the end.
+    fn end(self) -> Option<Flaw> {
+        if self.in_class {
+            return Some(Flaw::OpenClass);
+        }
+        if self.depth > 0 {
+            return Some(Flaw::OpenGroup);
+        }
+        None
+    }
+}
+
+/// What is wrong with a regular expression, where that is plain.
+fn flaw_of(pattern: &str) -> Option<Flaw> {
+    let mut scan = Scan {
+        depth: 0,
+        in_class: false,
+        is_escaped: false,
+        last: None,
+        from: None,
+    };
+    for c in pattern.chars() {
+        match scan.read(c) {
+            Ok(next) => scan = next,
+            Err(flaw) => return Some(flaw),
+        }
+    }
+    scan.end()
+}
+
+/// A flaw of a regular expression, in words.
+fn flaw_message(alloc: Global, pattern: &str, flaw: Flaw) -> Result<String, AllocError> {
+    match flaw {
+        Flaw::OpenGroup => format!(in alloc; "`{pattern}` has a group that is not closed"),
+        Flaw::StrayClose => format!(in alloc; "`{pattern}` has a `)` that closes no group"),
+        Flaw::OpenClass => format!(in alloc; "`{pattern}` has a class that is not closed"),
+        Flaw::Range(from, to) => {
+            format!(in alloc; "the range `{from}-{to}` ends before it starts")
+        }
+    }
+}
+
+/// What is expected in place of a regular expression with a flaw.
+fn flaw_expected(flaw: Flaw) -> &'static str {
+    match flaw {
+        Flaw::OpenGroup => "a regular expression with a closing `)`",
+        Flaw::StrayClose => "a regular expression with a `(` for each `)`",
+        Flaw::OpenClass => "a regular expression with a closing `]`",
+        Flaw::Range(_, _) => "a regular expression whose ranges ascend",
+    }
+}
+
+/// What is wrong with a regular expression, and what is expected instead, where that is plain.
+pub fn regex_fault(
+    alloc: Global,
+    pattern: &str,
+) -> Result<Option<(String, &'static str)>, AllocError> {
+    let Some(flaw) = flaw_of(pattern) else {
+        return Ok(None);
+    };
+    let message = flaw_message(alloc, pattern, flaw)?;
+    Ok(Some((message, flaw_expected(flaw))))
+}

@@ -1,0 +1,91 @@
+//! Texts that are refused, with the part at fault, and what is wrong with that part, in words.
+use std::alloc::{AllocError, Global};
+
+/// The character that a text begins with.
+pub fn first_of(text: &str) -> &str {
+    match text.chars().next() {
+        Some(c) => text.get(..c.len_utf8()).unwrap_or(""),
+        None => "",
+    }
+}
+
+/// A text that is refused, and where its reader stopped, and why.
+#[derive(Clone, Copy)]
+pub struct Stopped<'t> {
+    /// The text.
+    pub text: &'t str,
+    /// The byte at which the part starts that is at fault.
+    pub start: usize,
+    /// The byte behind that part.
+    pub end: usize,
+    /// Why, as the reader words it.
+    pub label: &'t str,
+}
+
+impl<'t> Stopped<'t> {
+    /// The text before the part.
+    pub fn before(self) -> &'t str {
+        self.text.get(..self.start).unwrap_or("")
+    }
+
+    /// The text from the part on.
+    pub fn rest(self) -> &'t str {
+        self.text.get(self.start..).unwrap_or("")
+    }
+
+    /// The part.
+    pub fn part(self) -> &'t str {
+        self.text.get(self.start..self.end).unwrap_or("")
+    }
+
+    /// The first character from the part on.
+    pub fn first(self) -> &'t str {
+        first_of(self.rest())
+    }
+
+    /// Where some text that follows the start is, which ends with the whole text.
+    pub fn place_of(self, rest: &str, len: usize) -> (usize, usize) {
+        let start = self.text.len().saturating_sub(rest.len());
+        (start, start.saturating_add(len))
+    }
+}
+
+/// What is wrong with a part of a text, in words.
+#[derive(Drop)]
+pub struct Worded {
+    /// The byte at which the part starts.
+    pub start: usize,
+    /// The byte behind it.
+    pub end: usize,
+    /// What is wrong there.
+    pub message: String,
+    /// What is expected there.
+    pub expected: Option<String>,
+    /// What to do.
+    pub help: Option<String>,
+}
+
+impl Worded {
+    /// What is wrong with a part.
+    pub fn of(
+        alloc: Global,
+        place: (usize, usize),
+        message: String,
+        expected: &str,
+    ) -> Result<Worded, AllocError> {
+        Ok(Worded {
+            start: place.0,
+            end: place.1,
+            message,
+            expected: Some(String::from_str(alloc, expected)?),
+            help: None,
+        })
+    }
+
+    /// The same with something to do.
+    pub fn advised(self, help: Option<String>) -> Worded {
+        let mut worded = self;
+        worded.help = help;
+        worded
+    }
+}
