@@ -151,7 +151,8 @@ pub record IsOfMetadata (metadata binary : List ℕ) (requested : RequestedTest)
 abbrev pub IsNotOfMetadata : List ℕ → List ℕ → TestFault → Type 0
 IsNotOfMetadata metadata binary (faults.NoTest missing) = LacksBinary metadata binary
 IsNotOfMetadata metadata binary (faults.SeveralTests tests) = ⊥
-IsNotOfMetadata metadata binary (faults.Input fault) = OfEngine IsAnySubject (AreNoTargets metadata) fault
+IsNotOfMetadata metadata binary (faults.Input fault) =
+    OfEngine IsAnySubject (AreNoTargets metadata) fault
 IsNotOfMetadata metadata binary faults.Memory = Unit {0}
 
 -- a fault of what a request names is why a test is not found: want of memory is a reason of its own

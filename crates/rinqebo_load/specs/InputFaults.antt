@@ -106,7 +106,8 @@ engine_fault subject refused.Memory = faults.Memory
 -- a fault is one of an engine, but not want of memory: something holds of what it is about, and of
 -- it
 abbrev pub OfEngine : (Subject → Type 0) → (EngineFault → Type 0) → InputFault → Type 0
-OfEngine IsAbout Holds (faults.Engine subject fault) = IsAbout subject × IsNoWant fault × Holds fault
+OfEngine IsAbout Holds (faults.Engine subject fault) =
+    IsAbout subject × IsNoWant fault × Holds fault
 OfEngine IsAbout Holds fault = ⊥
 
 -- ---- the causes of faults, each without those of the others
@@ -138,8 +139,8 @@ LacksHost path printed fault = ⊥
 -- metadata that were read at a path have no graph of packages, for exactly this fault
 abbrev pub IsGraphFault : Option (List ℕ) → Option (String Global) → InputFault → Type 0
 IsGraphFault path metadata fault =
-    OfEngine (IsAboutFile path options.Metadata) (IsMetadataFault (option_map string_bytes metadata))
-    fault
+    OfEngine (IsAboutFile path options.Metadata)
+    (IsMetadataFault (option_map string_bytes metadata)) fault
 
 -- metadata have a graph of packages, if there are any
 abbrev pub HasGraph : Option (String Global) → Type 0

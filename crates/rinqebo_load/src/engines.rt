@@ -2,7 +2,7 @@
 ghost use Rattle.std.specs.Prelude.{◌≡◌, IfErr, IfOk, option_map, string_bytes};
 ghost use Rattle.rinqebo_forms.specs.Machines.{AreOpenFiltersFor, ArePlatformsFor, IsPlatformBy, IsTargetFor};
 ghost use Rattle.rinqebo_request.specs.declared.named.FileOption.TheVariants.{HostCfg, TargetCfg};
-ghost use Rattle.rinqebo_load.specs.InputFaults.{IsAboutNamed, IsBuildFault, IsEngineFault, IsGraphFault, IsMachineFault, IsTargetFault, IsTargetKnown, OrMemory};
+ghost use Rattle.rinqebo_load.specs.InputFaults.{IsAboutNamed, IsAboutTriple, IsBuildFault, IsEngineFault, IsGraphFault, IsMachineFault, IsTargetFault, IsTargetKnown, OrMemory};
 ghost use Rattle.rinqebo_load.specs.ListPath.{list_path, path_of};
 ghost use Rattle.rinqebo_load.specs.Machines.{machine_of};
 
@@ -40,21 +40,35 @@ struct MachineNames<'a> {
     option: FileOption,
 }
 
+/// What a fault of a triple is about: the list of tests, if that gives the triple, else what does.
+fn triple_subject(
+    alloc: Global,
+    source: TripleSource,
+    list: Option<&str>,
+) -> Result<Subject, AllocError>
+    ensures { IfOk result (IsAboutTriple source (path_of list.entry)) }
+{
+    match source {
+        TripleSource::List => {
+            let file = NamedFile::new(alloc, list, FileOption::List)?;
+            Ok(Subject::File(file))
+        }
+        source => Ok(Subject::Triple(source)),
+    }
+}
+
 impl MachineNames<'_> {
-    /// The option that a fault of the machine's platform is about: the one with what the compiler
-    /// prints for it, if a user names that, else the one with its triple.
+    /// What a fault of the machine's platform is about: what the compiler prints for it, if a user
+    /// names that, else its triple.
     fn subject(self, alloc: Global) -> Result<Subject, AllocError>
         ensures { IfOk result (IsAboutNamed self.entry) }
     {
-        if self.cfg.is_some() {
-            return Ok(Subject::File(NamedFile::new(alloc, self.cfg, self.option)?));
-        }
-        match self.source {
-            TripleSource::List => {
-                let file = NamedFile::new(alloc, self.list, FileOption::List)?;
+        match self.cfg {
+            Some(cfg) => {
+                let file = NamedFile::new(alloc, Some(cfg), self.option)?;
                 Ok(Subject::File(file))
             }
-            source => Ok(Subject::Triple(source)),
+            None => triple_subject(alloc, self.source, self.list),
         }
     }
 }
@@ -141,8 +155,10 @@ fn target_of(
 {
     match triple {
         Some(triple) => Ok(Some(named_platform(alloc, triple.as_str(), cfg, names)?)),
-        None if cfg.is_some() => Err(InputFault::NoTarget),
-        None => Ok(None),
+        None => match cfg {
+            Some(_) => Err(InputFault::NoTarget),
+            None => Ok(None),
+        },
     }
 }
 
