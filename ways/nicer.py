@@ -17,7 +17,8 @@ while True:
             if comm not in ('rattle','rattle-try','antt-kernel','clang','ld','lld','python3','cc','opt','llc'): continue
             if comm=='python3' and '@BASE@/nicer' in open(f'/proc/{p}/cmdline').read(): continue
             cwd=os.readlink(f'/proc/{p}/cwd'); b=os.path.basename(cwd)
-            if comm=='python3' or '/rattle-native' in cwd: n=0
+            if '/rattle-native' in cwd: n=-10
+            elif comm=='python3': n=-5
             elif b in c and '/rt-copy' in cwd: n=c[b]
             elif '/rt-copy' in cwd or '/rt-edit' in cwd: n=0 if b in CHAIN else 4 if b in NEAR else 12
             else:
