@@ -90,6 +90,8 @@ pub struct RunSettings {
     pub junit: Option<JunitFile>,
     /// The directory in which the profile stores what it writes.
     pub store_dir: String,
+    /// The default filter, as it is written: `all()` where no file writes one.
+    pub default_filter: String,
     /// The arguments that a test is given where no rule says so.
     pub run_extra_args: Vec<String>,
 }

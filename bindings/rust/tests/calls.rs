@@ -609,6 +609,7 @@ path = "junit.xml"
 report-name = "all"
 [profile.quick]
 final-status-level = "slow"
+default-filter = "not test(/^slow::/)"
 [profile.default-x]
 [test-groups.db]
 max-threads = 2
@@ -648,12 +649,14 @@ fn a_profile_says_what_a_run_needs() {
     let junit = run.junit.as_ref().unwrap();
     assert_eq!((junit.path.as_str(), junit.report_name.as_str()), ("/w/target/nextest/ci/junit.xml", "all"));
     assert_eq!(run.store_dir, "/w/target/nextest/ci");
+    assert_eq!(run.default_filter, "not test(/^slow::/)");
     assert_eq!(run.run_extra_args, ["--show-output"]);
     assert_eq!(run.profiles, ["ci", "default", "default-miri", "default-x", "quick"]);
     assert_eq!(config.profiles().unwrap(), run.profiles);
     let run = config.profile("default").unwrap().run().unwrap();
     assert_eq!((run.inherits, run.max_fail, run.junit), (None, MaxFail::Count(1), None));
     assert_eq!(run.final_status_level, FinalStatusLevel::Flaky);
+    assert_eq!(run.default_filter, "all()");
     assert_eq!(config.profile("ci").unwrap().chain().unwrap(), ["ci", "quick", "default"]);
     assert_eq!(config.profile("default").unwrap().chain().unwrap(), ["default"]);
     let groups = config.groups().unwrap();

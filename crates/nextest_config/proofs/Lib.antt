@@ -14,5 +14,6 @@ pub mod HaveSameProfile
 pub mod Isolation
 pub mod FileApart
 pub mod Aliasing
+pub mod DefaultFilters
 pub mod JoinedTexts
 pub mod SpelledTexts

@@ -1,5 +1,5 @@
 -- LAWS OF WHOLE CONFIGURATIONS: what a user relies on without reading a rule.
-use Rattle.std.specs.Prelude.{◌≡◌, ◌⊎◌, ◌↔◌, ◌++◌, ℕ, List, [], ◌∷◌, map, true, false, Option, Some, None, IsSome, slice_get}
+use Rattle.std.specs.Prelude.{◌≡◌, ◌⊎◌, ◌↔◌, ◌++◌, ℕ, List, [], ◌∷◌, map, true, false, Option, Some, None, IsSome, Ok, slice_get}
 use Rattle.std.specs.List.{AllZip, Contains, IsDistinct}
 use Rattle.std.specs.Str.{bytes_eq}
 use Rattle.nextest_elements.specs.declared.run_mode.NextestRunMode.{NextestRunMode}
@@ -7,6 +7,7 @@ use Rattle.nextest_elements.specs.declared.run_mode.NextestRunMode.TheVariants.{
 use Rattle.nextest_engines.specs.Engines.{Test, Binary}
 use Rattle.nextest_engines.specs.Readings.{Readings}
 use Rattle.nextest_engines.specs.declared.queries.BuildPlatforms.{BuildPlatforms}
+use Rattle.nextest_engines.specs.declared.queries.FiltersetKind.TheVariants.{DefaultFilter}
 use Rattle.nextest_inheritance.specs.Parents.{Parents, parents_in, LeadToDefault, IsChain, with_default}
 use Rattle.nextest_load.specs.Accepted.{IsAccepted}
 use Rattle.nextest_load.specs.Agreement.{AgreeOn, StaysApart, WritesOnlyParent}
@@ -18,7 +19,7 @@ use Rattle.nextest_rules.specs.Accepted.{IsAmong}
 use Rattle.nextest_rules.specs.Definitions.{Features}
 use Rattle.nextest_rules.specs.Rules.{Compiled, OverrideUse, at_name}
 use Rattle.nextest_scripts.specs.ScriptTexts.{SetupScriptText}
-use Rattle.nextest_settings.specs.Chains.{first_of}
+use Rattle.nextest_settings.specs.Chains.{FilterChoice, first_of, match_all_filter}
 use Rattle.nextest_settings.specs.Deciding.{rule_holds, decides}
 use Rattle.nextest_settings.specs.Platforms.{EvaluatedRule, rule_on, filter_of_override}
 use Rattle.nextest_settings.specs.Profile.{Configured, EarlyModel, EvaluatableModel, profile_of, profile_on}
@@ -154,6 +155,18 @@ Aliasing {P = P} engines =
     IsChain (parents_by engines a) name (name ∷ chain)
     × GiveTheSame engines p q
     × (p.facts.fields ≡ fields_in (table no_entries) ∷ q.facts.fields)
+
+-- the text of a default filter reads to what the filter means
+abbrev pub ReadsToFilter : {M K P : Type 0} → Readings M K P → FilterChoice M → Type 0
+ReadsToFilter engines choice = engines.read_filter DefaultFilter choice.text ≡ Ok choice.filter
+
+-- DEFAULT FILTERS. The text of the default filter of a profile reads to what that filter means; or
+-- the filter is `all()`, which matches everything.
+abbrev pub DefaultFiltersAreRead : {M K P : Type 0} → Readings M K P → Type 0
+DefaultFiltersAreRead {P = P} engines =
+    (platforms : BuildPlatforms P) (a : AcceptedFiles engines) (name : Name) (chain : List Name)
+    → let choice = (profile_by engines platforms a name chain).default_filter in
+    ReadsToFilter engines choice ⊎ (choice ≡ match_all_filter engines.match_all)
 
 -- an override on the platforms of a build
 abbrev pub held_on : {M K P : Type 0} → Readings M K P → BuildPlatforms P

@@ -58,7 +58,7 @@ pub use nextest_tree::{Element, ElementCause, ElementFault, Tree, Walk};
 pub use nextest_inheritance::{DEFAULT_MIRI_PROFILE, DEFAULT_PROFILE};
 pub use nextest_profiles::{EarlyProfile, EvaluatableProfile, KnownGroups};
 pub use nextest_rules::{
-    CompiledOverride, CompiledProfileScripts, OverrideId, PlatformSpecs, ScriptRuleId,
+    CompiledOverride, CompiledProfileScripts, OverrideId, PlatformSpecs, ReadFilter, ScriptRuleId,
 };
 pub use nextest_settings::{
     CompiledDefaultFilter, CompiledDefaultFilterSection, EvaluatedOverride, EvaluatedRule,

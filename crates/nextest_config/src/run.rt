@@ -12,7 +12,10 @@ use crate::config::NextestConfig;
 use answer::rows_of;
 pub use fault::ResolveFault;
 use fault::fault_of_load;
-pub use laws::{law_alias, law_file_apart, law_isolation, law_last_rule, law_take_out, law_users};
+pub use laws::{
+    law_alias, law_default_filter_text, law_file_apart, law_isolation, law_last_rule, law_take_out,
+    law_users,
+};
 use nextest_elements::{ConfigExperimental, NextestRunMode};
 use nextest_engines::{BuildPlatforms, Filters, ParseContext, Specs, Tally, TestQuery};
 use nextest_sources::{ConfigFileSelection, ConfigPaths, ConfigWarnings, ToolConfigFile};

@@ -76,5 +76,5 @@ pub fn tree_from_text(alloc: Global, text: &str) -> Result<Tree, TextFault>
         Ok(document) => document,
         Err(error) => return Err(TextFault::of(alloc, &error)?),
     };
-    Ok(Tree::from_toml(alloc, &toml::Value::Table(document))?)
+    Ok(Tree::from_value(alloc, toml::Value::Table(document))?)
 }

@@ -12,8 +12,8 @@ use Rattle.nextest_inheritance.specs.Parents.{parents_in, with_default, IsChain}
 use Rattle.nextest_load.specs.Config.{ConfigModel, config_parents}
 use Rattle.nextest_load.specs.Meaning.{config_meaning}
 use Rattle.nextest_rules.specs.Meaning as rules
-use Rattle.nextest_rules.specs.Rules.{Compiled, OverrideUse, ScriptRuleUse, LayerProfile, Layer, at_name}
-use Rattle.nextest_settings.specs.Chains.{in_layer, in_order, overrides_of, script_rules_of, first_of, FilterChoice, at_profile, filter_of_profile, nearest_filter, match_all_filter}
+use Rattle.nextest_rules.specs.Rules.{Compiled, WrittenFilter, OverrideUse, ScriptRuleUse, LayerProfile, Layer, at_name}
+use Rattle.nextest_settings.specs.Chains.{in_layer, in_order, overrides_of, script_rules_of, first_of, FilterChoice, at_profile, chosen_at, filter_of_profile, nearest_filter, match_all_filter}
 use Rattle.nextest_settings.specs.Platforms.{spec_holds, EvaluatedRule, rule_on, filter_of_override, default_filter_of}
 use Rattle.nextest_settings.specs.Profile.{Configured, EarlyModel, EvaluatableModel, profile_of, profile_on}
 use Rattle.nextest_settings.specs.View.{evaluated_override_meaning, evaluated_script_rule_meaning}
@@ -104,13 +104,13 @@ module _ {E N M K : Type 0} (f : E → M) (g : N → K) where
       (λ p. refl)
 
   written_meaning : (o : Option (LayerProfile E N))
-      → option_map f (option_and_then (λ p. p.default_filter) o)
+      → option_map (rules.written_meaning f) (option_and_then (λ p. p.default_filter) o)
       ≡ option_and_then (λ p. p.default_filter) (option_map (rules.layer_profile_meaning f g) o)
   written_meaning None = refl
   written_meaning (Some p) = refl
 
   highest_meaning : (name : Name) (l : Layer E N)
-      → option_map f (option_and_then (λ p. p.default_filter) (at_name name l.profiles))
+      → option_map (rules.written_meaning f) (option_and_then (λ p. p.default_filter) (at_name name l.profiles))
       ≡ option_and_then (λ p. p.default_filter) (at_name name (rules.layer_meaning f g l).profiles)
   highest_meaning name l = written_meaning (at_name name l.profiles)
       ∙ ap (option_and_then (λ p. p.default_filter)) (at_name_meaning name l)
@@ -119,13 +119,15 @@ module _ {E N M K : Type 0} (f : E → M) (g : N → K) where
       → option_map (choice_meaning f) (filter_of_profile ls name)
       ≡ filter_of_profile (map (rules.layer_meaning f g) ls) name
   of_profile_meaning ls name =
-      let written : Layer E N → Option E = λ l. option_and_then (λ p. p.default_filter) (at_name name l.profiles) in
-      let written' : Layer M K → Option M = λ l. option_and_then (λ p. p.default_filter) (at_name name l.profiles) in
-      let here : M → FilterChoice M = λ m. record { filter = m; profile = name; section = at_profile } in
-      option_twice (choice_meaning f) (λ m. record { filter = m; profile = name; section = at_profile })
-      (first_of written ls)
-      ∙ sym (option_twice here f (first_of written ls))
-      ∙ ap (option_map here) (first_meaning written written' (rules.layer_meaning f g) f (highest_meaning name) ls)
+      let written : Layer E N → Option (WrittenFilter E) =
+      λ l. option_and_then (λ p. p.default_filter) (at_name name l.profiles) in
+      let written' : Layer M K → Option (WrittenFilter M) =
+      λ l. option_and_then (λ p. p.default_filter) (at_name name l.profiles) in
+      let meant = rules.written_meaning f in
+      option_twice (choice_meaning f) (chosen_at name at_profile) (first_of written ls)
+      ∙ sym (option_twice (chosen_at name at_profile) meant (first_of written ls))
+      ∙ ap (option_map (chosen_at name at_profile))
+      (first_meaning written written' (rules.layer_meaning f g) meant (highest_meaning name) ls)
 
   same_names : {X : Type 0} (xs : List X) → map (λ x. x) xs ≡ xs
   same_names [] = refl
@@ -178,7 +180,7 @@ module _ {E N M K : Type 0} (f : E → M) (g : N → K) where
     script_rules_on [] = refl
     script_rules_on (r ∷ rs) = λ i. script_rule_on r i ∷ script_rules_on rs i
 
-  choice_of : (on : Bool) (index : Option E) (r : EvaluatedRule E (OverrideUse E)) → r.for_target ≡ on
+  choice_of : (on : Bool) (index : Option (WrittenFilter E)) (r : EvaluatedRule E (OverrideUse E)) → r.for_target ≡ on
       → r.writes.default_filter ≡ index
       → option_map (choice_meaning f) (filter_of_override r) ≡ filter_of_override (evaluated_override_meaning f r)
   choice_of false o r is written = rw is refl

@@ -17,7 +17,12 @@ configured_meaning f g c = with_config c (config_meaning f g c.config)
 
 -- what a default filter means, where it stands
 abbrev pub choice_meaning : {E M : Type 0} → (E → M) → FilterChoice E → FilterChoice M
-choice_meaning f c = record { filter = f c.filter; profile = c.profile; section = c.section }
+choice_meaning f c = record {
+  filter = f c.filter;
+  text = c.text;
+  profile = c.profile;
+  section = c.section;
+}
 
 -- what a profile on the platforms of a build means
 abbrev pub profile_meaning : {E M : Type 0} → (E → M) → EvaluatableModel E → EvaluatableModel M

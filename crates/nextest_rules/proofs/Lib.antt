@@ -18,3 +18,4 @@ pub mod Ordering
 pub mod Owning
 pub mod Passing
 pub mod Telling
+pub mod Texting

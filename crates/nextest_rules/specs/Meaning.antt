@@ -1,6 +1,6 @@
 -- Rules by what the engines mean, in place of the expressions that code holds.
 use Rattle.std.specs.Prelude.{map, option_map}
-use Rattle.nextest_rules.specs.Rules.{Compiled, OverrideUse, ScriptRuleUse, LayerProfile, Layer}
+use Rattle.nextest_rules.specs.Rules.{Compiled, WrittenFilter, OverrideUse, ScriptRuleUse, LayerProfile, Layer}
 
 -- a rule with f done to its filter, g to its specs and h to what it writes
 abbrev pub rule_meaning : {E N W M K V : Type 0} → (E → M) → (N → K) → (W → V) → Compiled E N W
@@ -12,12 +12,16 @@ rule_meaning f g h r = record {
   writes = h r.writes;
 }
 
+-- a default filter, by what it means
+abbrev pub written_meaning : {E M : Type 0} → (E → M) → WrittenFilter E → WrittenFilter M
+written_meaning f w = record { means = f w.means; text = w.text }
+
 -- what an override writes, by what its default filter means
 abbrev pub use_meaning : {E M : Type 0} → (E → M) → OverrideUse E → OverrideUse M
 use_meaning f u = record {
   id = u.id;
   settings = u.settings;
-  default_filter = option_map f u.default_filter;
+  default_filter = option_map (written_meaning f) u.default_filter;
 }
 
 -- an override
@@ -34,7 +38,7 @@ script_rule_meaning f g r = rule_meaning f g (λ u. u) r
 abbrev pub layer_profile_meaning : {E N M K : Type 0} → (E → M) → (N → K) → LayerProfile E N
     → LayerProfile M K
 layer_profile_meaning f g p = record {
-  default_filter = option_map f p.default_filter;
+  default_filter = option_map (written_meaning f) p.default_filter;
   overrides = map (override_meaning f g) p.overrides;
   script_rules = map (script_rule_meaning f g) p.script_rules;
 }

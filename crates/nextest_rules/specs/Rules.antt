@@ -1,5 +1,5 @@
 -- The rules of a source, by what the engines make of their texts.
-use Rattle.std.specs.Prelude.{ℕ, List, map, Option, option_and_then, Result}
+use Rattle.std.specs.Prelude.{ℕ, List, map, Option, option_map, option_and_then, Result}
 use Rattle.std.specs.List.{enumerate_from}
 use Rattle.std.specs.Result.{result_ok}
 use Rattle.std.specs.Map.{lookup}
@@ -26,20 +26,25 @@ pub record Compiled (M K W : Type 0) : Type 0 where
   pub filter : Option M
   pub writes : W
 
--- what an override writes: its id, values of settings, what its default filter means
+-- A default filter that is written: what it means, and its text.
+pub record WrittenFilter (M : Type 0) : Type 0 where
+  pub means : M
+  pub text : List ℕ
+
+-- what an override writes: its id, values of settings, its default filter
 pub record OverrideUse (M : Type 0) : Type 0 where
   pub id : RuleId
   pub settings : WrittenSettings
-  pub default_filter : Option M
+  pub default_filter : Option (WrittenFilter M)
 
 -- what a script rule writes: its id, and the scripts that it names
 pub record ScriptRuleUse : Type 0 where
   pub id : RuleId
   pub scripts : ScriptUse
 
--- a profile of a source: what its default filter means, its overrides and its script rules
+-- a profile of a source: its default filter, its overrides and its script rules
 pub record LayerProfile (M K : Type 0) : Type 0 where
-  pub default_filter : Option M
+  pub default_filter : Option (WrittenFilter M)
   pub overrides : List (Compiled M K (OverrideUse M))
   pub script_rules : List (Compiled M K ScriptRuleUse)
 
@@ -61,6 +66,16 @@ abbrev pub filter_meaning : {M K P : Type 0} → Readings M K P → FiltersetKin
     → Option M
 filter_meaning engines kind = meaning_of (engines.read_filter kind)
 
+-- what a text means, if it is read, beside the text
+abbrev pub with_text : {M : Type 0} → Option M → Option (List ℕ) → Option (WrittenFilter M)
+with_text means o = option_and_then
+    (λ t. option_map (λ m. record { means = m; text = t }) means) o
+
+-- the default filter of a text, if there is a text and it is read
+abbrev pub written_filter : {M K P : Type 0} → Readings M K P → Option (List ℕ)
+    → Option (WrittenFilter M)
+written_filter engines text = with_text (filter_meaning engines DefaultFilter text) text
+
 -- what the text of a platform spec means
 abbrev pub spec_meaning : {M K P : Type 0} → Readings M K P → Option (List ℕ) → Option K
 spec_meaning engines = meaning_of engines.read_spec
@@ -75,7 +90,7 @@ override_rule engines id o = record {
   writes = record {
     id = id;
     settings = o.settings;
-    default_filter = filter_meaning engines DefaultFilter o.default_filter;
+    default_filter = written_filter engines o.default_filter;
   };
 }
 
@@ -110,7 +125,7 @@ script_rules engines source name texts = map
 abbrev pub layer_profile : {M K P : Type 0} → Readings M K P → Source → Name → ProfileText
     → LayerProfile M K
 layer_profile engines source name p = record {
-  default_filter = filter_meaning engines DefaultFilter p.default_filter;
+  default_filter = written_filter engines p.default_filter;
   overrides = override_rules engines source name p.overrides;
   script_rules = script_rules engines source name p.script_rules;
 }

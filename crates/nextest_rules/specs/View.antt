@@ -1,14 +1,15 @@
 -- What contracts see of compiled rules.
-use Rattle.std.specs.Prelude.{ℕ, List, String, map, string_bytes}
+use Rattle.std.specs.Prelude.{ℕ, List, String, map, option_map, string_bytes}
 use Rattle.std.specs.Borrow.{Bor}
 use Rattle.std.specs.declared.alloc.Global.{Global}
 use Rattle.nextest_sources.specs.Sources.{source_view}
 use Rattle.nextest_tables.specs.View.{by_name, settings_view, uses_view}
 use Rattle.nextest_tables.specs.Written.{Name}
 use Rattle.nextest_rules.specs.Meaning.{layer_profile_meaning}
-use Rattle.nextest_rules.specs.Rules.{RuleId, Compiled, OverrideUse, ScriptRuleUse, LayerProfile, Layer}
+use Rattle.nextest_rules.specs.Rules.{RuleId, Compiled, WrittenFilter, OverrideUse, ScriptRuleUse, LayerProfile, Layer}
 use Rattle.nextest_rules.specs.declared.overrides.OverrideId.{OverrideId}
 use Rattle.nextest_rules.specs.declared.overrides.ScriptRuleId.{ScriptRuleId}
+use Rattle.nextest_rules.specs.declared.overrides.ReadFilter.{ReadFilter}
 use Rattle.nextest_rules.specs.declared.overrides.CompiledOverride.{CompiledOverride}
 use Rattle.nextest_rules.specs.declared.overrides.CompiledProfileScripts.{CompiledProfileScripts}
 use Rattle.nextest_rules.specs.declared.overrides.CompiledProfile.{CompiledProfile}
@@ -30,6 +31,10 @@ script_rule_id_view i = record {
   index = i.index;
 }
 
+-- a default filter
+abbrev pub read_filter_view : {F E T : Type 0} → ReadFilter F E T → WrittenFilter E
+read_filter_view f = record { means = f.expr; text = string_bytes f.text }
+
 -- an override
 abbrev pub override_rule_view : {F S E T N P : Type 0} → CompiledOverride F S E T N P
     → Compiled E N (OverrideUse E)
@@ -40,7 +45,7 @@ override_rule_view r = record {
   writes = record {
     id = id_view r.id;
     settings = settings_view r.settings;
-    default_filter = r.default_filter;
+    default_filter = option_map read_filter_view r.default_filter;
   };
 }
 
@@ -61,7 +66,7 @@ script_rule_view r = record {
 abbrev pub layer_profile_view : {F S E T N P : Type 0} → CompiledProfile F S E T N P
     → LayerProfile E N
 layer_profile_view p = record {
-  default_filter = p.default_filter;
+  default_filter = option_map read_filter_view p.default_filter;
   overrides = map override_rule_view p.overrides.items;
   script_rules = map script_rule_view p.scripts.items;
 }

@@ -26,5 +26,5 @@ pub use known::KnownNames;
 pub use laws::{law_accepted_definitions, law_accepted_rules};
 pub use overrides::{
     CompiledOverride, CompiledProfile, CompiledProfileScripts, LayerRules, OverrideId,
-    PlatformSpecs, ScriptRuleId,
+    PlatformSpecs, ReadFilter, ScriptRuleId,
 };

@@ -68,19 +68,28 @@ pub struct PlatformSpecs<S: Specs> {
     pub target: Option<S::Spec>,
 }
 
+/// A default filter that the engine has read.
+#[derive(Drop)]
+pub struct ReadFilter<F: Filters> {
+    /// What the engine makes of its text.
+    pub expr: F::Expr,
+    /// Its text, as it is written.
+    pub text: String,
+}
+
 /// An override whose texts the engines have read.
 #[derive(Drop)]
 pub struct CompiledOverride<F: Filters, S: Specs> {
     pub(crate) id: OverrideId,
     pub(crate) platforms: PlatformSpecs<S>,
     pub(crate) filter: Option<F::Expr>,
-    pub(crate) default_filter: Option<F::Expr>,
+    pub(crate) default_filter: Option<ReadFilter<F>>,
     pub(crate) settings: OverrideSettings,
 }
 
 impl<F: Filters, S: Specs> CompiledOverride<F, S> {
     ghost use Rattle.std.specs.Prelude.{◌≡◌, option_map};
-    ghost use Rattle.nextest_rules.specs.View.{override_rule_view, id_view};
+    ghost use Rattle.nextest_rules.specs.View.{override_rule_view, id_view, read_filter_view};
     ghost use Rattle.nextest_tables.specs.View.{settings_view};
 
     /// Where the rule is.
@@ -98,8 +107,8 @@ impl<F: Filters, S: Specs> CompiledOverride<F, S> {
     }
 
     /// The default filter that the rule sets, where it sets one.
-    pub fn default_filter(&self) -> Option<&F::Expr>
-        ensures { option_map (λ expr. expr.now) result
+    pub fn default_filter(&self) -> Option<&ReadFilter<F>>
+        ensures { option_map (λ filter. read_filter_view filter.now) result
             ≡ (override_rule_view self.now).writes.default_filter }
     {
         self.default_filter.as_ref()
@@ -185,7 +194,7 @@ impl<F: Filters, S: Specs> CompiledProfileScripts<F, S> {
 #[derive(Drop)]
 pub struct CompiledProfile<F: Filters, S: Specs> {
     /// The default filter that it writes.
-    pub default_filter: Option<F::Expr>,
+    pub default_filter: Option<ReadFilter<F>>,
     /// Its overrides.
     pub overrides: Vec<CompiledOverride<F, S>>,
     /// Its script rules.

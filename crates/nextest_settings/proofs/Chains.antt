@@ -4,7 +4,6 @@ use Rattle.std.specs.List.{AllZip, cons_option, filter_map, flat_map}
 use Rattle.nextest_elements.specs.declared.run_mode.NextestRunMode.{NextestRunMode}
 use Rattle.nextest_elements.specs.declared.run_mode.NextestRunMode.TheVariants as modes
 use Rattle.nextest_engines.specs.Readings.{Readings}
-use Rattle.nextest_engines.specs.declared.queries.FiltersetKind.TheVariants.{DefaultFilter}
 use Rattle.nextest_load.specs.Agreement.{node_of_profile}
 use Rattle.nextest_load.specs.Config.{MergedProfile}
 use Rattle.nextest_load.specs.Loading.{source_layer}
@@ -13,7 +12,7 @@ use Rattle.nextest_load.proofs.Agreement.{zip_from}
 use Rattle.nextest_load.proofs.Keeping.{IfThere}
 use Rattle.nextest_load.proofs.ProfileNodes.{layer_node, profile_in_layer}
 use Rattle.nextest_load.proofs.RulesOfNode.{HasNoRules}
-use Rattle.nextest_rules.specs.Rules.{LayerProfile, Layer, filter_meaning, override_rules, script_rules, at_name}
+use Rattle.nextest_rules.specs.Rules.{LayerProfile, Layer, written_filter, override_rules, script_rules, at_name}
 use Rattle.nextest_sources.specs.InputFaults.{Each}
 use Rattle.nextest_sources.specs.Inputs.{SourceText}
 use Rattle.nextest_sources.specs.Sources.{Source}
@@ -21,7 +20,7 @@ use Rattle.nextest_tables.specs.Texts.{fields_in}
 use Rattle.nextest_tables.specs.Written.{Name, WrittenFields}
 use Rattle.nextest_tree.specs.Node.{Node, table, no_entries}
 use Rattle.nextest_tree.specs.Schema.{first}
-use Rattle.nextest_settings.specs.Chains.{FilterChoice, at_profile, in_layer, in_order, overrides_of, script_rules_of, fields_of, filter_of_profile, nearest_filter}
+use Rattle.nextest_settings.specs.Chains.{at_profile, chosen_at, in_layer, in_order, overrides_of, script_rules_of, fields_of, filter_of_profile, nearest_filter}
 use Rattle.nextest_settings.specs.Settings.{fallback_of}
 use Rattle.nextest_settings.specs.declared.setting.Setting.{Setting}
 use Rattle.nextest_settings.specs.declared.setting.Setting.TheVariants as at
@@ -68,9 +67,7 @@ module _ {M K : Type 0} where
   choice_same : (name : Name) (ls ms : List (Layer M K))
       → AllZip (λ l m. at_name name l.profiles ≡ at_name name m.profiles) ls ms
       → filter_of_profile ls name ≡ filter_of_profile ms name
-  choice_same name ls ms z =
-      let here : M → FilterChoice M = λ m. record { filter = m; profile = name; section = at_profile } in
-      ap (λ os. option_map here (first os)) (written_same name ls ms z)
+  choice_same name ls ms z = ap (λ os. option_map (chosen_at name at_profile) (first os)) (written_same name ls ms z)
 
   choices_same : (names : List Name) (ls ms : List (Layer M K)) → AllZip (SameAt names) ls ms
       → filter_map (filter_of_profile ls) names ≡ filter_map (filter_of_profile ms) names
@@ -111,7 +108,7 @@ module _ {M K P : Type 0} (engines : Readings M K P) where
   no_filter : (source : Source) (name : Name) (o : Option Node) → IfThere HasNoRules o
       → option_and_then (λ (p : LayerProfile M K). p.default_filter) (layer_node engines source name o) ≡ None
   no_filter source name None h = refl
-  no_filter source name (Some n) h = ap (filter_meaning engines DefaultFilter) h.default_filter
+  no_filter source name (Some n) h = ap (written_filter engines) h.default_filter
 
   -- so has a source whose tree over the defaults has no rule there
   pub source_has_nothing : (name : Name) (s : SourceText)
@@ -152,9 +149,8 @@ module _ {M K : Type 0} (name : Name) where
   pub nearest_behind : (names : List Name) (ls : List (Layer M K)) → Each (HasNothingOf name) ls
       → nearest_filter ls (name ∷ names) ≡ nearest_filter ls names
   nearest_behind names ls h =
-      let here : M → FilterChoice M = λ m. record { filter = m; profile = name; section = at_profile } in
-      ap (λ os. first (cons_option (option_map here (first os)) (filter_map (filter_of_profile ls) names)))
-      (none_filtered ls h)
+      ap (λ os. first (cons_option (option_map (chosen_at name at_profile) (first os))
+      (filter_map (filter_of_profile ls) names))) (none_filtered ls h)
 
 -- and a layer that has nothing of these profiles may go
 module _ {M K : Type 0} (high : List (Layer M K)) (l : Layer M K) (low : List (Layer M K)) where
@@ -179,8 +175,7 @@ module _ {M K : Type 0} (high : List (Layer M K)) (l : Layer M K) (low : List (L
       → filter_map (filter_of_profile (high ++ l ∷ low)) names ≡ filter_map (filter_of_profile (high ++ low)) names
   choices_without [] h = refl
   choices_without (name ∷ names) h =
-      let here : M → FilterChoice M = λ m. record { filter = m; profile = name; section = at_profile } in
-      λ i. cons_option (option_map here
+      λ i. cons_option (option_map (chosen_at name at_profile)
       (first (filtered_without (λ layer. option_and_then (λ p. p.default_filter)
       (at_name name layer.profiles)) high h.0.default_filter i))) (choices_without names h.1 i)
 

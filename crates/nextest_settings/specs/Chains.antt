@@ -2,7 +2,7 @@
 use Rattle.std.specs.Prelude.{ℕ, List, [], ◌++◌, Option, option_map, option_and_then, unwrap_or, filter_map, flat_map, codes}
 use Rattle.nextest_inheritance.specs.Names.{default_name}
 use Rattle.nextest_load.specs.Config.{MergedProfile}
-use Rattle.nextest_rules.specs.Rules.{Compiled, OverrideUse, ScriptRuleUse, LayerProfile, Layer, at_name}
+use Rattle.nextest_rules.specs.Rules.{Compiled, WrittenFilter, OverrideUse, ScriptRuleUse, LayerProfile, Layer, at_name}
 use Rattle.nextest_tables.specs.Written.{Name, WrittenFields}
 use Rattle.nextest_tree.specs.Schema.{first}
 
@@ -45,11 +45,21 @@ abbrev pub match_section : {X : Type 0} → FilterSection → X → X → X
 match_section at_profile at_profiles at_overrides = at_profiles
 match_section (at_override index) at_profiles at_overrides = at_overrides
 
--- a default filter: what it means, and where it stands
+-- a default filter: what it means, its text, and where it stands
 pub record FilterChoice (M : Type 0) : Type 0 where
   pub filter : M
+  pub text : List ℕ
   pub profile : Name
   pub section : FilterSection
+
+-- a default filter that is written in a section of a profile
+abbrev pub chosen_at : {M : Type 0} → Name → FilterSection → WrittenFilter M → FilterChoice M
+chosen_at profile section written = record {
+  filter = written.means;
+  text = written.text;
+  profile = profile;
+  section = section;
+}
 
 -- the place of a default filter, as it is shown
 abbrev pub display_of : {M : Type 0} → FilterChoice M → List ℕ
@@ -60,7 +70,7 @@ display_of choice = match_section choice.section
 -- the default filter of a profile: that of the highest source which writes one
 abbrev pub filter_of_profile : {M K : Type 0} → List (Layer M K) → Name → Option (FilterChoice M)
 filter_of_profile layers name =
-    option_map (λ m. record { filter = m; profile = name; section = at_profile })
+    option_map (chosen_at name at_profile)
     (first_of (λ layer. option_and_then (λ p. p.default_filter) (at_name name layer.profiles))
     layers)
 
@@ -68,7 +78,7 @@ filter_of_profile layers name =
 abbrev pub nearest_filter : {M K : Type 0} → List (Layer M K) → List Name → Option (FilterChoice M)
 nearest_filter layers names = first_of (filter_of_profile layers) names
 
--- the filter that matches everything, as the default filter of `default`
+-- the filter that matches everything, as the default filter `all()` of `default`
 abbrev pub match_all_filter : {M : Type 0} → M → FilterChoice M
 match_all_filter match_all =
-    record { filter = match_all; profile = default_name; section = at_profile }
+    chosen_at default_name at_profile (record { means = match_all; text = codes "all()" })

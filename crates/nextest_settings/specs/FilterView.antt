@@ -11,5 +11,9 @@ filter_section_view (Override index) = at_override index
 
 -- a default filter
 abbrev pub filter_view : {F E T : Type 0} → CompiledDefaultFilter F E T → FilterChoice E
-filter_view f =
-    record { filter = f.expr.now; profile = f.profile.now; section = filter_section_view f.section }
+filter_view f = record {
+  filter = f.expr.now;
+  text = f.text.now;
+  profile = f.profile.now;
+  section = filter_section_view f.section;
+}

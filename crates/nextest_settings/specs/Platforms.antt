@@ -5,7 +5,7 @@ use Rattle.nextest_engines.specs.declared.queries.BuildPlatform.{BuildPlatform}
 use Rattle.nextest_engines.specs.declared.queries.BuildPlatform.TheVariants.{Host, Target}
 use Rattle.nextest_engines.specs.declared.queries.BuildPlatforms.{BuildPlatforms}
 use Rattle.nextest_rules.specs.Rules.{Compiled, OverrideUse}
-use Rattle.nextest_settings.specs.Chains.{FilterChoice, at_override, first_of}
+use Rattle.nextest_settings.specs.Chains.{FilterChoice, at_override, chosen_at, first_of}
 
 -- a spec on a platform: none and an unknown answer count as met
 abbrev pub spec_holds : {K P : Type 0} → (K → P → Option Bool) → Option K → P → Bool
@@ -70,11 +70,8 @@ abbrev pub filter_of_override : {M : Type 0} → EvaluatedRule M (OverrideUse M)
     → Option (FilterChoice M)
 filter_of_override rule =
     if rule.for_target
-    then option_map (λ m. record {
-      filter = m;
-      profile = rule.writes.id.profile;
-      section = at_override rule.writes.id.index;
-    }) rule.writes.default_filter
+    then option_map (chosen_at rule.writes.id.profile (at_override rule.writes.id.index))
+    rule.writes.default_filter
     else None
 
 -- The default filter that counts: that of the first override which has one and whose platforms

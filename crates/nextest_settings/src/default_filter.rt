@@ -1,7 +1,7 @@
 //! The default filter of a profile: which tests run where no other filter is given.
 ghost use Rattle.std.specs.Prelude.{◌≡◌, map, option_map, option_and_then, IfOk, string_bytes};
 ghost use Rattle.nextest_rules.specs.Rules.{at_name};
-ghost use Rattle.nextest_rules.specs.View.{layer_view};
+ghost use Rattle.nextest_rules.specs.View.{layer_view, read_filter_view};
 ghost use Rattle.nextest_settings.specs.Chains.{first_of, filter_of_profile, nearest_filter, match_all_filter, display_of};
 ghost use Rattle.nextest_settings.specs.Platforms.{filter_of_override, default_filter_of};
 ghost use Rattle.nextest_settings.specs.View.{evaluated_override_view};
@@ -10,7 +10,7 @@ ghost use Rattle.nextest_settings.specs.FilterView.{filter_view};
 use crate::gather::profile_at;
 use crate::platforms::EvaluatedOverride;
 use nextest_engines::{Filters, Specs};
-use nextest_rules::LayerRules;
+use nextest_rules::{LayerRules, ReadFilter};
 use std::alloc::{AllocError, Global};
 
 /// Where a default filter is.
@@ -27,6 +27,8 @@ pub enum CompiledDefaultFilterSection {
 pub struct CompiledDefaultFilter<'cfg, F: Filters> {
     /// The filter.
     pub expr: &'cfg F::Expr,
+    /// Its text, as it is written, and `all()` where no source writes one.
+    pub text: &'cfg str,
     /// The profile under which it appears.
     pub profile: &'cfg str,
     /// Where it is in that profile.
@@ -55,8 +57,8 @@ impl<F: Filters> CompiledDefaultFilter<'_, F> {
 fn written_filter<'cfg, F: Filters, S: Specs>(
     layer: &'cfg LayerRules<F, S>,
     name: &str,
-) -> Option<&'cfg F::Expr>
-    ensures { option_map (λ expr. expr.now) result
+) -> Option<&'cfg ReadFilter<F>>
+    ensures { option_map (λ filter. read_filter_view filter.now) result
         ≡ option_and_then (λ p. p.default_filter) (at_name name.now
         (layer_view layer.now).profiles) }
 {
@@ -70,15 +72,15 @@ fn written_filter<'cfg, F: Filters, S: Specs>(
 fn highest_filter<'cfg, F: Filters, S: Specs>(
     layers: &'cfg [LayerRules<F, S>],
     name: &str,
-) -> Option<&'cfg F::Expr>
-    ensures { option_map (λ expr. expr.now) result
+) -> Option<&'cfg ReadFilter<F>>
+    ensures { option_map (λ filter. read_filter_view filter.now) result
         ≡ first_of (λ layer. option_and_then (λ p. p.default_filter)
         (at_name name.now layer.profiles))
         (map layer_view layers.now) }
 {
     for layer in layers {
-        if let Some(expr) = written_filter(layer, name) {
-            return Some(expr);
+        if let Some(filter) = written_filter(layer, name) {
+            return Some(filter);
         }
     }
     None
@@ -93,8 +95,9 @@ fn filter_of_profile<'cfg, F: Filters, S: Specs>(
         ≡ filter_of_profile (map layer_view layers.now) name.now }
 {
     match highest_filter(layers, name) {
-        Some(expr) => Some(CompiledDefaultFilter {
-            expr,
+        Some(filter) => Some(CompiledDefaultFilter {
+            expr: &filter.expr,
+            text: filter.text.as_str(),
             profile: name,
             section: CompiledDefaultFilterSection::Profile,
         }),
@@ -129,8 +132,9 @@ fn filter_of_override<'cfg, F: Filters, S: Specs>(
         return None;
     }
     match rule.rule.default_filter() {
-        Some(expr) => Some(CompiledDefaultFilter {
-            expr,
+        Some(filter) => Some(CompiledDefaultFilter {
+            expr: &filter.expr,
+            text: filter.text.as_str(),
             profile: rule.rule.id().profile_name.as_str(),
             section: CompiledDefaultFilterSection::Override(rule.rule.id().index),
         }),
@@ -170,6 +174,7 @@ pub fn default_filter_of<'cfg, F: Filters, S: Specs>(
         Some(filter) => filter,
         None => nearest.unwrap_or(CompiledDefaultFilter {
             expr: match_all,
+            text: "all()",
             profile: nextest_inheritance::DEFAULT_PROFILE,
             section: CompiledDefaultFilterSection::Profile,
         }),

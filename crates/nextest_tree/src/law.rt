@@ -7,7 +7,7 @@ use crate::element::Element;
 /// reader returns, is the least one and not merely the first of a list.
 ///
 /// The order is stated by itself in `specs/Place.antt`. It requires that the keys of each table
-/// ascend, which `Tree::from_toml` ensures of every tree that it makes.
+/// ascend, which `Tree::from_toml` and `Tree::from_value` ensure of every tree that they make.
 pub fn law_fault_order<T: Element>()
     ensures { HasOrderedFaults T.schema }
 {}

@@ -13,6 +13,7 @@ mod list;
 mod map;
 mod name;
 mod table;
+mod taken;
 mod text;
 mod tree;
 mod value;

@@ -109,7 +109,8 @@ named n run profiles h =
     exact_put (codes "run-extra-args") _ _ (texts n (map string_bytes run.run_extra_args.now))
     (exact_put (codes "profiles") _ _ (texts n profiles)
     (exact_put (codes "profile") _ _ (exact_text (n + 1) _)
-    (exact_put (codes "inherits") _ _ (optional (n + 1) string (exact_text (n + 1)) _) h)))
+    (exact_put (codes "inherits") _ _ (optional (n + 1) string (exact_text (n + 1)) _)
+    (exact_put (codes "default-filter") _ _ (exact_text (n + 1) _) h))))
 
 shown : (n : ℕ) {ms : Members} (run : RunSettings) → AreExact (n + 1) ms → AreExact (n + 1) (with_output run ms)
 shown n run h =

@@ -16,8 +16,8 @@ use Rattle.rinqebo_objects.specs.declared.run.RunSettings.{RunSettings}
 use Rattle.rinqebo_report.specs.Documents.{list_data}
 use Rattle.serde_json.specs.Data.{Data, string, object, Members, no_members, member, put}
 
--- Values are those that a profile has for a whole run.
-pub record IsRunOf (facts : ProfileFacts) (run : RunSettings) : Type 0 where
+-- Values are those that a profile has for a whole run, with a default filter of this text.
+pub record IsRunOf (facts : ProfileFacts) (filter : List ℕ) (run : RunSettings) : Type 0 where
   pub profile : run.profile.now ≡ facts.name
   pub inherits : option_map (λ parent. parent.now) run.inherits ≡ facts.parent
   pub test_threads : nearest (λ f. f.test_threads) facts.fields ≡ Some run.test_threads
@@ -27,6 +27,7 @@ pub record IsRunOf (facts : ProfileFacts) (run : RunSettings) : Type 0 where
   pub status_level : nearest (λ f. f.status_level) facts.fields ≡ Some run.status_level
   pub final_status_level :
       nearest (λ f. f.final_status_level) facts.fields ≡ Some run.final_status_level
+  pub default_filter : run.default_filter.now ≡ filter
   pub junit : IsReportWhereSet facts run.junit
   pub store_dir : Some run.store_dir.now ≡ facts.store_dir
   pub run_extra_args :
@@ -49,14 +50,15 @@ with_output run members =
     (put (codes "final-status-level") (string (final_status_level_text run.final_status_level))
     members)))
 
--- members, with the names of profiles, and the arguments of tests where no rule says so
+-- members, with the names of profiles, the default filter, and the arguments of tests where no rule
+-- says so
 abbrev pub with_names : RunSettings → List Name → Members → Members
 with_names run profiles members =
     put (codes "run-extra-args") (list_data string (map string_bytes run.run_extra_args.now))
     (put (codes "profiles") (list_data string profiles)
     (put (codes "profile") (string run.profile.now)
     (put (codes "inherits") (optional_data string (option_map (λ parent. parent.now) run.inherits))
-    members)))
+    (put (codes "default-filter") (string run.default_filter.now) members))))
 
 -- what a profile says for a whole run, among profiles of these names
 abbrev pub run_data : RunSettings → List Name → Data
@@ -75,10 +77,11 @@ objects_data facts run profiles warnings directories enabling =
     (member (codes "wrappers") (list_data (wrapper_script_data directories) facts.scripts.wrapper)
     no_members)))))
 
--- A value is the objects of a profile, among profiles of these names, with the warnings of the load
--- and with the tests of a list that enable each setup script.
-pub record AreObjectsOf (facts : ProfileFacts) (profiles : List Name) (warnings : List Warning)
-    (directories : Option Directories) (enabling : Option Enabling) (value : Data) : Type 0 where
+-- A value is the objects of a profile with a default filter of this text, among profiles of these
+-- names, with the warnings of the load and with the tests of a list that enable each setup script.
+pub record AreObjectsOf (facts : ProfileFacts) (filter : List ℕ) (profiles : List Name)
+    (warnings : List Warning) (directories : Option Directories) (enabling : Option Enabling)
+    (value : Data) : Type 0 where
   pub run : RunSettings
-  pub is_run : IsRunOf facts run
+  pub is_run : IsRunOf facts filter run
   pub same : value ≡ objects_data facts run profiles warnings directories enabling

@@ -86,8 +86,8 @@ pub fn objects_json<F: Filters, S: Specs>(
         let directories = directories_view around.entry.directories in
         let listed = option_map (λ tests. map test_view tests.now) tests.entry in
         let enabling = enabling_in F.holds (profile_meaning F.meaning profile.now) listed in
-        IfOk result (λ objects. AreObjectsOf profile.now.facts profiles warnings directories
-        enabling (view objects.value)) }
+        IfOk result (λ objects. AreObjectsOf profile.now.facts profile.now.default_filter.text
+        profiles warnings directories enabling (view objects.value)) }
 {
     let run = RunSettings::of(alloc, profile)?;
     let value = objects_with(alloc, profile, &run, around, tests, tally)?;
@@ -105,7 +105,8 @@ pub fn objects_text<F: Filters, S: Specs>(
         let warnings = warnings_view around.entry.warnings.now in
         let directories = directories_view around.entry.directories in
         IfOk result (λ text. (value : Data)
-        × AreObjectsOf profile.now.facts profiles warnings directories None value
+        × AreObjectsOf profile.now.facts profile.now.default_filter.text profiles warnings
+        directories None value
         × (string_bytes text ≡ compact_text value)) }
 {
     let objects = objects_json(alloc, profile, around, None, tally)?;

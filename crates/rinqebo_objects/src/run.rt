@@ -33,6 +33,8 @@ pub struct RunSettings<'p> {
     pub status_level: StatusLevel,
     /// Which tests are shown at the end of the run.
     pub final_status_level: FinalStatusLevel,
+    /// The text of the default filter, which selects the tests that run.
+    pub default_filter: &'p str,
     /// The report of the run, if one is written.
     pub junit: Option<JunitConfig>,
     /// The directory in which the profile stores what it writes.
@@ -41,13 +43,20 @@ pub struct RunSettings<'p> {
     pub run_extra_args: &'p [String],
 }
 
+/// The text of the default filter of a profile.
+fn filter_text<'p, F: Filters, S: Specs>(profile: &'p EvaluatableProfile<'p, F, S>) -> &'p str
+    ensures { result.now ≡ profile.now.default_filter.text }
+{
+    profile.default_filter().text
+}
+
 impl<'p> RunSettings<'p> {
     /// The values of a profile.
     pub fn of<F: Filters, S: Specs>(
         alloc: Global,
         profile: &'p EvaluatableProfile<'p, F, S>,
     ) -> Result<RunSettings<'p>, AllocError>
-        ensures { IfOk result (IsRunOf profile.now.facts) }
+        ensures { IfOk result (IsRunOf profile.now.facts profile.now.default_filter.text) }
     {
         let junit = profile.junit(alloc)?;
         Ok(RunSettings {
@@ -59,6 +68,7 @@ impl<'p> RunSettings<'p> {
             benchmark_timeout: profile.global_timeout(NextestRunMode::Benchmark),
             status_level: profile.status_level(),
             final_status_level: profile.final_status_level(),
+            default_filter: filter_text(profile),
             junit,
             store_dir: profile.store_dir(),
             run_extra_args: profile.run_extra_args(),
@@ -113,7 +123,8 @@ fn put_output(
     put(members, alloc, "store-dir", store_dir)
 }
 
-/// Puts the names of profiles among members, and the arguments of tests where no rule says so.
+/// Puts the names of profiles among members, the default filter, and the arguments of tests where no
+/// rule says so.
 fn put_names(
     members: &mut Map<String, Value>,
     alloc: Global,
@@ -123,6 +134,8 @@ fn put_names(
     ensures { OnOk result (members_view members.new.entries
         ≡ with_names run.now (map string_bytes profiles.now) (members_view members.old.entries)) }
 {
+    let filter = Value::try_from_str(alloc, run.default_filter)?;
+    put(members, alloc, "default-filter", filter)?;
     let inherits = optional_text_json(alloc, run.inherits)?;
     put(members, alloc, "inherits", inherits)?;
     let profile = Value::try_from_str(alloc, run.profile)?;

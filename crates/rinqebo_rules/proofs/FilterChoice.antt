@@ -3,7 +3,7 @@ use Rattle.std.proofs.Common.{◌≡◌, ◌∙◌, ◌&&◌, ◌||◌, ℕ, zer
 use Rattle.std.specs.List.{cons_option, filter_map}
 use Rattle.nextest_engines.specs.declared.queries.BuildPlatform.TheVariants.{Target}
 use Rattle.nextest_engines.specs.declared.queries.BuildPlatforms.{BuildPlatforms}
-use Rattle.nextest_rules.specs.Rules.{Compiled, OverrideUse, RuleId}
+use Rattle.nextest_rules.specs.Rules.{Compiled, WrittenFilter, OverrideUse, RuleId}
 use Rattle.nextest_settings.specs.Chains.{FilterChoice, first_of}
 use Rattle.nextest_settings.specs.Platforms.{platforms_hold, rule_on}
 use Rattle.nextest_tree.specs.Schema.{first}
@@ -38,7 +38,7 @@ found_place rules = option_map (λ rule. rule.place) (find (λ rule. decides_by 
 
 module _ {M K P : Type 0} (meets : K → P → Option Bool) (platforms : BuildPlatforms P) where
   -- an override that is kept if it has a default filter
-  found_behind : (default : Option M) (rule : Compiled M K (OverrideUse M))
+  found_behind : (default : Option (WrittenFilter M)) (rule : Compiled M K (OverrideUse M))
       (rules : List (Compiled M K (OverrideUse M)))
       → found_place (map (filter_rule_on meets platforms) (cond (is_some default) (rule ∷ rules) rules))
       ≡ cond (is_some default && platforms_hold meets platforms Target rule) (Some (id_place rule.writes.id))
@@ -49,7 +49,7 @@ module _ {M K P : Type 0} (meets : K → P → Option Bool) (platforms : BuildPl
       (platforms_hold meets platforms Target rule) refl
 
   -- the id of an override, if its default filter would count
-  id_behind : (holds : Bool) (default : Option M) (id : RuleId) (choice : M → FilterChoice M)
+  id_behind : (holds : Bool) (default : Option (WrittenFilter M)) (id : RuleId) (choice : WrittenFilter M → FilterChoice M)
       → option_map (λ choice. id) (cond holds (option_map choice default) None)
       ≡ cond (is_some default && holds) (Some id) None
   id_behind true None id choice = refl

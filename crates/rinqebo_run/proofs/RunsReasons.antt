@@ -16,7 +16,7 @@ use Rattle.nextest_load.specs.Meaning.{config_meaning}
 use Rattle.nextest_profiles.proofs.MeaningOfTexts.{overrides_meaning, profile_means}
 use Rattle.nextest_profiles.specs.Profiles.{IsChainAndDefault}
 use Rattle.nextest_profiles.specs.Meaning.{with_config, configured_meaning}
-use Rattle.nextest_rules.specs.Meaning.{override_meaning}
+use Rattle.nextest_rules.specs.Meaning.{written_meaning, override_meaning}
 use Rattle.nextest_rules.specs.Rules.{Compiled, OverrideUse}
 use Rattle.nextest_settings.specs.Chains.{FilterChoice}
 use Rattle.nextest_settings.specs.Platforms.{runs_on}
@@ -150,7 +150,7 @@ module _ {E N M K P : Type 0} (f : E → M) (g : N → K) (meets : K → P → O
       kept_alike (filter_rule_on (read_meets f g meets platforms) platforms) (filter_rule_on meets platforms)
       (has_default r) (has_default (override_meaning f g r)) r (override_meaning f g r)
       (filter has_default rs) (filter has_default (map (override_meaning f g) rs))
-      (some_meant f r.writes.default_filter) (one_meant r) (filters_meant rs)
+      (some_meant (written_meaning f) r.writes.default_filter) (one_meant r) (filters_meant rs)
 
   module _ (layers : List FileLayer) (matches : M → Test → M → Bool) (test : FoundTest)
       (c : Configured E N) (name : Name) (rules : List Rule) where

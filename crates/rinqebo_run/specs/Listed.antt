@@ -82,8 +82,8 @@ pub record AreObjectsListed {M : Type 0} (matches : M → Test → M → Bool)
     (profile : EvaluatableModel M) (root : List ℕ) (list : TestList) (profiles : List Name)
     (value : Data) : Type 0 where
   pub warnings : List Warning
-  pub are : AreObjectsOf profile.facts profiles warnings (directories_for root list)
-      (enabling_in matches profile (Some (all_tests list))) value
+  pub are : AreObjectsOf profile.facts profile.default_filter.text profiles warnings
+      (directories_for root list) (enabling_in matches profile (Some (all_tests list))) value
 
 -- A report lists tests as the profile of a name gives them settings on the platforms of a build,
 -- with the origins of these in the layers of the files and in the chain of the profile, the rules

@@ -23,7 +23,7 @@ fn add_overrides<'c>(
             filters.push(filter)?;
         }
         if let Some(filter) = rule.default_filter() {
-            filters.push(filter)?;
+            filters.push(&filter.expr)?;
         }
     }
     Ok(())
@@ -48,7 +48,7 @@ fn add_profile<'c>(
     filters: &mut Vec<&'c Filter>,
 ) -> Result<(), AllocError> {
     if let Some(filter) = &profile.default_filter {
-        filters.push(filter)?;
+        filters.push(&filter.expr)?;
     }
     add_overrides(&profile.overrides, filters)?;
     add_script_rules(&profile.scripts, filters)

@@ -326,8 +326,8 @@ pub const DOCUMENT_SCHEMA: &str = r##"{
       "description": "What a profile says for a whole run.",
       "type": "object",
       "required": [
-        "final-status-level", "global-timeout", "inherits", "junit", "max-fail", "profile",
-        "profiles", "run-extra-args", "status-level", "store-dir", "test-threads"
+        "default-filter", "final-status-level", "global-timeout", "inherits", "junit", "max-fail",
+        "profile", "profiles", "run-extra-args", "status-level", "store-dir", "test-threads"
       ],
       "properties": {
         "profile": { "type": "string" },
@@ -357,6 +357,7 @@ pub const DOCUMENT_SCHEMA: &str = r##"{
           "additionalProperties": false
         },
         "store-dir": { "type": "string" },
+        "default-filter": { "type": "string" },
         "run-extra-args": { "$ref": "#/$defs/texts" }
       },
       "additionalProperties": false

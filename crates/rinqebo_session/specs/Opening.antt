@@ -46,11 +46,12 @@ directories_in loaded = option_map (λ target. record {
   target = string_bytes target;
 }) loaded.target_directory
 
--- A text is that of the objects of a profile, among the profiles of its configuration. There is no
--- list of tests.
-pub record IsObjectsText (loaded : Loaded) (facts : ProfileFacts) (text : List ℕ) : Type 0 where
+-- A text is that of the objects of a profile with this default filter, among the profiles of its
+-- configuration. There is no list of tests.
+pub record IsObjectsText (loaded : Loaded) (facts : ProfileFacts) (filter text : List ℕ)
+    : Type 0 where
   pub value : Data
-  pub are : AreObjectsOf facts (names_in loaded.config.config.profiles)
+  pub are : AreObjectsOf facts filter (names_in loaded.config.config.profiles)
       (warnings_view loaded.warnings) (directories_in loaded) None value
   pub written : text ≡ compact_text value
 
@@ -69,7 +70,8 @@ pub record IsOpened (loaded : Loaded) (name : Name) (opened : Opened) : Type 0 w
       ≡ names_in opened.profile.facts.scripts.wrapper
   pub for_host : AreNeeds opened.profile Host opened.for_host
   pub for_target : AreNeeds opened.profile Target opened.for_target
-  pub objects : IsObjectsText loaded opened.profile.facts (string_bytes opened.objects)
+  pub objects : IsObjectsText loaded opened.profile.facts opened.profile.default_filter.text
+      (string_bytes opened.objects)
 
 -- why a configuration has no profile of a name: it is none of its profiles; want of memory aside
 abbrev pub IsNotOpened : Loaded → Name → OpenFailure → Type 0

@@ -121,7 +121,8 @@ fn objects_of(
     profile: &EvaluatableProfile<'_, NextestFilters, TargetSpecs>,
 ) -> Result<String, AllocError>
     ensures { IfOk result (λ text.
-        IsObjectsText loaded.now profile.now.facts (string_bytes text)) }
+        IsObjectsText loaded.now profile.now.facts profile.now.default_filter.text
+        (string_bytes text)) }
 {
     let profiles = loaded.config.profile_names(alloc)?;
     let around = Surroundings {

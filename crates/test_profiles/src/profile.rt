@@ -55,7 +55,7 @@ fn ids_of<V>(alloc: Global, scripts: &IndexMap<ScriptId, V>) -> Result<Vec<&str>
     Ok(ids)
 }
 
-/// Adds where a profile stores, its report, and where its default filter stands.
+/// Adds where a profile stores, its report, and where its default filter stands, with its text.
 fn add_places(run: &Run<'_>, lines: &mut Lines<'_>, profile: &Profile<'_>) {
     lines.add("store-dir", &profile.store_dir());
     let made = once_more!(lines, Junit, Err(AllocError), profile.junit(run.alloc));
@@ -72,6 +72,7 @@ fn add_places(run: &Run<'_>, lines: &mut Lines<'_>, profile: &Profile<'_>) {
     if let Some(place) = lines.made(made) {
         lines.add("default-filter", &place);
     }
+    lines.add("default-filter-text", &filter.text);
 }
 
 /// Adds what a profile tells a run.

@@ -1,7 +1,7 @@
 //! Laws of whole configurations, for all engines: what a user relies on without reading a rule.
 ghost use Rattle.nextest_engines.specs.Readings.{Readings};
 ghost use Rattle.nextest_settings.specs.Profile.{EvaluatableModel};
-ghost use Rattle.nextest_config.specs.Laws.{Isolation, FileApart, Aliasing, TakingOut, LastRule, GroupsAreKnown, ChainsRepeatNoName, ScriptsAreEnabledInOrder, GroupsAreOfSettings};
+ghost use Rattle.nextest_config.specs.Laws.{Isolation, FileApart, Aliasing, DefaultFiltersAreRead, TakingOut, LastRule, GroupsAreKnown, ChainsRepeatNoName, ScriptsAreEnabledInOrder, GroupsAreOfSettings};
 
 use nextest_engines::{Filters, Specs};
 
@@ -20,6 +20,13 @@ pub fn law_file_apart<F: Filters, S: Specs>()
 /// A profile that only inherits gives what its parent gives.
 pub fn law_alias<F: Filters, S: Specs>()
     ensures { (engines : Readings F.Meaning S.SpecMeaning S.Platform) → Aliasing engines }
+{}
+
+/// The text of the default filter of a profile reads to what that filter means, or the filter is
+/// `all()`, which matches everything.
+pub fn law_default_filter_text<F: Filters, S: Specs>()
+    ensures { (engines : Readings F.Meaning S.SpecMeaning S.Platform)
+        → DefaultFiltersAreRead engines }
 {}
 
 /// An override that does not hold for a test may go, but for the one whose default filter is

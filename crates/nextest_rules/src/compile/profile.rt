@@ -1,45 +1,45 @@
 //! The rules of a profile, in the order of the file.
 ghost use Rattle.std.specs.Prelude.{◌≡◌, ◌++◌, map, IfOk, OnOk, option_map, string_bytes};
 ghost use Rattle.nextest_engines.specs.Readings.{readings_view};
-ghost use Rattle.nextest_engines.specs.declared.queries.FiltersetKind.TheVariants.{DefaultFilter};
 ghost use Rattle.nextest_sources.specs.Causes.{in_default_filter};
 ghost use Rattle.nextest_sources.specs.Errors.{compile_error_view};
 ghost use Rattle.nextest_sources.specs.Sources.{source_view};
 ghost use Rattle.nextest_tables.specs.View.{override_view, profile_view, script_rule_table_view};
 ghost use Rattle.nextest_rules.specs.CompileFaults.{default_filter_cause, fault_in, override_faults, script_rule_faults, profile_faults};
-ghost use Rattle.nextest_rules.specs.Meaning.{override_meaning, layer_profile_meaning, script_rule_meaning};
-ghost use Rattle.nextest_rules.specs.Rules.{filter_meaning, layer_profile, override_rules, script_rules};
+ghost use Rattle.nextest_rules.specs.Meaning.{written_meaning, override_meaning, layer_profile_meaning, script_rule_meaning};
+ghost use Rattle.nextest_rules.specs.Rules.{written_filter, layer_profile, override_rules, script_rules};
 ghost use Rattle.nextest_rules.specs.View as view;
-ghost use Rattle.nextest_rules.specs.View.{layer_profile_view, override_rule_view};
+ghost use Rattle.nextest_rules.specs.View.{layer_profile_view, override_rule_view, read_filter_view};
 
 use crate::compile::rules::{
     add_error, compile_override, compile_script_rule, override_id, script_rule_id,
 };
-use crate::compile::texts::{Refusals, read_filter};
-use crate::overrides::{CompiledOverride, CompiledProfile, CompiledProfileScripts};
+use crate::compile::texts::{Refusals, read_filter, with_text};
+use crate::overrides::{CompiledOverride, CompiledProfile, CompiledProfileScripts, ReadFilter};
 use nextest_engines::{Filters, FiltersetKind, ParseContext, Specs};
 use nextest_sources::{ConfigCompileError, ConfigCompileSection, ConfigSource};
 use nextest_tables::{OverrideTable, ProfileTable, ScriptRuleTable};
 use std::alloc::{AllocError, Global};
 
-/// What the engine makes of the default filter of a profile. Why it refuses it is added.
+/// The default filter of a profile, as the engine reads it. Why it is refused is added.
 fn compile_default_filter<F: Filters, S: Specs>(
     alloc: Global,
     pcx: &ParseContext<'_, F, S>,
     profile: &str,
-    text: &Option<String>,
+    text: Option<String>,
     errors: &mut Vec<ConfigCompileError>,
-) -> Result<Option<F::Expr>, AllocError>
-    ensures meaning { let engines = readings_view F.Filters S.Specs pcx.now in
-        IfOk result (λ expr. option_map F.meaning expr
-        ≡ filter_meaning engines DefaultFilter (option_map string_bytes text.now)) }
+) -> Result<Option<ReadFilter<F>>, AllocError>
+    ensures filter { let engines = readings_view F.Filters S.Specs pcx.now in
+        IfOk result (λ filter.
+        option_map (written_meaning F.meaning) (option_map read_filter_view filter)
+        ≡ written_filter engines (option_map string_bytes text)) }
     ensures errors { let engines = readings_view F.Filters S.Specs pcx.now in
         OnOk result (map compile_error_view errors.new.items
         ≡ map compile_error_view errors.old.items ++ fault_in profile.now in_default_filter
-        (default_filter_cause engines (option_map string_bytes text.now))) }
+        (default_filter_cause engines (option_map string_bytes text))) }
 {
     let kind = FiltersetKind::DefaultFilter;
-    let (filter, refusal) = read_filter(alloc, pcx.filters, kind, text)?;
+    let (expr, refusal) = read_filter(alloc, pcx.filters, kind, &text)?;
     let refusals = Refusals {
         host: None,
         target: None,
@@ -49,7 +49,7 @@ fn compile_default_filter<F: Filters, S: Specs>(
     let error = refusals.into_error();
     let section = ConfigCompileSection::DefaultFilter;
     add_error(alloc, errors, profile, section, error)?;
-    Ok(filter)
+    Ok(with_text(expr, text))
 }
 
 /// The rules of the overrides of a profile. Everything that is wrong with them is added, in order.
@@ -138,7 +138,7 @@ pub(crate) fn compile_profile<F: Filters, S: Specs>(
         scripts,
         ..
     } = table;
-    let default_filter = compile_default_filter(alloc, pcx, name, &text, errors)?;
+    let default_filter = compile_default_filter(alloc, pcx, name, text, errors)?;
     let overrides = compile_overrides(alloc, pcx, source, name, overrides, errors)?;
     let scripts = compile_script_rules(alloc, pcx, source, name, scripts, errors)?;
     Ok(CompiledProfile {

@@ -13,7 +13,7 @@ ghost use Rattle.nextest_rules.specs.Rules.{filter_meaning, spec_meaning, overri
 ghost use Rattle.nextest_rules.specs.View as view;
 ghost use Rattle.nextest_rules.specs.View.{id_view, override_rule_view, script_rule_id_view};
 
-use crate::compile::texts::{Refusals, read_filter, read_platforms};
+use crate::compile::texts::{Refusals, read_filter, read_platforms, with_text};
 use crate::overrides::{
     CompiledOverride, CompiledProfileScripts, OverrideId, PlatformSpecs, ScriptRuleId,
 };
@@ -133,12 +133,16 @@ pub(crate) fn compile_override<F: Filters, S: Specs>(
         refusals,
     } = read;
     let error = override_error(&table, refusals);
-    let OverrideTable { settings, .. } = table;
+    let OverrideTable {
+        settings,
+        default_filter: text,
+        ..
+    } = table;
     let rule = CompiledOverride {
         id,
         platforms,
         filter,
-        default_filter,
+        default_filter: with_text(default_filter, text),
         settings,
     };
     Ok((rule, error))

@@ -4,9 +4,10 @@ ghost use Rattle.nextest_engines.specs.Engines.{refusal_message};
 ghost use Rattle.nextest_sources.specs.Errors.{compile_cause_view};
 ghost use Rattle.nextest_rules.specs.CompileFaults.{refusal_cause, refusal_of};
 ghost use Rattle.nextest_rules.specs.Refusals.{refusals_view};
-ghost use Rattle.nextest_rules.specs.Rules.{meaning_of};
+ghost use Rattle.nextest_rules.specs.Rules.{meaning_of, with_text};
+ghost use Rattle.nextest_rules.specs.View.{read_filter_view};
 
-use crate::overrides::PlatformSpecs;
+use crate::overrides::{PlatformSpecs, ReadFilter};
 use nextest_engines::{FilterFault, Filters, FiltersetKind, Refusal, SpecFault, Specs};
 use nextest_sources::ConfigCompileErrorKind;
 use nextest_tables::PlatformStrings;
@@ -114,4 +115,17 @@ pub(crate) fn read_filter<F: Filters>(
         Err(FilterFault::Refused(refusal)) => Ok((None, Some(refusal))),
         Err(FilterFault::Memory) => Err(AllocError),
     }
+}
+
+/// A default filter, beside its text.
+pub(crate) fn with_text<F: Filters>(
+    expr: Option<F::Expr>,
+    text: Option<String>,
+) -> Option<ReadFilter<F>>
+    ensures { option_map read_filter_view result
+        ≡ with_text expr (option_map string_bytes text) }
+{
+    let text = text?;
+    let expr = expr?;
+    Some(ReadFilter { expr, text })
 }

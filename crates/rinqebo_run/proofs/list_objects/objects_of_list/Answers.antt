@@ -19,6 +19,7 @@ use Rattle.rinqebo_run.proofs.list_objects.objects_of_list.Goals as goal
 pub returns-clause-objects : goal.returns-clause-objects
 returns-clause-objects c =
     let facts = c.args.profile.now.facts in
+    let filter = c.args.profile.now.default_filter.text in
     let profile = profile_meaning (marks_view names_of) c.args.profile.now in
     let session = c.args.session.now in
     let known = names_in c.args.config.now.config.profiles in
@@ -29,11 +30,11 @@ returns-clause-objects c =
     let joined = directories_for (string_bytes session.gathered.now.paths.workspace_root) (list_view session.tests) in
     record {
       warnings = warnings;
-      are = subst (λ tests. AreObjectsOf facts known warnings joined (enabling_in filter_holds profile (Some tests)) value)
+      are = subst (λ tests. AreObjectsOf facts filter known warnings joined (enabling_in filter_holds profile (Some tests)) value)
           (ap (map test_view) c.deref-2.ensures.value ∙ c.in_ok-tests.ensures)
-          (subst (λ names. AreObjectsOf facts names warnings joined (enabling_in filter_holds profile (Some listed)) value)
+          (subst (λ names. AreObjectsOf facts filter names warnings joined (enabling_in filter_holds profile (Some listed)) value)
           (ap (map string_bytes) (c.surroundings-around.ensures.profiles ∙ c.deref.ensures.value) ∙ c.in_ok-names.ensures)
-          (subst (λ ds. AreObjectsOf facts (map string_bytes around.profiles.now) warnings ds
+          (subst (λ ds. AreObjectsOf facts filter (map string_bytes around.profiles.now) warnings ds
           (enabling_in filter_holds profile (Some listed)) value)
           (ap directories_view c.surroundings-around.ensures.directories ∙ c.directories_of.ensures)
           c.in_ok-objects.ensures));

@@ -7,14 +7,15 @@ use Rattle.rinqebo_session.proofs.profile.objects_of.Goals as goal
 pub returns : goal.returns
 returns c =
     let facts = c.args.profile.now.facts in
+    let filter = c.args.profile.now.default_filter.text in
     let loaded = c.args.loaded.now in
     let warnings = warnings_view loaded.warnings in
     let text = c.in_ok-text.ensures in
     record {
       value = text.0;
-      are = subst (λ profiles. AreObjectsOf facts profiles warnings (directories_in loaded) None text.0)
+      are = subst (λ profiles. AreObjectsOf facts filter profiles warnings (directories_in loaded) None text.0)
           (ap (map string_bytes) c.deref.ensures.value ∙ c.in_ok-profiles.ensures)
-          (subst (λ directories. AreObjectsOf facts (map string_bytes c.deref.result.now) warnings directories None text.0)
+          (subst (λ directories. AreObjectsOf facts filter (map string_bytes c.deref.result.now) warnings directories None text.0)
           c.directories_of.ensures text.1);
       written = text.2;
     }
