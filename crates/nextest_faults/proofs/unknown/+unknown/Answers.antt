@@ -1,4 +1,4 @@
-use Rattle.std.proofs.Common.{◌≡◌, ◌+◌, [], ◌++◌, drop, string_bytes, Some, refl, sym, ap, ◌∙◌, subst, OnOk}
+use Rattle.std.proofs.Common.{◌≡◌, ◌+◌, [], drop, string_bytes, sym, ap, ◌∙◌, subst, OnOk}
 use Rattle.std.proofs.lemmas.List.{drop_all}
 use Rattle.std.specs.Fmt.{decimal}
 use Rattle.nextest_places.specs.declared.step.Step.TheVariants as steps
