@@ -1,2 +1,4 @@
+pub mod Entries
 pub mod FirstFaults
 pub mod ReadSuites
+pub mod Tokens
