@@ -60,6 +60,10 @@ entry_suites (member k d ms) (e ∷ es) are =
       fault_behind (suite_demands (k, d)) (flat_map suite_demands (listed ms)) None are.0.1.1 rest.1,
     )
 
+-- names with other bytes differ
+pub differ_by : (as bs : List ℕ) → bytes_eq as bs ≡ false → as ≡ bs → ⊥
+differ_by as bs is same = true≢false (sym ((bytes_eq-Decides as bs).1 same) ∙ is)
+
 same_after_put_by : (b : Bool) (other k : List ℕ) (d : Data) (as bs : Members) → bytes_eq other k ≡ b
     → get_member other as ≡ get_member other bs → get_member other (put k d as) ≡ get_member other (put k d bs)
 same_after_put_by true other k d as bs is same =
@@ -67,7 +71,7 @@ same_after_put_by true other k d as bs is same =
     ap (λ name. get_member name (put k d as)) at ∙ get_member-put k d as
     ∙ sym (ap (λ name. get_member name (put k d bs)) at ∙ get_member-put k d bs)
 same_after_put_by false other k d as bs is same =
-    let apart = λ (at : other ≡ k). absurd {X = ⊥} (true≢false (sym ((bytes_eq-Decides other k).1 at) ∙ is)) in
+    let apart = differ_by other k is in
     get_member-put_other other k d as apart ∙ same ∙ sym (get_member-put_other other k d bs apart)
 
 -- objects with the same value at a key have it after the same change

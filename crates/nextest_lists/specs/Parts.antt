@@ -51,8 +51,8 @@ AreSuiteParts suite es tests = AreOthers (codes "testcases") suite es
 -- What was read of a list: its members but its suites, and the binaries of these.
 abbrev pub AreListParts : Members → List (String Global × Value) → Option (Vec ListedBinary Global)
     → Type 0
-AreListParts document es binaries = AreOthers (codes "rust-suites") document es
+AreListParts list es binaries = AreOthers (codes "rust-suites") list es
     × IfSome binaries (λ binaries. (suites : Members)
-    × (get_member (codes "rust-suites") document ≡ Some (object suites))
+    × (get_member (codes "rust-suites") list ≡ Some (object suites))
     × AllZip IsSuiteOf (values suites) (map listed_view binaries.items)
     × (first_fault (flat_map suite_demands (listed suites)) ≡ None))

@@ -1,18 +1,18 @@
 //! Reading a list of tests from the tokens of a text, with no value of the whole text.
 ghost use Rattle.std.specs.Prelude.{◌≡◌, ◌<◌, length, IfOk, OnOk};
-ghost use Rattle.serde_json.specs.Data.{object, Members};
+ghost use Rattle.serde_json.specs.Data.{Data, object, put, Members};
 ghost use Rattle.nextest_lists.specs.Demands.{demands, first_fault};
 ghost use Rattle.nextest_lists.specs.Lists.{IsListOf};
 ghost use Rattle.nextest_lists.specs.ListView.{list_view};
 ghost use Rattle.nextest_lists.specs.Parts.{AreListParts};
 ghost use Rattle.nextest_lists.specs.Reading.{IsListIn};
-ghost use Rattle.nextest_lists.specs.Tokens.{AreMembersIn};
+ghost use Rattle.nextest_lists.specs.Tokens.{AreMembersIn, IsValueIn};
 
 use crate::list::{ListedBinary, ListedTests};
 use crate::platforms::triples_of;
 use crate::suite_reader::binaries_in;
 use crate::text::{copied, target_directory_in};
-use crate::tokens::{Stop, open_object, value_in};
+use crate::tokens::{Stop, open_object, with_member};
 use json::{Reader, Scratch};
 use serde_json::{Map, Value};
 use std::alloc::Global;
@@ -29,25 +29,49 @@ struct ListParts {
     binaries: Option<Vec<ListedBinary>>,
 }
 
+impl ListParts {
+    /// Reads the value at a key of the list, and adds it.
+    fn read(
+        self,
+        alloc: Global,
+        key: &str,
+        reader: &mut Reader<'_>,
+        depth: usize,
+    ) -> Result<ListParts, Stop>
+        ensures ok { IfOk result (λ more. (value : Data)
+            × IsValueIn depth reader.old reader.new value
+            × ((list : Members) → AreListParts list self.members.entries self.binaries
+            → AreListParts (put key.now value list) more.members.entries more.binaries)) }
+        ensures shorter { OnOk result (length reader.new < length reader.old) }
+    {
+        let ListParts { members, binaries } = self;
+        if key == "rust-suites" {
+            let binaries = binaries_in(alloc, reader, depth)?;
+            return Ok(ListParts {
+                members,
+                binaries: Some(binaries),
+            });
+        }
+        let members = with_member(alloc, members, key, reader, depth)?;
+        Ok(ListParts { members, binaries })
+    }
+}
+
 /// Reads what a list has, up to its end.
 fn list_parts(alloc: Global, reader: &mut Reader<'_>, depth: usize) -> Result<ListParts, Stop>
-    ensures ok { IfOk result (λ parts. (document : Members)
-        × AreMembersIn depth reader.old reader.new document
-        × AreListParts document parts.members.entries parts.binaries) }
+    ensures ok { IfOk result (λ parts. (list : Members)
+        × AreMembersIn depth reader.old reader.new list
+        × AreListParts list parts.members.entries parts.binaries) }
     ensures shorter { OnOk result (length reader.new < length reader.old) }
 {
-    let mut members = Map::new(alloc);
-    let mut binaries = None;
-    'members: while let Some(name) = reader.next_key()? {
-        if name == "rust-suites" {
-            binaries = Some(binaries_in(alloc, reader, depth)?);
-        } else {
-            let key = String::from_str(alloc, name)?;
-            let member = value_in(alloc, reader, depth)?;
-            drop(members.insert(key, member)?);
-        }
+    let mut parts = ListParts {
+        members: Map::new(alloc),
+        binaries: None,
+    };
+    'members: while let Some(key) = reader.next_key()? {
+        parts = parts.read(alloc, key, reader, depth)?;
     }
-    Ok(ListParts { members, binaries })
+    Ok(parts)
 }
 
 /// Returns the list of tests, by what it has.

@@ -1,7 +1,7 @@
 //! Reading suites from the tokens of a text.
 ghost use Rattle.std.specs.Prelude.{◌≡◌, ◌<◌, length, None, IfOk, OnOk, flat_map, map};
 ghost use Rattle.std.specs.List.{AllZip};
-ghost use Rattle.serde_json.specs.Data.{Data, object, Members};
+ghost use Rattle.serde_json.specs.Data.{Data, object, put, Members};
 ghost use Rattle.nextest_lists.specs.Demands.{first_fault, listed, suite_demands};
 ghost use Rattle.nextest_lists.specs.Lists.{IsSuiteOf, values};
 ghost use Rattle.nextest_lists.specs.ListView.{listed_view};
@@ -11,7 +11,7 @@ ghost use Rattle.nextest_lists.specs.Tokens.{AreMembersIn, IsValueIn};
 use crate::case_reader::tests_in;
 use crate::list::{ListedBinary, TestCase};
 use crate::suites::{binary_of, suite_of};
-use crate::tokens::{Stop, open_object, value_in};
+use crate::tokens::{Stop, open_object, with_member};
 use json::Reader;
 use serde_json::{Map, Value};
 use std::alloc::{AllocError, Global};
@@ -25,6 +25,34 @@ struct SuiteParts {
     tests: Option<Vec<TestCase>>,
 }
 
+impl SuiteParts {
+    /// Reads the value at a key of the suite, and adds it.
+    fn read(
+        self,
+        alloc: Global,
+        key: &str,
+        reader: &mut Reader<'_>,
+        depth: usize,
+    ) -> Result<SuiteParts, Stop>
+        ensures ok { IfOk result (λ more. (value : Data)
+            × IsValueIn depth reader.old reader.new value
+            × ((suite : Members) → AreSuiteParts suite self.members.entries self.tests
+            → AreSuiteParts (put key.now value suite) more.members.entries more.tests)) }
+        ensures shorter { OnOk result (length reader.new < length reader.old) }
+    {
+        let SuiteParts { members, tests } = self;
+        if key == "testcases" {
+            let tests = tests_in(alloc, reader, depth)?;
+            return Ok(SuiteParts {
+                members,
+                tests: Some(tests),
+            });
+        }
+        let members = with_member(alloc, members, key, reader, depth)?;
+        Ok(SuiteParts { members, tests })
+    }
+}
+
 /// Reads what a suite has, up to its end.
 fn suite_parts(alloc: Global, reader: &mut Reader<'_>, depth: usize) -> Result<SuiteParts, Stop>
     ensures ok { IfOk result (λ parts. (suite : Members)
@@ -32,18 +60,14 @@ fn suite_parts(alloc: Global, reader: &mut Reader<'_>, depth: usize) -> Result<S
         × AreSuiteParts suite parts.members.entries parts.tests) }
     ensures shorter { OnOk result (length reader.new < length reader.old) }
 {
-    let mut members = Map::new(alloc);
-    let mut tests = None;
-    'members: while let Some(name) = reader.next_key()? {
-        if name == "testcases" {
-            tests = Some(tests_in(alloc, reader, depth)?);
-        } else {
-            let key = String::from_str(alloc, name)?;
-            let member = value_in(alloc, reader, depth)?;
-            drop(members.insert(key, member)?);
-        }
+    let mut parts = SuiteParts {
+        members: Map::new(alloc),
+        tests: None,
+    };
+    'members: while let Some(key) = reader.next_key()? {
+        parts = parts.read(alloc, key, reader, depth)?;
     }
-    Ok(SuiteParts { members, tests })
+    Ok(parts)
 }
 
 /// Returns the binary of the suite with an id, by what it has.

@@ -2,7 +2,7 @@
 ghost use Rattle.std.specs.Prelude.{◌≡◌, ◌<◌, length, Some, IfOk, OnOk, option_map};
 ghost use Rattle.json.specs.Json.{items, value};
 ghost use Rattle.json.specs.Print.{IsNumber};
-ghost use Rattle.serde_json.specs.Data.{number, object, Members};
+ghost use Rattle.serde_json.specs.Data.{Data, number, put};
 ghost use Rattle.serde_json.specs.Read.{converted, number_of, of_items};
 ghost use Rattle.serde_json.specs.View.{view, items_view, members_view};
 ghost use Rattle.nextest_lists.specs.Tokens.{AreMembersIn, IsValueIn, OpensObject};
@@ -122,6 +122,26 @@ fn members_in(
         drop(found.insert(key, member)?);
     }
     Ok(found)
+}
+
+/// Reads the value at a key of an object, and adds it to members that were read.
+pub fn with_member(
+    alloc: Global,
+    members: Map<String, Value>,
+    key: &str,
+    reader: &mut Reader<'_>,
+    depth: usize,
+) -> Result<Map<String, Value>, Stop>
+    ensures ok { IfOk result (λ more. (value : Data)
+        × IsValueIn depth reader.old reader.new value
+        × (members_view more.entries ≡ put key.now value (members_view members.entries))) }
+    ensures shorter { OnOk result (length reader.new < length reader.old) }
+{
+    let mut members = members;
+    let name = String::from_str(alloc, key)?;
+    let member = value_in(alloc, reader, depth)?;
+    drop(members.insert(name, member)?);
+    Ok(members)
 }
 
 /// Reads the token that opens an object, and returns how deep values nest in it.
