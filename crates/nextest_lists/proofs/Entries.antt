@@ -61,20 +61,20 @@ entry_suites (member k d ms) (e ∷ es) are =
     )
 
 -- names with other bytes differ
-pub differ_by : (as bs : List ℕ) → bytes_eq as bs ≡ false → as ≡ bs → ⊥
-differ_by as bs is same = true≢false (sym ((bytes_eq-Decides as bs).1 same) ∙ is)
+pub differ_by : (xs ys : List ℕ) → bytes_eq xs ys ≡ false → xs ≡ ys → ⊥
+differ_by xs ys is same = true≢false (sym ((bytes_eq-Decides xs ys).1 same) ∙ is)
 
-same_after_put_by : (b : Bool) (other k : List ℕ) (d : Data) (as bs : Members) → bytes_eq other k ≡ b
-    → get_member other as ≡ get_member other bs → get_member other (put k d as) ≡ get_member other (put k d bs)
-same_after_put_by true other k d as bs is same =
+same_after_put_by : (b : Bool) (other k : List ℕ) (d : Data) (xs ys : Members) → bytes_eq other k ≡ b
+    → get_member other xs ≡ get_member other ys → get_member other (put k d xs) ≡ get_member other (put k d ys)
+same_after_put_by true other k d xs ys is same =
     let at : other ≡ k = (bytes_eq-Decides other k).0 is in
-    ap (λ name. get_member name (put k d as)) at ∙ get_member-put k d as
-    ∙ sym (ap (λ name. get_member name (put k d bs)) at ∙ get_member-put k d bs)
-same_after_put_by false other k d as bs is same =
+    ap (λ name. get_member name (put k d xs)) at ∙ get_member-put k d xs
+    ∙ sym (ap (λ name. get_member name (put k d ys)) at ∙ get_member-put k d ys)
+same_after_put_by false other k d xs ys is same =
     let apart = differ_by other k is in
-    get_member-put_other other k d as apart ∙ same ∙ sym (get_member-put_other other k d bs apart)
+    get_member-put_other other k d xs apart ∙ same ∙ sym (get_member-put_other other k d ys apart)
 
 -- objects with the same value at a key have it after the same change
-pub same_after_put : (other k : List ℕ) (d : Data) (as bs : Members) → get_member other as ≡ get_member other bs
-    → get_member other (put k d as) ≡ get_member other (put k d bs)
-same_after_put other k d as bs same = same_after_put_by (bytes_eq other k) other k d as bs refl same
+pub same_after_put : (other k : List ℕ) (d : Data) (xs ys : Members) → get_member other xs ≡ get_member other ys
+    → get_member other (put k d xs) ≡ get_member other (put k d ys)
+same_after_put other k d xs ys same = same_after_put_by (bytes_eq other k) other k d xs ys refl same

@@ -26,8 +26,8 @@ pub fault_before : (ds es : List Demand) (f : Fault) → first_fault ds ≡ Some
 fault_before ds es f is = first_fault-append ds es ∙ ap (λ r. option_or r (first_fault es)) is
 
 pub if_some_weaker : {X : Type 0} (o : Option X) (P Q : X → Type 0) → ((x : X) → P x → Q x) → IfSome o P → IfSome o Q
-pub if_some_weaker None P Q step is = is
-pub if_some_weaker (Some x) P Q step is = step x is
+if_some_weaker None P Q step is = is
+if_some_weaker (Some x) P Q step is = step x is
 
 -- the fault of the first demand of one list that isn't met is that of another
 pub tells_first : (ds es : List Demand) (fault : ListFault)

@@ -2,4 +2,4 @@ pub mod Entries
 pub mod FirstFaults
 pub mod Parts
 pub mod ReadSuites
-pub mod Tokens
+pub mod ReadTokens

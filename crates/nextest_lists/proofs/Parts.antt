@@ -28,6 +28,14 @@ others_special : (special : List ℕ) (d : Data) (ms : Members) (es : Entries) �
     → AreOthers special (put special d ms) es
 others_special special d ms es are = λ other apart. get_member-put_other other special d ms apart ∙ are other apart
 
+-- nothing was read of a suite yet
+pub no_suite_parts : (es : Entries) → es ≡ [] → AreSuiteParts no_members es None
+no_suite_parts es none = (λ other apart. sym (ap (λ es. get_member other (members_view es)) none), tt)
+
+-- nothing was read of a list yet
+pub no_list_parts : (es : Entries) → es ≡ [] → AreListParts no_members es None
+no_list_parts es none = (λ other apart. sym (ap (λ es. get_member other (members_view es)) none), tt)
+
 -- another member of a suite
 pub suite_put : (k : List ℕ) (d : Data) (suite : Members) (es more : Entries) (tests : Option (Vec TestCase Global))
     → (k ≡ codes "testcases" → ⊥) → members_view more ≡ put k d (members_view es) → AreSuiteParts suite es tests

@@ -57,5 +57,6 @@ pub fn tests_in(
 {
     let within = open_object(reader, depth)?;
     let cases = cases_by_name(alloc, reader, within)?;
-    Ok(in_order(alloc, cases)?)
+    let tests = in_order(alloc, cases)?;
+    Ok(tests)
 }

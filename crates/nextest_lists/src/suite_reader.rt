@@ -153,5 +153,6 @@ pub fn binaries_in(
 {
     let within = open_object(reader, depth)?;
     let suites = binaries_by_id(alloc, reader, within)?;
-    Ok(in_order(alloc, suites)?)
+    let binaries = in_order(alloc, suites)?;
+    Ok(binaries)
 }

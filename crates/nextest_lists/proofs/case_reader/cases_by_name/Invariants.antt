@@ -1,7 +1,7 @@
 use Rattle.std.proofs.Common.{length}
 use Rattle.serde_json.specs.Data.{Members}
 use Rattle.nextest_lists.specs.Parts.{AreEntriesOf, IsCaseOf}
-use Rattle.nextest_lists.proofs.Tokens.{AreMembersRead}
+use Rattle.nextest_lists.proofs.ReadTokens.{AreMembersRead}
 use Rattle.nextest_lists.proofs.case_reader.cases_by_name.Given as goal
 
 -- the test cases so far

@@ -1,7 +1,7 @@
 use Rattle.std.proofs.Common.{length}
 use Rattle.serde_json.specs.Data.{Members}
 use Rattle.nextest_lists.specs.Parts.{AreListParts}
-use Rattle.nextest_lists.proofs.Tokens.{AreMembersRead}
+use Rattle.nextest_lists.proofs.ReadTokens.{AreMembersRead}
 use Rattle.nextest_lists.proofs.list_reader.list_parts.Given as goal
 
 -- what was read so far

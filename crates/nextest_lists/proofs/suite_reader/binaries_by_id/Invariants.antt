@@ -1,7 +1,7 @@
 use Rattle.std.proofs.Common.{length}
 use Rattle.serde_json.specs.Data.{Members}
 use Rattle.nextest_lists.specs.Parts.{AreEntriesOf, IsBinaryOf}
-use Rattle.nextest_lists.proofs.Tokens.{AreMembersRead}
+use Rattle.nextest_lists.proofs.ReadTokens.{AreMembersRead}
 use Rattle.nextest_lists.proofs.suite_reader.binaries_by_id.Given as goal
 
 -- the suites so far

@@ -1,6 +1,6 @@
 use Rattle.std.proofs.Common.{◌+◌, ◌*◌, length}
 use Rattle.serde_json.specs.View.{members_view}
-use Rattle.nextest_lists.proofs.Tokens.{AreItemsRead, AreMembersRead}
+use Rattle.nextest_lists.proofs.ReadTokens.{AreItemsRead, AreMembersRead}
 use Rattle.nextest_lists.proofs.tokens.+value_in.Given as goal
 
 abbrev pub decreases-value_in : goal.decreases-value_in
