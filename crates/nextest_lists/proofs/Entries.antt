@@ -22,7 +22,7 @@ module _ {V : Type 0} (R : List ℕ × Data → V → Type 0) (k : String Global
       → AreEntriesOf R ms es → AreEntriesOf R (put (string_bytes k) d ms) (insert_entry string_cmp es k v)
       → AreEntriesOf R (match_ordering o (member (string_bytes k) d (member l e ms)) (member l d ms) (member l e (put (string_bytes k) d ms)))
       (match_ordering o ((k, v) ∷ f ∷ es) ((f.0, v) ∷ es) (f ∷ insert_entry string_cmp es k v))
-  entry_put_at Less l e ms f es at first is are more = ((refl, is), first, are)
+  entry_put_at Less l e ms f es at first is are more = ((refl, is), (first, are))
   entry_put_at Equal l e ms f es at first is are more =
       let same : string_bytes k ≡ l = (bytes_eq-Decides (string_bytes k) l).0 (sym (is_eq-slice_cmp (string_bytes k) l) ∙ ap is_eq at) in
       ((first.0, subst (λ name. R (name, d) v) same is), are)

@@ -1,5 +1,5 @@
 -- What was read of suites and of lists, one member more, and what is returned for them.
-use Rattle.std.proofs.Common.{◌≡◌, ℕ, List, [], ◌∷◌, Bool, true, false, String, Global, Vec, Option, Some, None, MatchOption, IfSome, codes, bytes_eq, option_and_then, option_map, unwrap_or, refl, sym, ap, subst, ◌∙◌, map}
+use Rattle.std.proofs.Common.{◌≡◌, ℕ, List, [], ◌∷◌, Bool, true, false, String, Global, Vec, Option, Some, None, MatchOption, Result, Ok, Err, IfOk, IfSome, codes, bytes_eq, option_and_then, option_map, unwrap_or, refl, sym, ap, subst, ◌∙◌, map}
 use Rattle.std.specs.List.{AllZip, flat_map}
 use Rattle.serde_json.specs.Data.{Data, object, Members, no_members, put}
 use Rattle.serde_json.specs.Find.{as_str, get, get_member}
@@ -15,6 +15,11 @@ use Rattle.nextest_lists.specs.declared.list.ListedBinary.{ListedBinary}
 use Rattle.nextest_lists.specs.declared.list.TestCase.{TestCase}
 use Rattle.nextest_lists.proofs.Entries.{differ_by, same_after_put}
 use Rattle.nextest_lists.proofs.FirstFaults.{fault_behind, if_some_weaker}
+
+-- what holds of a value twice
+pub if_ok_both : {X E : Type 0} (r : Result X E) (P Q : X → Type 0) → IfOk r P → IfOk r Q → IfOk r (λ x. P x × Q x)
+if_ok_both (Ok x) P Q p q = (p, q)
+if_ok_both (Err e) P Q p q = tt
 
 abbrev Entries : Type 0
 Entries = List (String Global × Value)

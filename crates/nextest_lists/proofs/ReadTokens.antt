@@ -184,3 +184,12 @@ object_opens depth tokens rest some is = record {
       ∙ converted_object (members (value (depth - 1)) (length rest) rest)
       ∙ ap (parse_map object) are;
 }
+
+-- ---- the whole text
+
+abbrev pub whole : Option (json.Json × List Token) → Option Data
+whole o = option_and_then of_json (option_and_then (λ p. if_last p.0 p.1) o)
+
+-- a value with nothing behind it is that of the text
+pub whole_read : (o : Option (json.Json × List Token)) (d : Data) → converted of_json o ≡ Some (d, []) → whole o ≡ Some d
+whole_read o d e = let j = converted_some of_json o d [] e in ap whole j.1 ∙ j.2

@@ -6,7 +6,7 @@ use Rattle.nextest_lists.proofs.ReadTokens.{no_member_read, one_member_read, mem
 use Rattle.nextest_lists.proofs.list_reader.list_parts.Goals as goal
 
 pub members-init : goal.members-init
-members-init c = (no_members, no_member_read c.args.depth c.args.reader.now, no_list_parts c.new-members.result.entries c.new-members.ensures.empty)
+members-init c = (no_members, no_member_read c.args.depth c.args.reader.now, no_list_parts c.new.result.entries c.new.ensures.empty)
 
 pub members-preserved : goal.members-preserved
 members-preserved c =
@@ -15,7 +15,7 @@ members-preserved c =
     let key = c.in-Some.key.now in
     let s = c.next_key.new.self in
     let named : read_key l.reader ≡ Some (Some key, s) = grind arith in
-    let done = c.in_ok-read.ensures in
+    let done = c.in_ok-parts.ensures in
     let d = done.ok.0 in (
       put key d old,
       one_member_read c.args.depth c.args.reader.now l.reader s c.read.new.reader old key d l.invariant.1 named done.ok.1 done.shorter,
