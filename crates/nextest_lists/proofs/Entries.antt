@@ -1,5 +1,5 @@
 -- Entries of maps beside the members of objects that they are of.
-use Rattle.std.proofs.Common.{◌≡◌, ℕ, List, [], ◌∷◌, Bool, true, false, String, Global, Option, Some, None, Ordering, Less, Equal, Greater, string_bytes, string_cmp, nat_cmp, is_eq, bytes_eq, refl, sym, ap, subst, ◌∙◌, map, true≢false}
+use Rattle.std.proofs.Common.{◌≡◌, ℕ, List, [], ◌∷◌, Bool, true, false, String, Global, None, Ordering, Less, Equal, Greater, string_bytes, string_cmp, nat_cmp, is_eq, bytes_eq, refl, sym, ap, subst, ◌∙◌, map, true≢false}
 use Rattle.std.proofs.lemmas.Map.Text.{is_eq-slice_cmp}
 use Rattle.std.proofs.lemmas.Slice.Eq.{bytes_eq-Decides}
 use Rattle.std.specs.BTreeMap.{insert_entry}
@@ -17,14 +17,17 @@ use Rattle.nextest_lists.specs.declared.list.ListedBinary.{ListedBinary}
 use Rattle.nextest_lists.proofs.FirstFaults.{fault_behind}
 
 module _ {V : Type 0} (R : List ℕ × Data → V → Type 0) (k : String Global) (d : Data) (v : V) where
-  entry_put_at : (o : Ordering) (l : List ℕ) (e : Data) (ms : Members) (f : String Global × V) (es : List (String Global × V))
+  entry_put_at : (o : Ordering) (l : List ℕ) (e : Data) (ms : Members) (f : String Global × V)
+      (es : List (String Global × V))
       → slice_cmp nat_cmp (string_bytes k) l ≡ o → IsEntryOf R (l, e) f → R (string_bytes k, d) v
       → AreEntriesOf R ms es → AreEntriesOf R (put (string_bytes k) d ms) (insert_entry string_cmp es k v)
-      → AreEntriesOf R (match_ordering o (member (string_bytes k) d (member l e ms)) (member l d ms) (member l e (put (string_bytes k) d ms)))
+      → AreEntriesOf R (match_ordering o (member (string_bytes k) d (member l e ms)) (member l d ms)
+      (member l e (put (string_bytes k) d ms)))
       (match_ordering o ((k, v) ∷ f ∷ es) ((f.0, v) ∷ es) (f ∷ insert_entry string_cmp es k v))
   entry_put_at Less l e ms f es at first is are more = ((refl, is), (first, are))
   entry_put_at Equal l e ms f es at first is are more =
-      let same : string_bytes k ≡ l = (bytes_eq-Decides (string_bytes k) l).0 (sym (is_eq-slice_cmp (string_bytes k) l) ∙ ap is_eq at) in
+      let same : string_bytes k ≡ l =
+      (bytes_eq-Decides (string_bytes k) l).0 (sym (is_eq-slice_cmp (string_bytes k) l) ∙ ap is_eq at) in
       ((first.0, subst (λ name. R (name, d) v) same is), are)
   entry_put_at Greater l e ms f es at first is are more = (first, more)
 
@@ -37,20 +40,26 @@ module _ {V : Type 0} (R : List ℕ × Data → V → Type 0) (k : String Global
   entry_put (member l e ms) (f ∷ es) are is =
       let more = entry_put ms es are.1 is in
       let o = slice_cmp nat_cmp (string_bytes k) l in
-      subst (λ name. AreEntriesOf R (match_ordering o (member (string_bytes k) d (member l e ms)) (member l d ms) (member l e (put (string_bytes k) d ms)))
-      (match_ordering (slice_cmp nat_cmp (string_bytes k) name) ((k, v) ∷ f ∷ es) ((f.0, v) ∷ es) (f ∷ insert_entry string_cmp es k v)))
+      subst (λ name. AreEntriesOf R
+      (match_ordering o (member (string_bytes k) d (member l e ms)) (member l d ms)
+      (member l e (put (string_bytes k) d ms)))
+      (match_ordering (slice_cmp nat_cmp (string_bytes k) name) ((k, v) ∷ f ∷ es) ((f.0, v) ∷ es)
+      (f ∷ insert_entry string_cmp es k v)))
       are.0.0 (entry_put_at o l e ms f es refl are.0 is are.1 more)
 
 -- the tests of the entries of test cases
-pub entry_cases : (ms : Members) (es : List (String Global × Bool)) → AreEntriesOf IsCaseOf ms es → map entry_case es ≡ cases_in ms
+pub entry_cases : (ms : Members) (es : List (String Global × Bool)) → AreEntriesOf IsCaseOf ms es
+    → map entry_case es ≡ cases_in ms
 entry_cases no_members [] are = refl
 entry_cases no_members (e ∷ es) are = absurd are
 entry_cases (member k d ms) [] are = absurd are
-entry_cases (member k d ms) (e ∷ es) are = rw (are.0.0, are.0.1) (ap (λ cases. entry_case e ∷ cases) (entry_cases ms es are.1))
+entry_cases (member k d ms) (e ∷ es) are =
+    rw (are.0.0, are.0.1) (ap (λ cases. entry_case e ∷ cases) (entry_cases ms es are.1))
 
 -- the binaries of the entries of suites
 pub entry_suites : (ms : Members) (es : List (String Global × ListedBinary)) → AreEntriesOf IsBinaryOf ms es
-    → AllZip IsSuiteOf (values ms) (map listed_view (map (λ e. e.1) es)) × (first_fault (flat_map suite_demands (listed ms)) ≡ None)
+    → AllZip IsSuiteOf (values ms) (map listed_view (map (λ e. e.1) es))
+    × (first_fault (flat_map suite_demands (listed ms)) ≡ None)
 entry_suites no_members [] are = (tt, refl)
 entry_suites no_members (e ∷ es) are = absurd are
 entry_suites (member k d ms) [] are = absurd are

@@ -1,5 +1,5 @@
 -- What was read of suites and of lists, one member more, and what is returned for them.
-use Rattle.std.proofs.Common.{◌≡◌, ℕ, List, [], ◌∷◌, Bool, true, false, String, Global, Vec, Option, Some, None, MatchOption, Result, Ok, Err, IfOk, IfSome, codes, bytes_eq, option_and_then, option_map, unwrap_or, refl, sym, ap, subst, ◌∙◌, map}
+use Rattle.std.proofs.Common.{◌≡◌, ℕ, List, [], ◌∷◌, String, Global, Vec, Option, Some, None, MatchOption, Result, Ok, Err, IfOk, codes, option_and_then, option_map, unwrap_or, refl, sym, ap, subst, ◌∙◌, map}
 use Rattle.std.specs.List.{AllZip, flat_map}
 use Rattle.serde_json.specs.Data.{Data, object, Members, no_members, put}
 use Rattle.serde_json.specs.Find.{as_str, get, get_member}
@@ -7,9 +7,9 @@ use Rattle.serde_json.specs.View.{members_view}
 use Rattle.serde_json.specs.declared.value.Value.{Value}
 use Rattle.serde_json.proofs.Views.{get_member-put, get_member-put_other}
 use Rattle.json_fields.specs.declared.kind.Wanted.TheVariants as kinds
-use Rattle.nextest_lists.specs.Demands.{Demand, Fault, Expected, of_kind, a_platform, build_demands, demands, first_fault, if_given, listed, member_place, platforms_demands, platforms_in, suite_demands, suite_place, suites_demands}
+use Rattle.nextest_lists.specs.Demands.{Demand, Expected, of_kind, a_platform, build_demands, demands, first_fault, if_given, listed, member_place, platforms_demands, platforms_in, suite_demands, suite_place, suites_demands}
 use Rattle.nextest_lists.specs.ListView.{case_view, listed_view}
-use Rattle.nextest_lists.specs.Lists.{AreTriples, AreTriplesIn, IsListOf, IsSuiteOf, Listed, TestList, Case, cases_in, target_directory_in, values}
+use Rattle.nextest_lists.specs.Lists.{AreTriples, AreTriplesIn, IsListOf, IsSuiteOf, Listed, TestList, cases_in, target_directory_in, values}
 use Rattle.nextest_lists.specs.Parts.{AreListParts, AreOthers, AreSuiteParts}
 use Rattle.nextest_lists.specs.declared.list.ListedBinary.{ListedBinary}
 use Rattle.nextest_lists.specs.declared.list.TestCase.{TestCase}
@@ -48,8 +48,10 @@ pub suite_put : (k : List ℕ) (d : Data) (suite : Members) (es more : Entries) 
 suite_put k d suite es more tests apart is are = (
   others_put (codes "testcases") k d suite es more are.0 is,
   if_some_weaker tests
-      (λ tests. (cases : Members) × (get_member (codes "testcases") suite ≡ Some (object cases)) × (map case_view tests.items ≡ cases_in cases))
-      (λ tests. (cases : Members) × (get_member (codes "testcases") (put k d suite) ≡ Some (object cases)) × (map case_view tests.items ≡ cases_in cases))
+      (λ tests. (cases : Members) × (get_member (codes "testcases") suite ≡ Some (object cases))
+      × (map case_view tests.items ≡ cases_in cases))
+      (λ tests. (cases : Members) × (get_member (codes "testcases") (put k d suite) ≡ Some (object cases))
+      × (map case_view tests.items ≡ cases_in cases))
       (λ tests found. (
         found.0,
         get_member-put_other (codes "testcases") k d suite (λ same. apart (sym same)) ∙ found.1,
@@ -58,7 +60,8 @@ suite_put k d suite es more tests apart is are = (
 )
 
 -- the test cases of a suite
-pub suite_tests : (suite cases : Members) (es : Entries) (before : Option (Vec TestCase Global)) (tests : Vec TestCase Global)
+pub suite_tests : (suite cases : Members) (es : Entries) (before : Option (Vec TestCase Global))
+    (tests : Vec TestCase Global)
     → map case_view tests.items ≡ cases_in cases → AreSuiteParts suite es before
     → AreSuiteParts (put (codes "testcases") (object cases) suite) es (Some tests)
 suite_tests suite cases es before tests is are = (
@@ -67,7 +70,8 @@ suite_tests suite cases es before tests is are = (
 )
 
 -- another member of a list
-pub list_put : (k : List ℕ) (d : Data) (list : Members) (es more : Entries) (binaries : Option (Vec ListedBinary Global))
+pub list_put : (k : List ℕ) (d : Data) (list : Members) (es more : Entries)
+    (binaries : Option (Vec ListedBinary Global))
     → (k ≡ codes "rust-suites" → ⊥) → members_view more ≡ put k d (members_view es) → AreListParts list es binaries
     → AreListParts (put k d list) more binaries
 list_put k d list es more binaries apart is are = (
@@ -88,7 +92,8 @@ list_put k d list es more binaries apart is are = (
 )
 
 -- the suites of a list
-pub list_suites : (list suites : Members) (es : Entries) (before : Option (Vec ListedBinary Global)) (binaries : Vec ListedBinary Global)
+pub list_suites : (list suites : Members) (es : Entries) (before : Option (Vec ListedBinary Global))
+    (binaries : Vec ListedBinary Global)
     → AllZip IsSuiteOf (values suites) (map listed_view binaries.items)
     → first_fault (flat_map suite_demands (listed suites)) ≡ None → AreListParts list es before
     → AreListParts (put (codes "rust-suites") (object suites) list) es (Some binaries)
@@ -128,11 +133,13 @@ pub binary_of_parts : (id : List ℕ) (suite : Members) (es after : Entries) (te
     → members_view after ≡ put (codes "testcases") (object no_members) (members_view es)
     → IsSuiteOf (object (members_view after)) l
     → first_fault (suite_demands (id, object (members_view after))) ≡ None
-    → IsSuiteOf (object suite) (record { binary = l.binary; package_name = l.package_name; tests = map case_view tests.items })
+    → IsSuiteOf (object suite)
+    (record { binary = l.binary; package_name = l.package_name; tests = map case_view tests.items })
     × (first_fault (suite_demands (id, object suite)) ≡ None)
 binary_of_parts id suite es after tests l are inserted is met =
     let same = λ (key : List ℕ) (apart : key ≡ codes "testcases" → ⊥).
-    are.0 key apart ∙ sym (ap (get_member key) inserted ∙ get_member-put_other key (codes "testcases") (object no_members) (members_view es) apart) in
+    are.0 key apart ∙ sym (ap (get_member key) inserted
+    ∙ get_member-put_other key (codes "testcases") (object no_members) (members_view es) apart) in
     let at_a : get_member (codes "package-name") suite ≡ get_member (codes "package-name") (members_view after) =
     same (codes "package-name") (differ_by (codes "package-name") (codes "testcases") refl) in
     let at_b : get_member (codes "package-id") suite ≡ get_member (codes "package-id") (members_view after) =
@@ -146,7 +153,8 @@ binary_of_parts id suite es after tests l are inserted is met =
     let at_f : get_member (codes "build-platform") suite ≡ get_member (codes "build-platform") (members_view after) =
     same (codes "build-platform") (differ_by (codes "build-platform") (codes "testcases") refl) in
     let at_g : get_member (codes "testcases") (members_view after) ≡ Some (object no_members) =
-    ap (get_member (codes "testcases")) inserted ∙ get_member-put (codes "testcases") (object no_members) (members_view es) in (
+    ap (get_member (codes "testcases")) inserted
+    ∙ get_member-put (codes "testcases") (object no_members) (members_view es) in (
       record {
         package_name = at_a ∙ is.package_name;
         package_id = at_b ∙ is.package_id;
@@ -160,31 +168,38 @@ binary_of_parts id suite es after tests l are inserted is met =
         has_cases = are.1.1;
         tests = are.1.2;
       },
-      met_by id suite (members_view after) are.1.0 no_members _ _ _ _ _ _ _ _ _ _ _ _ _ _ at_a at_b at_c at_d at_e at_f are.1.1 at_g met,
+      met_by id suite (members_view after) are.1.0 no_members _ _ _ _ _ _ _ _ _ _ _ _ _ _ at_a at_b at_c at_d
+          at_e at_f are.1.1 at_g met,
     )
 
 -- ---- a list
 
-module _ (list : Members) (es : Entries) (binaries : Vec ListedBinary Global) (are : AreListParts list es (Some binaries)) where
+module _ (list : Members) (es : Entries) (binaries : Vec ListedBinary Global)
+    (are : AreListParts list es (Some binaries)) where
   same_meta : get_member (codes "rust-build-meta") list ≡ get_member (codes "rust-build-meta") (members_view es)
   same_meta = are.0 (codes "rust-build-meta") (differ_by (codes "rust-build-meta") (codes "rust-suites") refl)
 
   same_platforms : platforms_in (object list) ≡ platforms_in (object (members_view es))
-  same_platforms = ap (λ meta. option_and_then (λ m. option_and_then if_given (get (codes "platforms") m)) meta) same_meta
+  same_platforms = ap (λ meta. option_and_then (λ m. option_and_then if_given (get (codes "platforms") m))
+      meta) same_meta
 
   pub list_of_parts : (l : TestList) → AreTriples (object (members_view es)) l.triples
-      → l.target_directory ≡ target_directory_in (object (members_view es)) → l.binaries ≡ map listed_view binaries.items
+      → l.target_directory ≡ target_directory_in (object (members_view es))
+      → l.binaries ≡ map listed_view binaries.items
       → IsListOf (object list) l
   list_of_parts l triples directory same = record {
-    triples = subst (λ (found : Option Data). MatchOption found (l.triples ≡ record { host = None; target = None }) (λ p. AreTriplesIn p l.triples))
+    triples = subst (λ (found : Option Data). MatchOption found
+        (l.triples ≡ record { host = None; target = None }) (λ p. AreTriplesIn p l.triples))
         (sym same_platforms) triples;
-    target_directory = directory ∙ sym (ap (λ meta. option_and_then as_str (option_and_then (get (codes "target-directory")) meta)) same_meta);
+    target_directory = directory
+        ∙ sym (ap (λ meta. option_and_then as_str (option_and_then (get (codes "target-directory")) meta)) same_meta);
     suites = are.1.0;
     has_suites = are.1.1;
     binaries = subst (AllZip IsSuiteOf (values are.1.0)) (sym same) are.1.2;
   }
 
-  pub list_met : first_fault (build_demands (object (members_view es))) ≡ None → first_fault (demands (object list)) ≡ None
+  pub list_met : first_fault (build_demands (object (members_view es))) ≡ None
+      → first_fault (demands (object list)) ≡ None
   list_met met =
       fault_behind (build_demands (object list)) (suites_demands (get_member (codes "rust-suites") list)) None
       (ap (λ found. first_fault (unwrap_or (option_map platforms_demands found) [])) same_platforms ∙ met)

@@ -1,9 +1,9 @@
 -- Values that are read token by token.
-use Rattle.std.proofs.Common.{◌≡◌, ℕ, zero, suc, ◌-◌, ◌<◌, ◌≤◌, List, [], ◌∷◌, ◌++◌, length, Option, Some, None, option_map, option_and_then, refl, sym, ap, ◌∙◌, append-nil, arith}
+use Rattle.std.proofs.Common.{◌≡◌, ℕ, ◌-◌, ◌<◌, ◌≤◌, List, [], ◌∷◌, ◌++◌, length, Option, Some, None, option_map, option_and_then, refl, sym, ap, ◌∙◌, append-nil, arith}
 use Rattle.json.specs.Json as json
-use Rattle.json.specs.Json.{Parse, parse_map, after_end_array, read_key, items, members, value, if_last}
+use Rattle.json.specs.Json.{parse_map, after_end_array, read_key, items, members, value, if_last}
 use Rattle.json.specs.Lex.{tokens}
-use Rattle.json.specs.Print.{IsNumber, ArePrintable, print, print_from}
+use Rattle.json.specs.Print.{IsNumber, ArePrintable, print_from}
 use Rattle.json.specs.Token.{Token}
 use Rattle.json.proofs.Grammar.{items_end, items_more, members_end, members_more, read_key-shorter, value_is, value-begin_object}
 use Rattle.json.proofs.Printed.Tokens.{tokens-print}
@@ -66,7 +66,8 @@ number_read text is =
     let one : tokens text ≡ Token.number text ∷ [] =
     ap tokens (sym (append-nil text)) ∙ tokens-print (Token.number text ∷ []) (is, tt) in
     ap (λ ts. option_and_then of_json (option_and_then (λ p. if_last p.0 p.1) (value max_depth ts))) one
-    ∙ ap (λ o. option_and_then of_json (option_and_then (λ p. if_last p.0 p.1) o)) (value_is max_depth (Token.number text ∷ []))
+    ∙ ap (λ o. option_and_then of_json (option_and_then (λ p. if_last p.0 p.1) o))
+    (value_is max_depth (Token.number text ∷ []))
 
 -- ---- the items of an array
 
@@ -121,7 +122,8 @@ one_item_read depth all left rest found after v are going is less more =
       enough = omega (arith, are.enough, less);
       same = are.same ∙ ap (parse_map (items_before found)) turn
           ∙ one_more_item found v (converted of_items (items (value depth) (are.turns - 1) rest))
-          ∙ ap (λ vs. parse_map (items_before vs) (converted of_items (items (value depth) (are.turns - 1) rest))) (sym more);
+          ∙ ap (λ vs. parse_map (items_before vs)
+          (converted of_items (items (value depth) (are.turns - 1) rest))) (sym more);
       shorter = omega (arith, are.shorter, less);
     }
 
@@ -130,7 +132,8 @@ pub items_read : (depth : ℕ) (all left rest : List Token) (found : List Value)
     → converted of_items (items (value depth) (length all) all) ≡ Some (items_view found, rest)
 items_read depth all left rest found are over =
     are.same
-    ∙ ap (λ o. parse_map (items_before found) (converted of_items o)) (items_end (value depth) are.turns left rest are.enough over)
+    ∙ ap (λ o. parse_map (items_before found) (converted of_items o))
+    (items_end (value depth) are.turns left rest are.enough over)
     ∙ ap (λ ds. Some (ds, rest)) (items_before-no_items found)
 
 -- ---- the members of an object
@@ -161,7 +164,8 @@ one_member_read depth all left s rest found key d are named is less =
       turns = are.turns - 1;
       enough = omega (arith, are.enough, less, lesser);
       same = are.same
-          ∙ ap (converted (λ ms. of_members ms found)) (members_more (value depth) are.turns key left s rest j.0 some named j.1)
+          ∙ ap (converted (λ ms. of_members ms found))
+          (members_more (value depth) are.turns key left s rest j.0 some named j.1)
           ∙ with_member key j.0 d found j.2 (members (value depth) (are.turns - 1) rest);
       shorter = omega (arith, are.shorter, less, lesser);
     }
@@ -170,7 +174,8 @@ pub members_read : (depth : ℕ) (all left rest : List Token) (found : Members) 
     → read_key left ≡ Some (None, rest) → AreMembersIn depth all rest found × (length rest < length all)
 members_read depth all left rest found are over =
     let lesser = read_key-shorter left None rest over in (
-      are.same ∙ ap (converted (λ ms. of_members ms found)) (members_end (value depth) are.turns left rest are.enough over),
+      are.same ∙ ap (converted (λ ms. of_members ms found))
+          (members_end (value depth) are.turns left rest are.enough over),
       omega (arith, are.shorter, lesser),
     )
 
@@ -191,5 +196,6 @@ abbrev pub whole : Option (json.Json × List Token) → Option Data
 whole o = option_and_then of_json (option_and_then (λ p. if_last p.0 p.1) o)
 
 -- a value with nothing behind it is that of the text
-pub whole_read : (o : Option (json.Json × List Token)) (d : Data) → converted of_json o ≡ Some (d, []) → whole o ≡ Some d
+pub whole_read : (o : Option (json.Json × List Token)) (d : Data) → converted of_json o ≡ Some (d, [])
+    → whole o ≡ Some d
 whole_read o d e = let j = converted_some of_json o d [] e in ap whole j.1 ∙ j.2

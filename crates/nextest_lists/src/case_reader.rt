@@ -45,11 +45,7 @@ fn in_order(alloc: Global, cases: Map<String, bool>) -> Result<Vec<TestCase>, Al
 }
 
 /// Reads an object of test cases.
-pub fn tests_in(
-    alloc: Global,
-    reader: &mut Reader<'_>,
-    depth: usize,
-) -> Result<Vec<TestCase>, Stop>
+pub fn tests_in(alloc: Global, reader: &mut Reader<'_>, depth: usize) -> Result<Vec<TestCase>, Stop>
     ensures ok { IfOk result (λ tests. (cases : Members)
         × IsValueIn depth reader.old reader.new (object cases)
         × (map case_view tests.items ≡ cases_in cases)) }

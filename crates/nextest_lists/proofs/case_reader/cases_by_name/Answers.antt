@@ -1,4 +1,4 @@
-use Rattle.std.proofs.Common.{◌≡◌, ◌<◌, ℕ, List, length, Bool, String, Global, Some, None, string_bytes, string_cmp, sym, subst, arith, rules}
+use Rattle.std.proofs.Common.{◌≡◌, ◌<◌, ℕ, List, length, Bool, String, Global, Some, string_bytes, string_cmp, sym, subst, arith, rules}
 use Rattle.std.specs.BTreeMap.{insert_entry}
 use Rattle.json.specs.Json.{read_key}
 use Rattle.json.specs.Token.{Token}
@@ -12,7 +12,12 @@ use Rattle.nextest_lists.proofs.ReadTokens.{AreMembersRead, no_member_read, one_
 use Rattle.nextest_lists.proofs.case_reader.cases_by_name.Goals as goal
 
 pub cases-init : goal.cases-init
-cases-init c = (no_members, no_member_read c.args.depth c.args.reader.now, subst (AreEntriesOf IsCaseOf no_members) (sym c.new-found.ensures.empty) tt)
+cases-init c = (
+  no_members,
+  no_member_read c.args.depth c.args.reader.now,
+  subst
+      (AreEntriesOf IsCaseOf no_members) (sym c.new-found.ensures.empty) tt,
+)
 
 -- one test case more
 one_more : (depth : ℕ) (all left s rest : List Token) (old : Members) (es after : List (String Global × Bool))
@@ -75,10 +80,12 @@ cases-preserved-in_ok-insert-3 c =
 pub returns-clause-ok : goal.returns-clause-ok
 returns-clause-ok c =
     let l = c.cases in
-    let all = members_read c.args.depth c.args.reader.now l.reader c.next_key.new.self l.invariant.0 l.invariant.1 (grind arith) in
+    let all = members_read c.args.depth c.args.reader.now l.reader c.next_key.new.self l.invariant.0
+    l.invariant.1 (grind arith) in
     (l.invariant.0, all.0, l.invariant.2)
 
 pub returns-clause-shorter : goal.returns-clause-shorter
 returns-clause-shorter c =
     let l = c.cases in
-    (members_read c.args.depth c.args.reader.now l.reader c.next_key.new.self l.invariant.0 l.invariant.1 (grind arith)).1
+    (members_read c.args.depth c.args.reader.now l.reader c.next_key.new.self l.invariant.0 l.invariant.1
+    (grind arith)).1

@@ -6,7 +6,8 @@ use Rattle.nextest_lists.proofs.case_reader.cases_by_name.Given as goal
 
 -- the test cases so far
 abbrev pub invariant-cases : goal.invariant-cases
-invariant-cases l = (cases : Members) × AreMembersRead l.depth l.initial.reader l.reader cases × AreEntriesOf IsCaseOf cases l.found.entries
+invariant-cases l = (cases : Members) × AreMembersRead l.depth l.initial.reader l.reader cases
+    × AreEntriesOf IsCaseOf cases l.found.entries
 
 abbrev pub decreases-cases : goal.decreases-cases
 decreases-cases l = length l.reader

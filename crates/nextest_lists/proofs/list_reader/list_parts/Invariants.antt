@@ -6,7 +6,8 @@ use Rattle.nextest_lists.proofs.list_reader.list_parts.Given as goal
 
 -- what was read so far
 abbrev pub invariant-members : goal.invariant-members
-invariant-members l = (list : Members) × AreMembersRead l.depth l.initial.reader l.reader list × AreListParts list l.parts.members.entries l.parts.binaries
+invariant-members l = (list : Members) × AreMembersRead l.depth l.initial.reader l.reader list
+    × AreListParts list l.parts.members.entries l.parts.binaries
 
 abbrev pub decreases-members : goal.decreases-members
 decreases-members l = length l.reader

@@ -1,8 +1,7 @@
-use Rattle.std.proofs.Common.{◌≡◌, List, [], Some, None, ap, subst, ◌∙◌, arith}
+use Rattle.std.proofs.Common.{◌≡◌, [], None, subst, arith}
 use Rattle.std.proofs.lemmas.Result.{IfOk-weaker}
 use Rattle.json.specs.Lex.{tokens}
 use Rattle.json.specs.Json.{value}
-use Rattle.json.specs.Token.{Token}
 use Rattle.serde_json.specs.Data.{Members, object}
 use Rattle.nextest_lists.specs.Demands.{demands, first_fault}
 use Rattle.nextest_lists.specs.ListView.{list_view}
@@ -24,10 +23,13 @@ returns c =
     let from : c.in_ok-reader.reader ≡ tokens text = grind arith in
     let whole : IsValueIn 127 (tokens text) [] (object found.0) =
     subst (λ ts. IsValueIn 127 ts [] (object found.0)) from
-    (subst (λ rest. IsValueIn 127 c.in_ok-reader.reader rest (object found.0)) none (c.in_ok-depth.ensures.is found.0 end found.1)) in
+    (subst (λ rest. IsValueIn 127 c.in_ok-reader.reader rest (object found.0)) none
+    (c.in_ok-depth.ensures.is found.0 end found.1)) in
     IfOk-weaker c.list_by_parts.result
-    (λ list. ((document : Members) → AreListParts document parts.members.entries parts.binaries → IsListOf (object document) (list_view list))
-    × ((document : Members) → AreListParts document parts.members.entries parts.binaries → first_fault (demands (object document)) ≡ None))
+    (λ list. ((document : Members) → AreListParts document parts.members.entries parts.binaries
+    → IsListOf (object document) (list_view list))
+    × ((document : Members) → AreListParts document parts.members.entries parts.binaries
+    → first_fault (demands (object document)) ≡ None))
     (λ list. IsListIn text (list_view list))
     (λ list each. record {
       document = object found.0;

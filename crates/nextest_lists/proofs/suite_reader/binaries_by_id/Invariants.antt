@@ -6,7 +6,8 @@ use Rattle.nextest_lists.proofs.suite_reader.binaries_by_id.Given as goal
 
 -- the suites so far
 abbrev pub invariant-suites : goal.invariant-suites
-invariant-suites l = (suites : Members) × AreMembersRead l.depth l.initial.reader l.reader suites × AreEntriesOf IsBinaryOf suites l.found.entries
+invariant-suites l = (suites : Members) × AreMembersRead l.depth l.initial.reader l.reader suites
+    × AreEntriesOf IsBinaryOf suites l.found.entries
 
 abbrev pub decreases-suites : goal.decreases-suites
 decreases-suites l = length l.reader

@@ -1,4 +1,4 @@
-use Rattle.std.proofs.Common.{sym, ap, subst, map}
+use Rattle.std.proofs.Common.{sym, subst, map}
 use Rattle.std.specs.List.{AllZip}
 use Rattle.nextest_lists.specs.ListView.{listed_view}
 use Rattle.nextest_lists.specs.Lists.{IsSuiteOf, values}

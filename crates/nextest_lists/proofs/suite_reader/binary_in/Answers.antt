@@ -11,6 +11,12 @@ returns-clause-ok c =
     let id = c.args.id.now in
     IfOk-weaker c.binary_by_parts.result
     (λ b. (suite : Members) → AreSuiteParts suite parts.members.entries parts.tests → IsBinaryOf (id, object suite) b)
-    (λ b. (suite : Data) × IsValueIn c.args.depth c.args.reader.now c.suite_parts.new.reader suite × IsBinaryOf (id, suite) b)
-    (λ b each. (object found.0, c.in_ok-within.ensures.is found.0 c.suite_parts.new.reader found.1, each found.0 found.2))
+    (λ b. (suite : Data) × IsValueIn c.args.depth c.args.reader.now c.suite_parts.new.reader suite
+    × IsBinaryOf (id, suite) b)
+    (λ b each. (
+      object found.0,
+      c.in_ok-within.ensures.is found.0 c.suite_parts.new.reader found.1,
+      each
+          found.0 found.2,
+    ))
     c.binary_by_parts.ensures

@@ -9,7 +9,8 @@ use Rattle.nextest_lists.proofs.list_reader.ListParts.read.Goals as goal
 pub returns-then-eq-clause-ok : goal.returns-then-eq-clause-ok
 returns-then-eq-clause-ok c =
     let key = c.args.key.now in
-    let same : key ≡ codes "rust-suites" = (bytes_eq-Decides key (codes "rust-suites")).0 (sym c.eq.ensures ∙ c.if-eq.true) in
+    let same : key ≡ codes "rust-suites" =
+    (bytes_eq-Decides key (codes "rust-suites")).0 (sym c.eq.ensures ∙ c.if-eq.true) in
     let found = c.in_ok-binaries.ensures.ok in
     let es = c.args.self.members.entries in (
       object found.0,
@@ -27,5 +28,6 @@ returns-clause-ok c =
       found.0,
       found.1,
       λ list are.
-          list_put key found.0 list c.args.self.members.entries c.in_ok-members.members.entries c.args.self.binaries apart found.2 are,
+          list_put key found.0 list c.args.self.members.entries c.in_ok-members.members.entries
+          c.args.self.binaries apart found.2 are,
     )

@@ -9,7 +9,8 @@ use Rattle.nextest_lists.proofs.suite_reader.SuiteParts.read.Goals as goal
 pub returns-then-eq-clause-ok : goal.returns-then-eq-clause-ok
 returns-then-eq-clause-ok c =
     let key = c.args.key.now in
-    let same : key ≡ codes "testcases" = (bytes_eq-Decides key (codes "testcases")).0 (sym c.eq.ensures ∙ c.if-eq.true) in
+    let same : key ≡ codes "testcases" =
+    (bytes_eq-Decides key (codes "testcases")).0 (sym c.eq.ensures ∙ c.if-eq.true) in
     let found = c.in_ok-tests.ensures.ok in
     let es = c.args.self.members.entries in (
       object found.0,
@@ -27,5 +28,6 @@ returns-clause-ok c =
       found.0,
       found.1,
       λ suite are.
-          suite_put key found.0 suite c.args.self.members.entries c.in_ok-members.members.entries c.args.self.tests apart found.2 are,
+          suite_put key found.0 suite c.args.self.members.entries c.in_ok-members.members.entries
+          c.args.self.tests apart found.2 are,
     )
