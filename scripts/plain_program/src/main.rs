@@ -1,7 +1,9 @@
-//! Two commands of `rinqebo` in ordinary Rust: `explain` prints the settings of a test, and `check` what
-//! is wrong with the repository's file. It is there to be measured beside `rinqebo`.
+//! Three commands of `rinqebo` in ordinary Rust: `explain` prints the settings of a test, `list` those that
+//! rules give to the tests of a list, and `check` what is wrong with the repository's file. It is there to be
+//! measured beside `rinqebo`.
 mod config;
 mod filter;
+mod list;
 mod platform;
 mod settings;
 mod tables;
@@ -9,6 +11,7 @@ mod values;
 
 use config::{load, Loaded, CONFIG_PATH};
 use filter::{BuildPlatform, Test};
+use list::{write_list, List};
 use platform::Platforms;
 use settings::{Query, Setting};
 use std::io::{self, BufWriter, Write};
@@ -17,7 +20,8 @@ use std::process::ExitCode;
 use std::{env, fs};
 
 const USAGE: &str = "usage: plain_program explain BINARY TEST [KEY].. [-P PROFILE] [--root DIR] [--host T] [--target T] \
-    [--host-binary]\n       plain_program check [--root DIR] [--deny-warnings]";
+    [--host-binary]\n       plain_program list LIST [-P PROFILE] [--root DIR] [--host T] [--target T]\n       plain_program check [--root DIR] \
+    [--deny-warnings]";
 
 /// The words behind the command.
 #[derive(Default)]
@@ -48,6 +52,10 @@ impl Words {
             }
         }
         Ok(read)
+    }
+
+    fn host(&self) -> &str {
+        self.host.as_deref().unwrap_or("x86_64-unknown-linux-gnu")
     }
 }
 
@@ -131,14 +139,10 @@ fn write_settings(query: &Query, test: &Test, settings: &[Setting], triple: &str
     out.flush()
 }
 
-fn explain(words: Words) -> Result<u8, String> {
-    let [binary, name, keys @ ..] = &words.alone[..] else {
-        return Err(USAGE.to_owned());
-    };
-    let settings = asked(keys)?;
-    let host = words.host.as_deref().unwrap_or("x86_64-unknown-linux-gnu");
-    let platforms = Platforms::new(host, words.target.as_deref())?;
-    let loaded = load_below(&root_of(words.root)?)?;
+/// Does something with the profile of some words, in the repository's file, on the platforms of the build.
+fn with_profile(words: &Words, write: impl FnOnce(&Query) -> io::Result<()>) -> Result<u8, String> {
+    let platforms = Platforms::new(words.host(), words.target.as_deref())?;
+    let loaded = load_below(&root_of(words.root.clone())?)?;
     write_findings(&loaded, &mut io::stderr().lock()).map_err(|error| error.to_string())?;
     let Some(config) = loaded.config.as_ref().filter(|_| loaded.errors.is_empty()) else {
         return Ok(3);
@@ -149,17 +153,35 @@ fn explain(words: Words) -> Result<u8, String> {
         return Ok(4);
     };
     let query = Query { config, chain: &chain, platforms: &platforms };
-    let built_for = if words.host_binary { BuildPlatform::Host } else { BuildPlatform::Target };
-    let triple = words.target.as_deref().filter(|_| !words.host_binary).unwrap_or(host);
-    let test = Test::new(binary, name, built_for);
-    write_settings(&query, &test, &settings, triple).map_err(|error| error.to_string())?;
+    write(&query).map_err(|error| error.to_string())?;
     Ok(0)
+}
+
+fn explain(words: Words) -> Result<u8, String> {
+    let [binary, name, keys @ ..] = &words.alone[..] else {
+        return Err(USAGE.to_owned());
+    };
+    let settings = asked(keys)?;
+    let built_for = if words.host_binary { BuildPlatform::Host } else { BuildPlatform::Target };
+    let triple = words.target.as_deref().filter(|_| !words.host_binary).unwrap_or(words.host());
+    let test = Test::new(binary, name, built_for);
+    with_profile(&words, |query| write_settings(query, &test, &settings, triple))
+}
+
+fn list(words: Words) -> Result<u8, String> {
+    let [path] = &words.alone[..] else {
+        return Err(USAGE.to_owned());
+    };
+    let text = fs::read_to_string(path).map_err(|error| format!("{path}: {error}"))?;
+    let list: List = serde_json::from_str(&text).map_err(|error| format!("{path}: {error}"))?;
+    with_profile(&words, |query| write_list(query, &list))
 }
 
 fn run() -> Result<u8, String> {
     let mut words = env::args().skip(1);
     match words.next().as_deref() {
         Some("explain") => explain(Words::read(words)?),
+        Some("list") => list(Words::read(words)?),
         Some("check") => {
             let words = Words::read(words)?;
             let loaded = load_below(&root_of(words.root)?)?;

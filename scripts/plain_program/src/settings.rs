@@ -142,6 +142,13 @@ impl Display for Origin<'_> {
 /// A value, and where it comes from. Only a run wrapper may be absent.
 pub type Answer<'c> = Option<(Value<'c>, Origin<'c>)>;
 
+/// Which rules of a chain hold for some test: of each profile, its overrides and its script rules.
+#[derive(Default)]
+pub struct Used {
+    pub overrides: Vec<Vec<bool>>,
+    pub scripts: Vec<Vec<bool>>,
+}
+
 /// A configuration, the chain of a profile, and the platforms of queries.
 pub struct Query<'c> {
     pub config: &'c Config,
@@ -159,6 +166,47 @@ impl<'c> Query<'c> {
         let is_host_binary = test.platform == BuildPlatform::Host;
         self.platforms.meet(rule.host.as_ref(), rule.target.as_ref(), is_host_binary)
             && rule.filter.as_ref().is_none_or(|filter| filter.matches(test, self.default_filter()))
+    }
+
+    /// Whether the default filter matches a test.
+    pub fn selects(&self, test: &Test) -> bool {
+        self.default_filter().is_none_or(|filter| filter.matches(test, None))
+    }
+
+    /// Whether a rule holds for a test, each rule asked once. It is marked where it does.
+    fn holds_once(&self, conditions: &[Conditions], test: &Test, used: &mut Vec<bool>) -> Vec<bool> {
+        used.resize(conditions.len(), false);
+        let held: Vec<bool> = conditions.iter().map(|rule| self.holds(rule, test)).collect();
+        used.iter_mut().zip(&held).for_each(|(used, held)| *used |= held);
+        held
+    }
+
+    /// The settings of a test that rules decide. The rules that hold are marked.
+    pub fn decided(&self, test: &Test, used: &mut Used) -> [Answer<'c>; 15] {
+        let mut answers = Setting::ALL.map(|_| None);
+        used.overrides.resize_with(self.chain.len(), Vec::new);
+        used.scripts.resize_with(self.chain.len(), Vec::new);
+        for (place, &name) in self.chain.iter().enumerate() {
+            let (Some(profile), Some(rules)) = (self.config.file.profile.get(name), self.config.rules.get(name)) else {
+                continue;
+            };
+            let held = self.holds_once(&rules.overrides, test, &mut used.overrides[place]);
+            for (index, rule) in profile.overrides.iter().enumerate().filter(|(index, _)| held[*index]) {
+                for (setting, answer) in Setting::ALL.iter().zip(&mut answers) {
+                    if answer.is_none() {
+                        *answer = setting.of_override(rule).map(|value| (value, Origin::Override(name, index)));
+                    }
+                }
+            }
+            let held = self.holds_once(&rules.scripts, test, &mut used.scripts[place]);
+            let wrapper = &mut answers[Setting::RunWrapper as usize];
+            for (index, rule) in profile.scripts.iter().enumerate().filter(|(index, _)| held[*index]) {
+                if let (None, Some(text)) = (&wrapper, rule.run_wrapper.as_deref()) {
+                    *wrapper = Some((Value::Text(text), Origin::Script(name, index)));
+                }
+            }
+        }
+        answers
     }
 
     /// All settings of a test.
