@@ -6,11 +6,12 @@ ghost use Rattle.nextest_sources.specs.Sources.{file_view};
 ghost use Rattle.nextest_sources.specs.WarningsView.{warnings_view};
 ghost use Rattle.rinqebo_load.specs.SessionOf.{IsSessionOf};
 ghost use Rattle.rinqebo_load.specs.Sessions.{files_view, readings, IfLoaded, IsLoadedFrom};
-ghost use Rattle.rinqebo_load.specs.Beginning.{IsBeginningFailure, IsUnusable};
+ghost use Rattle.rinqebo_load.specs.Beginning.{IsUnusable};
 ghost use Rattle.rinqebo_load.specs.Warned.{warnings_met};
 
 use crate::engines::Engines;
 use crate::failure::Failure;
+use crate::list_path::list_path;
 use crate::printed_host::printed_host;
 use crate::triples::{Triples, listed_tests, triples_for};
 use filter_engine::NextestFilters;
@@ -24,7 +25,7 @@ use nextest_sources::ConfigInputs;
 use platform_language::TargetSpecs;
 use rinqebo_files::{Gathered, Layer, features_of, layers_of};
 use rinqebo_report::SourceKind;
-use rinqebo_request::{ListFile, ProfileSource, Request};
+use rinqebo_request::{ProfileSource, Request};
 use std::alloc::{AllocError, Global};
 use std::collections::BTreeSet;
 
@@ -58,11 +59,9 @@ impl<'g> Session<'g> {
         gathered: &'g Gathered,
     ) -> Result<Session<'g>, Failure>
         ensures begun { IfOk result (IsSessionOf request.now gathered.now) }
-        ensures err { IfErr result IsBeginningFailure }
         ensures cause { IfErr result (IsUnusable request.now gathered.now) }
     {
-        let path = request.list().map_or("", ListFile::path);
-        let tests = listed_tests(alloc, path, gathered)?;
+        let tests = listed_tests(alloc, list_path(request), gathered)?;
         let host = printed_host(alloc, request.engines.rustc_version, gathered)?;
         let triples = triples_for(alloc, &request.engines, host, &tests)?;
         let engines = Engines::new(alloc, request, &triples, gathered)?;

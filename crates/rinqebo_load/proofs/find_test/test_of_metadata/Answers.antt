@@ -1,0 +1,9 @@
+use Rattle.std.proofs.lemmas.Result.{err_from_is_err_and}
+use Rattle.rinqebo_load.proofs.Causes.{not_of_metadata}
+use Rattle.rinqebo_load.proofs.find_test.test_of_metadata.Goals as goal
+
+pub returns-in_err-targets-clause-err : goal.returns-in_err-targets-clause-err
+returns-in_err-targets-clause-err c =
+    let p = err_from_is_err_and c.from_residual.result c.from_residual.ensures.1 in
+    rw (p.1, p.2)
+    (not_of_metadata c.args.metadata.now c.args.id.now c.in_err-targets.field-0.0 c.in_err-targets.ensures.err)
