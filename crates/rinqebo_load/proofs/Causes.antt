@@ -20,6 +20,7 @@ use Rattle.rinqebo_forms.specs.declared.machines.EngineFault.{EngineFault}
 use Rattle.rinqebo_forms.specs.declared.machines.EngineFault.TheVariants as refused
 use Rattle.rinqebo_load.specs.Beginning.{failure_of}
 use Rattle.rinqebo_load.specs.FindTests.{AreNoTargets, IsNotOfMetadata, test_fault}
+use Rattle.rinqebo_load.specs.HostLines.{NamesHost, printed_host}
 use Rattle.rinqebo_load.specs.InputFaults.{HasGraph, IsAboutHost, IsAboutMachine, IsAboutNamed, IsAboutTarget, IsAboutTriple, IsAnySubject, IsBlank, IsBuildFault, IsFaultOfList, IsMachineFault, IsTargetFault, IsTargetKnown, OfEngine, OrMemory, engine_fault}
 use Rattle.rinqebo_load.specs.ListPath.{list_path, path_of}
 use Rattle.rinqebo_load.specs.Machines.{machine_of}
@@ -38,18 +39,18 @@ use Rattle.rinqebo_request.specs.declared.named.FileOption.TheVariants as option
 use Rattle.rinqebo_request.specs.declared.request.Request.{Request}
 
 -- what follows from a cause follows beside want of memory
-pub or_more : {P Q : InputFault → Type 0} (fault : InputFault) → (P fault → Q fault) → OrMemory P fault
+pub or_more : (P Q : InputFault → Type 0) (fault : InputFault) → (P fault → Q fault) → OrMemory P fault
     → OrMemory Q fault
-or_more fault more (inl want) = inl want
-or_more fault more (inr holds) = inr (more holds)
+or_more P Q faults.Memory more holds = tt
+or_more P Q fault more holds = more holds
 
 -- the fault of an engine about a subject
 pub of_engine : (IsAbout : Subject → Type 0) (Holds : EngineFault → Type 0) (subject : Subject) (fault : EngineFault)
     → IsAbout subject → Holds fault → OrMemory (OfEngine IsAbout Holds) (engine_fault subject fault)
-of_engine IsAbout Holds subject (refused.Metadata fault) about holds = inr (about, tt, holds)
-of_engine IsAbout Holds subject (refused.Platform triple platforms.Memory) about holds = inl refl
-of_engine IsAbout Holds subject (refused.Platform triple fault) about holds = inr (about, tt, holds)
-of_engine IsAbout Holds subject refused.Memory about holds = inl refl
+of_engine IsAbout Holds subject (refused.Metadata fault) about holds = (about, tt, holds)
+of_engine IsAbout Holds subject (refused.Platform triple platforms.Memory) about holds = tt
+of_engine IsAbout Holds subject (refused.Platform triple fault) about holds = (about, tt, holds)
+of_engine IsAbout Holds subject refused.Memory about holds = tt
 
 -- the fault of a platform, other than want of memory
 pub of_platform : (subject : Subject) (triple : String Global) (fault : PlatformFault) → fault ≢ platforms.Memory
@@ -106,7 +107,8 @@ pub target_fault : (names : MachineNames) (request : Request) (triples : Triples
     → OrMemory (IsTargetFault (IsAboutNamed names) gathered.target_cfg (option_map string_bytes triples.target)) fault
     → OrMemory (IsBuildFault request triples gathered) fault
 target_fault names request triples gathered fault source list cfg option =
-    or_more fault (λ is. inl (target_more (IsAboutNamed names) (IsAboutTarget request triples) gathered.target_cfg
+    or_more (IsTargetFault (IsAboutNamed names) gathered.target_cfg (option_map string_bytes triples.target))
+    (IsBuildFault request triples gathered) fault (λ is. inl (target_more (IsAboutNamed names) (IsAboutTarget request triples) gathered.target_cfg
     (option_map string_bytes triples.target) fault
     (λ subject. about_target names request triples subject source list cfg option) is))
 
@@ -118,7 +120,8 @@ pub host_fault : (names : MachineNames) (request : Request) (triples : Triples) 
     → OrMemory (IsMachineFault (IsAboutNamed names) (machine_of gathered.host_cfg (string_bytes triples.host))) fault
     → OrMemory (IsBuildFault request triples gathered) fault
 host_fault names request triples gathered fault source list cfg option known =
-    or_more fault (λ is. inr (
+    or_more (IsMachineFault (IsAboutNamed names) (machine_of gathered.host_cfg (string_bytes triples.host)))
+    (IsBuildFault request triples gathered) fault (λ is. inr (
       known,
       about_more (IsAboutNamed names) (IsAboutHost request triples)
           (machine_of gathered.host_cfg (string_bytes triples.host)) fault
@@ -161,5 +164,9 @@ input_fault fault other = refl
 pub not_of_metadata : (metadata binary : List ℕ) (fault : InputFault)
     → OrMemory (OfEngine IsAnySubject (AreNoTargets metadata)) fault → IsNotOfMetadata metadata binary (test_fault fault)
 not_of_metadata metadata binary faults.Memory why = tt
-not_of_metadata metadata binary fault (inl want) = absurd (cc)
-not_of_metadata metadata binary fault (inr why) = why
+not_of_metadata metadata binary fault why = why
+
+-- what the compiler prints of itself has the host that is read from it
+pub named_host : (printed : Option (String Global)) (host : List ℕ) → Some host ≡ printed_host printed → NamesHost printed
+named_host (Some text) host is = rw (sym is) refl
+named_host None host is = tt

@@ -11,5 +11,4 @@ use Rattle.rinqebo_load.specs.declared.fault.InputFault.TheVariants as faults
 pub unusable : (request : Request) (gathered : Gathered) (fault : InputFault)
     → OrMemory (IsInputFault request gathered) fault → IsUnusable request gathered (failure_of fault)
 unusable request gathered faults.Memory why = tt
-unusable request gathered fault (inl want) = absurd (cc)
-unusable request gathered fault (inr why) = why
+unusable request gathered fault why = why

@@ -35,9 +35,10 @@ use Rattle.rinqebo_load.specs.declared.fault.TripleSource.{TripleSource}
 use Rattle.rinqebo_load.specs.declared.fault.TripleSource.TheVariants as sources
 use Rattle.rinqebo_load.specs.declared.triples.Triples.{Triples}
 
--- something holds of a fault, or the fault is want of memory
+-- something holds of a fault, unless the fault is want of memory
 abbrev pub OrMemory : (InputFault → Type 0) → InputFault → Type 0
-OrMemory Holds fault = (fault ≡ faults.Memory) ⊎ Holds fault
+OrMemory Holds faults.Memory = Unit {0}
+OrMemory Holds fault = Holds fault
 
 -- ---- what a fault is about
 

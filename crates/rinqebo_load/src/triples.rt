@@ -1,5 +1,6 @@
 //! The list of tests that a run is about, and the triples of its build.
 ghost use Rattle.std.specs.Prelude.{◌≡◌, [], IfErr, IfOk, IfSome, IsTrue, option_map, string_bytes, unwrap_or};
+ghost use Rattle.nextest_lists.specs.Demands.{not_json};
 ghost use Rattle.nextest_lists.specs.Faults.{fault_view};
 ghost use Rattle.nextest_lists.specs.ListView.{list_view};
 ghost use Rattle.nextest_lists.specs.Reading.{IsFaultIn};
@@ -43,6 +44,26 @@ fn text_of(alloc: Global, path: Option<&str>) -> Result<String, AllocError>
     }
 }
 
+/// The fault of a list that was read from a path, whose text is not JSON from this place on. A text
+/// of white space alone is an empty list.
+fn fault_of_text(
+    alloc: Global,
+    path: Option<&str>,
+    text: &str,
+    line: usize,
+    column: usize,
+) -> Result<InputFault, AllocError>
+    requires { IsFaultIn text.now not_json }
+    ensures { IfOk result (OrMemory (IsFaultOfList (path_of path.entry) text.now)) }
+{
+    if is_blank(text) {
+        let file = NamedFile::new(alloc, path, FileOption::List)?;
+        return Ok(InputFault::EmptyList(file));
+    }
+    let named = text_of(alloc, path)?;
+    Ok(InputFault::List(named, ListFault::NotJson { line, column }))
+}
+
 /// The fault of a list that was read from a path, for why its text is none.
 fn fault_of_list(
     alloc: Global,
@@ -55,10 +76,7 @@ fn fault_of_list(
 {
     match fault {
         ListFault::Memory => Ok(InputFault::Memory),
-        ListFault::NotJson { .. } if is_blank(text) => {
-            let file = NamedFile::new(alloc, path, FileOption::List)?;
-            Ok(InputFault::EmptyList(file))
-        }
+        ListFault::NotJson { line, column } => fault_of_text(alloc, path, text, line, column),
         fault => Ok(InputFault::List(text_of(alloc, path)?, fault)),
     }
 }
@@ -81,9 +99,10 @@ pub fn listed_tests(
             binaries: Vec::new(alloc),
         });
     };
-    match tests_of(alloc, text.as_str()) {
+    let text = text.as_str();
+    match tests_of(alloc, text) {
         Ok(tests) => Ok(tests),
-        Err(fault) => Err(fault_of_list(alloc, path, text.as_str(), fault)?),
+        Err(fault) => Err(fault_of_list(alloc, path, text, fault)?),
     }
 }
 

@@ -2,6 +2,8 @@ use Rattle.std.proofs.Common.{◌∙◌, ap, inl, inr, map, refl}
 use Rattle.rinqebo_files.specs.Layers.{layer_view}
 use Rattle.std.proofs.lemmas.Result.{err_from_is_err_and}
 use Rattle.nextest_lists.specs.ListView.{list_view}
+use Rattle.rinqebo_load.specs.InputFaults.{IsEngineFault, IsInputFault, IsListFault, LacksHost}
+use Rattle.rinqebo_load.specs.ListPath.{path_of}
 use Rattle.rinqebo_load.specs.Triples.{host_for}
 use Rattle.rinqebo_load.proofs.Causes.{or_more}
 use Rattle.rinqebo_load.proofs.Failing.{unusable}
@@ -12,14 +14,17 @@ returns-in_err-tests-clause-cause c =
     let p = err_from_is_err_and c.from_residual.result c.from_residual.ensures.1 in
     rw (p.1, p.2)
     (unusable c.args.request.now c.args.gathered.now c.in_err-tests.field-0.0
-    (or_more c.in_err-tests.field-0.0 (λ why. inl (rw c.list_path.ensures at why)) c.in_err-tests.ensures.err))
+    (or_more (IsListFault (path_of c.list_path.result) c.args.gathered.now.list)
+    (IsInputFault c.args.request.now c.args.gathered.now) c.in_err-tests.field-0.0
+    (λ why. inl (rw c.list_path.ensures at why)) c.in_err-tests.ensures.err))
 
 pub returns-in_err-host-clause-cause : goal.returns-in_err-host-clause-cause
 returns-in_err-host-clause-cause c =
     let p = err_from_is_err_and c.from_residual-in_err-host.result c.from_residual-in_err-host.ensures.1 in
     rw (p.1, p.2)
     (unusable c.args.request.now c.args.gathered.now c.in_err-host.field-0.0
-    (or_more c.in_err-host.field-0.0
+    (or_more (LacksHost (path_of c.args.request.now.engines.rustc_version) c.args.gathered.now.rustc_version)
+    (IsInputFault c.args.request.now c.args.gathered.now) c.in_err-host.field-0.0
     (λ why. inr (record { tests = c.in_ok-tests.tests; are_tests = c.in_ok-tests.ensures.ok; cause = inl why }))
     c.in_err-host.ensures.err))
 
@@ -28,7 +33,8 @@ returns-in_err-engines-clause-cause c =
     let p = err_from_is_err_and c.from_residual-in_err-engines.result c.from_residual-in_err-engines.ensures.1 in
     rw (p.1, p.2)
     (unusable c.args.request.now c.args.gathered.now c.in_err-engines.field-0.0
-    (or_more c.in_err-engines.field-0.0
+    (or_more (IsEngineFault c.args.request.now c.in_ok-triples.triples c.args.gathered.now)
+    (IsInputFault c.args.request.now c.args.gathered.now) c.in_err-engines.field-0.0
     (λ why. inr (record {
       tests = c.in_ok-tests.tests;
       are_tests = c.in_ok-tests.ensures.ok;
