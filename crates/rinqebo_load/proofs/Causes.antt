@@ -88,7 +88,7 @@ about_target names request triples subject source list cfg option is =
 pub about_more : (IsAbout IsOther : Subject → Type 0) (machine : MachineText) (fault : InputFault)
     → ((subject : Subject) → IsAbout subject → IsOther subject) → IsMachineFault IsAbout machine fault
     → IsMachineFault IsOther machine fault
-about_more IsAbout IsOther machine (faults.Engine subject fault) more is = (more subject is.0, is.1)
+about_more IsAbout IsOther machine (faults.Engine subject fault) more is = (more subject is.0, is.1, is.2)
 about_more IsAbout IsOther machine fault more is = absurd is
 
 -- the same of the target
@@ -130,7 +130,7 @@ host_fault names request triples gathered fault source list cfg option known =
 
 -- a text of which trimming leaves nothing
 pub blank : (text trimmed : List ℕ) → IsTrimResult text trimmed → trimmed ≡ [] → IsBlank text
-blank text trimmed (m, n, is, before, behind, rest) none =
+blank text trimmed (m, n, is, before, behind, first, last) none =
     let back : drop m text ≡ drop n (drop m text) =
     sym (take-append-drop n (drop m text)) ∙ ap (λ front. front ++ drop n (drop m text)) (sym is ∙ none) in
     let whole : take m text ++ drop n (drop m text) ≡ text =
@@ -148,7 +148,7 @@ listed path text named fault at other cause = (at, cause)
 -- filters have a graph
 pub graph_of : (metadata : Option (String Global)) (filters : NextestFilters)
     → AreOpenFiltersFor (option_map string_bytes metadata) filters → HasGraph metadata
-graph_of (Some metadata) filters are = (are.0, are.1.0)
+graph_of (Some metadata) filters are = (are.0, are.1)
 graph_of None filters are = tt
 
 -- a fault that is not want of memory is its failure, and why a test is not found

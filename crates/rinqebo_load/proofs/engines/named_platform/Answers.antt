@@ -4,8 +4,8 @@ use Rattle.rinqebo_load.specs.Machines.{machine_of}
 use Rattle.rinqebo_load.proofs.Causes.{of_engine}
 use Rattle.rinqebo_load.proofs.engines.named_platform.Goals as goal
 
-pub returns-in_ok-subject-clause-err : goal.returns-in_ok-subject-clause-err
-returns-in_ok-subject-clause-err c =
+pub returns-in_ok-subject-in-Err-clause-err : goal.returns-in_ok-subject-in-Err-clause-err
+returns-in_ok-subject-in-Err-clause-err c =
     rw c.of_engine.ensures
     (of_engine (IsAboutNamed c.args.names) (IsMachineRefused (machine_of c.args.cfg.now c.args.triple.now))
-    c.in_ok-subject.field-0 c.in-Err.fault c.in_ok-subject.ensures c.in-Err.ensures.err)
+    c.in_ok-subject-in-Err.field-0 c.in-Err.fault c.in_ok-subject-in-Err.ensures c.in-Err.ensures.err)

@@ -8,5 +8,5 @@ pub returns : goal.returns
 returns c =
     λ is.
     let trimmed = c.trim.result.now in
-    blank c.args.text.now trimmed c.trim.ensures
+    blank c.args.text.now trimmed c.trim.ensures.value
     (nil_from_length trimmed (eqb-true (length trimmed) 0 (sym c.is_empty.ensures ∙ is)))
