@@ -1,5 +1,5 @@
 -- Causes of the faults of what a request names.
-use Rattle.std.proofs.Common.{◌≡◌, ◌≢◌, ◌⊎◌, ◌∙◌, ◌++◌, ℕ, inl, inr, List, [], Option, None, Some, IfSome, String, ap, drop, option_map, refl, string_bytes, subst, sym, take, unwrap_or}
+use Rattle.std.proofs.Common.{◌≡◌, ◌≢◌, ◌∙◌, ◌++◌, ℕ, inl, inr, List, [], Option, None, Some, IfSome, String, ap, drop, option_map, refl, string_bytes, subst, sym, take, unwrap_or}
 use Rattle.std.specs.Char.{is_not_whitespace}
 use Rattle.std.specs.Str.{NoCharPasses}
 use Rattle.std.specs.declared.alloc.Global.{Global}

@@ -172,7 +172,9 @@ broken_in (questions.WhyRuns profile test) session report (inl finding) = absurd
 broken_in (questions.WhyRuns profile test) session report (inr cause) = cause
 broken_in (questions.List profile mode list asked) session report cause = cause
 broken_in (questions.ShowConfig profile keys with_hidden) session report cause = cause
-broken_in (questions.Check deny_warnings) session report cause = absurd (cc)
+broken_in (questions.Check deny_warnings) session report cause =
+    let no : failures.Refused report ≡ failures.Memory = cause in
+    absurd (cc)
 
 -- files lack the profile for which a question is not answered
 lacks_in : (q : Question) (session : Session) (report : Report) → IsFailureIn session q (failures.NoProfile report)
@@ -185,7 +187,9 @@ lacks_in (questions.WhyRuns profile test) session report (inl finding) = absurd 
 lacks_in (questions.WhyRuns profile test) session report (inr cause) = cause
 lacks_in (questions.List profile mode list asked) session report cause = cause
 lacks_in (questions.ShowConfig profile keys with_hidden) session report cause = cause
-lacks_in (questions.Check deny_warnings) session report cause = absurd (cc)
+lacks_in (questions.Check deny_warnings) session report cause =
+    let no : failures.NoProfile report ≡ failures.Memory = cause in
+    absurd (cc)
 
 -- there is no test for which a question is not answered
 untested_in : (q : Question) (session : Session) (report : Report) → IsFailureIn session q (failures.NoTest report)
@@ -198,7 +202,9 @@ untested_in (questions.WhyRuns profile test) session report (inl finding) = find
 untested_in (questions.WhyRuns profile test) session report (inr cause) = absurd cause
 untested_in (questions.List profile mode list asked) session report cause = absurd cause
 untested_in (questions.ShowConfig profile keys with_hidden) session report cause = absurd cause
-untested_in (questions.Check deny_warnings) session report cause = absurd (cc)
+untested_in (questions.Check deny_warnings) session report cause =
+    let no : failures.NoTest report ≡ failures.Memory = cause in
+    absurd (cc)
 
 -- a failure of status 3 tells that files are refused
 refused_for : (request : Asked) (gathered : Gathered) (failure : Failure) → Fails request gathered failure
