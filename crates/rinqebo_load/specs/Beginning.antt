@@ -7,6 +7,15 @@ use Rattle.rinqebo_load.specs.declared.failure.Failure.TheVariants as failures
 use Rattle.rinqebo_load.specs.declared.fault.InputFault.{InputFault}
 use Rattle.rinqebo_load.specs.declared.fault.InputFault.TheVariants as faults
 
+-- A failure of what all commands begin with: the engines, or want of memory.
+abbrev pub IsBeginningFailure : Failure → Type 0
+IsBeginningFailure (failures.Engines fault) = Unit {0}
+IsBeginningFailure (failures.Refused report) = ⊥
+IsBeginningFailure (failures.NoProfile report) = ⊥
+IsBeginningFailure (failures.NoTest report) = ⊥
+IsBeginningFailure (failures.SeveralTests report) = ⊥
+IsBeginningFailure failures.Memory = Unit {0}
+
 -- the failure of a fault: want of memory is one of its own
 abbrev pub failure_of : InputFault → Failure
 failure_of faults.Memory = failures.Memory

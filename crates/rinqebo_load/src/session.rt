@@ -6,7 +6,7 @@ ghost use Rattle.nextest_sources.specs.Sources.{file_view};
 ghost use Rattle.nextest_sources.specs.WarningsView.{warnings_view};
 ghost use Rattle.rinqebo_load.specs.SessionOf.{IsSessionOf};
 ghost use Rattle.rinqebo_load.specs.Sessions.{files_view, readings, IfLoaded, IsLoadedFrom};
-ghost use Rattle.rinqebo_load.specs.Beginning.{IsUnusable};
+ghost use Rattle.rinqebo_load.specs.Beginning.{IsBeginningFailure, IsUnusable};
 ghost use Rattle.rinqebo_load.specs.Warned.{warnings_met};
 
 use crate::engines::Engines;
@@ -59,6 +59,7 @@ impl<'g> Session<'g> {
         gathered: &'g Gathered,
     ) -> Result<Session<'g>, Failure>
         ensures begun { IfOk result (IsSessionOf request.now gathered.now) }
+        ensures err { IfErr result IsBeginningFailure }
         ensures cause { IfErr result (IsUnusable request.now gathered.now) }
     {
         let tests = listed_tests(alloc, list_path(request), gathered)?;

@@ -6,8 +6,13 @@ use Rattle.rinqebo_load.specs.InputFaults.{IsEngineFault, IsInputFault, IsListFa
 use Rattle.rinqebo_load.specs.ListPath.{path_of}
 use Rattle.rinqebo_load.specs.Triples.{host_for}
 use Rattle.rinqebo_load.proofs.Causes.{or_more}
-use Rattle.rinqebo_load.proofs.Failing.{unusable}
+use Rattle.rinqebo_load.proofs.Failing.{begins, unusable}
 use Rattle.rinqebo_load.proofs.session.Session.new.Goals as goal
+
+pub returns-in_err-tests-clause-err : goal.returns-in_err-tests-clause-err
+returns-in_err-tests-clause-err c =
+    let p = err_from_is_err_and c.from_residual.result c.from_residual.ensures.1 in
+    rw (p.1, p.2) (begins c.in_err-tests.field-0.0)
 
 pub returns-in_err-tests-clause-cause : goal.returns-in_err-tests-clause-cause
 returns-in_err-tests-clause-cause c =
@@ -18,6 +23,11 @@ returns-in_err-tests-clause-cause c =
     (IsInputFault c.args.request.now c.args.gathered.now) c.in_err-tests.field-0.0
     (λ why. inl (rw c.list_path.ensures at why)) c.in_err-tests.ensures.err))
 
+pub returns-in_err-host-clause-err : goal.returns-in_err-host-clause-err
+returns-in_err-host-clause-err c =
+    let p = err_from_is_err_and c.from_residual-in_err-host.result c.from_residual-in_err-host.ensures.1 in
+    rw (p.1, p.2) (begins c.in_err-host.field-0.0)
+
 pub returns-in_err-host-clause-cause : goal.returns-in_err-host-clause-cause
 returns-in_err-host-clause-cause c =
     let p = err_from_is_err_and c.from_residual-in_err-host.result c.from_residual-in_err-host.ensures.1 in
@@ -27,6 +37,11 @@ returns-in_err-host-clause-cause c =
     (IsInputFault c.args.request.now c.args.gathered.now) c.in_err-host.field-0.0
     (λ why. inr (record { tests = c.in_ok-tests.tests; are_tests = c.in_ok-tests.ensures.ok; cause = inl why }))
     c.in_err-host.ensures.err))
+
+pub returns-in_err-engines-clause-err : goal.returns-in_err-engines-clause-err
+returns-in_err-engines-clause-err c =
+    let p = err_from_is_err_and c.from_residual-in_err-engines.result c.from_residual-in_err-engines.ensures.1 in
+    rw (p.1, p.2) (begins c.in_err-engines.field-0.0)
 
 pub returns-in_err-engines-clause-cause : goal.returns-in_err-engines-clause-cause
 returns-in_err-engines-clause-cause c =
