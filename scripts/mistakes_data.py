@@ -20,11 +20,11 @@ class Text:
     lines: list = dataclasses.field(default_factory=list)
 
     def plain(self, line):
-        """A line, or a part of one, with what its marks stand for."""
+        """A line, or a part of one, with its marks replaced."""
         if "tabs" in self.flags:
             line = line.replace("→", "\t")
         if "bytes" in self.flags:
-            # A byte that is no character is one in the range of such bytes, as `surrogateescape` has it.
+            # A byte that is not a character is one in the range of such bytes, as in `surrogateescape`.
             line = BYTE.sub(lambda found: chr(0xDC00 + int(found[1], 16)), line)
         return line
 

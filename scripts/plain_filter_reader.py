@@ -177,7 +177,7 @@ class Reader:
 
 
 def pythons(regex):
-    """Python's regular expression for one of the `regex` crate, where they differ: a code may stand
+    """Python's regular expression for one of the `regex` crate, where they differ: a code may be
     in braces, counts may have blanks, braces count, and no letter beyond ASCII is escaped."""
     regex = re.sub(r"\\[uUx]{([0-9a-fA-F]{1,6})}", lambda m: "\\U" + m[1].zfill(8), regex)
     regex = re.sub(r"{\s*(\d+)\s*(,?)\s*(\d*)\s*}", r"{\1\2\3}", regex)

@@ -1,10 +1,10 @@
-/* Refuses a program what it asks of the system, where the environment says so. It is loaded before
- * the C library, by LD_PRELOAD.
+/* Lets requests of a program to the system fail, as variables say. It is loaded before the C library,
+ * by LD_PRELOAD.
  *
  * REFUSE_MEMORY=N    the Nth request for memory is refused, and the file REFUSE_TOLD is made then
  * REFUSE_ON=1        so are all requests behind it
- * READ_ROOM=N        reads give N bytes in all, and then fail
- * READ_STEP=N        a read gives at most N bytes
+ * READ_ROOM=N        reads return N bytes in all, and then fail
+ * READ_STEP=N        a read returns at most N bytes
  * WRITE_ROOM=N       writes take N bytes in all, and then fail
  * WRITE_STEP=N       a write takes at most N bytes
  * GROWS=PATH         the file at this path grows by GROWS_BY before each of the first three reads

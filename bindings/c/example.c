@@ -19,7 +19,7 @@ static struct rinqebo_test test_of(const char *binary, const char *name) {
     return test;
 }
 
-// Asks for the settings of a test, and returns how that went. But for DONE the settings stay as they were.
+// Queries the settings of a test, and returns the status. With any status but DONE the settings are unchanged.
 static uint32_t ask(const struct rinqebo_profile *profile, struct rinqebo_test test, struct rinqebo_settings *settings) {
     struct rinqebo_settings before;
     memset(settings, 7, sizeof *settings);
@@ -30,7 +30,7 @@ static uint32_t ask(const struct rinqebo_profile *profile, struct rinqebo_test t
     return kept == (status != RINQEBO_DONE) ? status : 99;
 }
 
-// The session of a request, or NULL where there is no memory for it.
+// The session of a request, or NULL if there is no memory for it.
 static struct rinqebo_session *load(const char *request) {
     struct rinqebo_session *session = malloc(rinqebo_session_size());
     if (session != NULL) {
@@ -182,7 +182,7 @@ static int check_refused(const char *request, uint32_t status) {
     return 0;
 }
 
-// The output of a run, in a buffer that is made as large as it has to be; NULL where there is no memory for it.
+// The output of a run, in a buffer that is made large enough; NULL if there is no memory for it.
 static uint8_t *run(const char *request, size_t length, uint32_t *status, size_t *needed) {
     size_t room = length + 1;
     uint8_t *answer = malloc(room);
@@ -196,10 +196,10 @@ static uint8_t *run(const char *request, size_t length, uint32_t *status, size_t
     return answer;
 }
 
-// What came of reading a file: OUTCOME, with TEXT, which is JSON.
+// The outcome of reading a file: OUTCOME, with TEXT, which is JSON.
 #define READ(PATH, OUTCOME, TEXT) "{\"path\": \"" PATH "\", \"outcome\": \"" OUTCOME "\", \"text\": " TEXT "}"
 
-// A request for a run over files, each as READ has it, for PROFILE and the tests of LIST.
+// A request for a run over files, each with the outcome READ, for PROFILE and the tests of LIST.
 #define RUN_OVER(FILE, CONFIG_FILE, PROFILE, LIST) \
     "{\"root\": \"/w\", \"file\": " FILE ", \"config-file\": " CONFIG_FILE "," \
     " \"organisation-config-file\": null, \"tools\": []," \
@@ -207,7 +207,7 @@ static uint8_t *run(const char *request, size_t length, uint32_t *status, size_t
     " \"host\": {\"triple\": \"x86_64-unknown-linux-gnu\", \"cfg\": null}, \"target\": null," \
     " \"profile\": \"" PROFILE "\", \"mode\": \"test\", \"list\": \"" LIST "\"}"
 
-// The same over the repository's own file, of this text.
+// The same over the repository's own file, with this text.
 #define RUN_REQUEST(TEXT, PROFILE, LIST) \
     RUN_OVER(READ("/w/.config/nextest.toml", "text", "\"" TEXT "\""), "null", PROFILE, LIST)
 
@@ -251,7 +251,7 @@ static int ends_with(const char *request, uint32_t wanted, const char *text) {
     return status == wanted && found;
 }
 
-// A whole run, with each status but that for want of memory. 0, or the number of the first check that fails.
+// A whole run, with each status but MEMORY. 0, or the number of the first check that fails.
 static int check_run(void) {
     static const char *asked = RUN_REQUEST("[profile.ci]\\nretries = 1\\n", "ci", LIST);
     if (!ends_with(asked, RINQEBO_DONE, "\"retries\":{\"origins\":[{\"index\":null,\"kind\":\"profile\",\"lines\":[2,2]")) return 50;
@@ -271,8 +271,8 @@ static int check_run(void) {
     return 0;
 }
 
-// Whether the comparison of two requests ends with a status and a side, and its output has this text; and whether it is
-// the same where it is kept.
+// Whether the comparison of two requests ends with a status and a side, and its output has this text; and whether the
+// output is the same if it is kept.
 static int compares(const char *from, const char *to, uint32_t origins, uint32_t wanted, uint32_t wanted_side,
                     const char *text) {
     static uint8_t answer[16384], kept_answer[16384];
@@ -295,8 +295,7 @@ static int compares(const char *from, const char *to, uint32_t origins, uint32_t
     return found && same;
 }
 
-// What changes between two runs, with each status but that for want of memory. 0, or the number of the first check that
-// fails.
+// What changes between two runs, with each status but MEMORY. 0, or the number of the first check that fails.
 static int check_diff(void) {
     static const char *older = RUN_REQUEST("[profile.ci]\\nretries = 1\\n", "ci", LIST);
     static const char *newer = RUN_REQUEST("[profile.ci]\\nretries = 2\\n", "ci", LIST);
@@ -322,7 +321,7 @@ static int check_diff(void) {
     return needed > 4 && side == RINQEBO_NO_SIDE && memcmp(answer, "wxyz", 4) == 0 ? 0 : 91;
 }
 
-// What came of reading files, in a session and in a run. 0, or the number of the first check that fails.
+// The outcomes of reading files, in a session and in a run. 0, or the number of the first check that fails.
 static int check_outcomes(void) {
     static const char *missing = RUN_OVER(READ("/f", "not-found", "null"), "null", "default", LIST);
     static const char *failed = RUN_OVER(READ("/f", "failed", "\"no UTF-8\""), "null", "default", LIST);
@@ -396,7 +395,7 @@ static void print_settings(const struct rinqebo_profile *profile, const char *bi
            settings.retries.count, (int)length, (const char *)group);
 }
 
-// Prints the output of a run, and returns its status, or 99 where there is no memory for it.
+// Prints the output of a run, and returns its status, or 99 if there is no memory for it.
 static int print_run(const char *request) {
     size_t needed = 0;
     uint32_t status = 0;

@@ -1,5 +1,5 @@
-// Lets each allocation of a whole run fail in turn: by then the run ends for want of memory, and leaves the buffer as
-// it was. It is linked with `-Wl,--wrap=malloc,--wrap=realloc`, so that the library's allocations come here.
+// Lets each allocation of a whole run fail in turn: the run then returns MEMORY, and leaves the buffer unchanged. It is
+// linked with `-Wl,--wrap=malloc,--wrap=realloc`, so that the library's allocations come here.
 //
 //   memory REQUEST       prints how many allocations a run makes, and exits with 0 if each check holds
 //   memory REQUEST TO    the same of the comparison of two requests
@@ -11,7 +11,7 @@
 void *__real_malloc(size_t size);
 void *__real_realloc(void *block, size_t size);
 
-// How many allocations are made still until one fails, and 0 where none does.
+// How many more allocations are made until one fails, and 0 if none does.
 static size_t left;
 
 static int fails(void) {
@@ -55,7 +55,7 @@ int main(int count, char **words) {
             if (status != RINQEBO_DONE || needed == 0 || side != RINQEBO_NO_SIDE) return 4;
             break;
         }
-        if (status == RINQEBO_DONE) continue; // the run did without what it asked for
+        if (status == RINQEBO_DONE) continue; // the run did without this allocation
         if (status != RINQEBO_MEMORY || needed != 0 || answer[0] != 0 || side != RINQEBO_NO_SIDE) return 5;
         refused++;
     }

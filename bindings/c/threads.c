@@ -1,7 +1,7 @@
-// Threads, each with sessions of its own: loads a request again and again, asks for the settings of a test and reads the
+// Threads, each with sessions of its own: loads a request again and again, queries the settings of a test and reads the
 // objects of a profile, and compares them with those of the first load.
 //
-//   threads THREADS LOADS REQUEST      exits with 0 if each load gives the same
+//   threads THREADS LOADS REQUEST      exits with 0 if each load has the same result
 #include "rinqebo.h"
 #include <pthread.h>
 #include <stdio.h>
@@ -10,7 +10,7 @@
 
 #define ROOM (1 << 16)
 
-// What a load gives: the settings of a test, its arguments and the objects of the profile.
+// The result of a load: the settings of a test, its arguments and the objects of the profile.
 struct given {
     struct rinqebo_settings settings;
     size_t length;
@@ -41,7 +41,7 @@ static int ask(const struct rinqebo_profile *profile, struct given *given) {
     return 1;
 }
 
-// One load. 0 where a call fails.
+// One load. 0 if a call fails.
 static int load(void *session_room, void *profile_room, struct given *given) {
     struct rinqebo_session *session = session_room;
     struct rinqebo_profile *profile = profile_room;

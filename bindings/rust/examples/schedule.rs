@@ -1,11 +1,11 @@
-//! From the list of tests that `cargo nextest list --message-format json` prints to a plan of a run.
+//! Prints the plan of a run, from the list of tests that `cargo nextest list --message-format json` prints.
 //!
 //!     schedule CONFIG LIST PROFILE PROCESSORS
 //!
-//! The tests are those that the profile's default filter matches and that the list does not say to be ignored.
+//! The tests are those that the profile's default filter matches and that the list does not mark as ignored.
 //! A test starts as soon as its threads are free and its group has room, those of a higher priority first. The
-//! clock is simulated: each test takes one tick. The plan begins with what the profile says for the whole run
-//! and the setup scripts that the configuration defines. A line of a test has the tick, the test, its threads and
+//! clock is simulated: each test takes one tick. The plan begins with the values of the profile for the whole
+//! run and the setup scripts that the configuration defines. A line of a test has the tick, the test, its threads and
 //! its group; then the variables that its wrapper sets, and the command that runs it. No other file is opened.
 
 use rinqebo::{Command, Config, Error, GroupThreads, Platform, Profile, RunSettings, Schedule, SetupScript, Sources};
@@ -53,7 +53,7 @@ struct Planned<'l> {
     schedule: Schedule,
 }
 
-/// The test of a name, as the library takes it.
+/// A test by its name, for the library.
 fn test_of<'l>(suite: &'l Suite, name: &'l str) -> Test<'l> {
     Test::named(name)
         .in_binary(&suite.binary_id)
@@ -117,7 +117,7 @@ fn next_tick<'l>(waiting: &mut Vec<Planned<'l>>, test_threads: u64, processors: 
     started
 }
 
-/// Variables and words as a shell reads them, as far as a plan needs it.
+/// Variables and words, quoted for a shell as far as a plan needs it.
 fn line_of(env: &BTreeMap<String, String>, words: &[String]) -> String {
     let quoted = |word: &String| if word.contains(' ') { format!("'{word}'") } else { word.clone() };
     let set = env.iter().map(|(key, text)| format!("{key}={}", quoted(text)));
@@ -143,7 +143,7 @@ fn print_run(run: &RunSettings, setup: &[SetupScript], processors: u64) {
     }
 }
 
-/// The line of the command that runs a test, with the variables that it is given.
+/// The command that runs a test on one line, with its variables.
 fn command_line(profile: &Profile<'_>, wrappers: &[WrapperScript], test: &Planned<'_>) -> Result<String, Error> {
     let settings = profile.settings(&test_of(test.suite, test.name))?;
     let wrapper = wrappers.iter().find(|wrapper| Some(&wrapper.id) == settings.run_wrapper.as_ref());

@@ -1,9 +1,9 @@
-//! Prints what a setting is for each test of a list, by one call.
+//! Prints the value of a setting for each test of a list, by one call.
 //!
 //!     settings CONFIG LIST PROFILE KEY
 //!
-//! LIST is a file with what `cargo nextest list --message-format json` prints, and `METADATA` may name one
-//! with what `cargo metadata` prints.
+//! LIST is a file with the output of `cargo nextest list --message-format json`, and the variable `METADATA` may name
+//! one with the output of `cargo metadata`.
 
 use rinqebo::{resolve, Mode, RunRequest, Sources};
 use std::error::Error;

@@ -11,7 +11,7 @@ use std::fmt;
 #[derive(Clone, Copy, Debug, Default, PartialEq, Eq)]
 #[non_exhaustive]
 pub struct DiffOptions {
-    /// Whether other origins of a value that is the same are a change too.
+    /// Whether a value that is the same and comes from elsewhere is a change too.
     pub with_origins: bool,
 }
 
@@ -26,7 +26,7 @@ pub enum SideName {
 }
 
 impl SideName {
-    /// The side that the library has a number for, if it names one.
+    /// The side of a number of the library, if it is one.
     fn of(number: u32) -> Option<SideName> {
         match number {
             1 => Some(SideName::From),
@@ -45,8 +45,8 @@ impl fmt::Display for SideName {
     }
 }
 
-/// What changes from one run to another. It serializes as `rinqebo diff --format json` has it, without the members
-/// `command` and `version`.
+/// What changes from one run to another. It serializes as the document of `rinqebo diff --format json`, without the
+/// members `command` and `version`.
 #[derive(Clone, Debug, PartialEq, Serialize, Deserialize)]
 #[serde(rename_all = "kebab-case")]
 #[non_exhaustive]
@@ -59,11 +59,11 @@ pub struct Diff {
     pub compared: u64,
     /// How many of these change.
     pub changed: u64,
-    /// What changes for them, each change with its tests, in the order of the settings.
+    /// What changes for these tests, in the order of the settings. Each change has its tests.
     pub changes: Vec<Change>,
-    /// The tests of the left list alone.
+    /// The tests that only the left list has.
     pub removed: Vec<TestId>,
-    /// The tests of the right list alone.
+    /// The tests that only the right list has.
     pub added: Vec<TestId>,
     /// What changes for the whole run.
     pub run: Vec<RunChange>,
@@ -76,22 +76,22 @@ impl Diff {
     }
 }
 
-/// A side as a diff reports it.
+/// A side of a diff.
 #[derive(Clone, Debug, PartialEq, Eq, Serialize, Deserialize)]
 #[serde(rename_all = "kebab-case")]
 #[non_exhaustive]
 pub struct DiffSide {
     /// The workspace's root.
     pub root: String,
-    /// The files that count, the lowest first; before them the built-in defaults.
+    /// The built-in defaults, and then the files, the lowest first.
     pub sources: Vec<Source>,
     pub profile: String,
-    /// The profiles that count, the nearest first.
+    /// The profile and its ancestors, the nearest first, and last `default`.
     pub chain: Vec<String>,
     pub mode: Mode,
-    /// The triple of the machine that builds.
+    /// The triple of the host.
     pub host: String,
-    /// The triple of the machine that is built for, if there is one.
+    /// The triple of the target, if there is one.
     pub target: Option<String>,
 }
 
@@ -102,26 +102,26 @@ pub struct DiffSide {
 pub struct TestId {
     pub binary_id: String,
     pub name: String,
-    /// For which machine its binary is built.
+    /// The platform that its binary is built for.
     pub platform: Platform,
 }
 
-/// A setting as a side gives it.
+/// A setting on one side.
 #[derive(Clone, Debug, PartialEq, Serialize, Deserialize)]
 #[non_exhaustive]
 pub struct Given {
-    /// Its key, or `runs` for whether a test runs.
+    /// Its key, or `runs`: whether a test runs.
     pub key: String,
-    /// Its value; `null` where it has none.
+    /// Its value; `null` if it has none.
     pub value: serde_json::Value,
-    /// What decides it. The sources are those of the side.
+    /// Where the value comes from. The sources are those of the side.
     pub origins: Vec<Origin>,
-    /// Whether a test does not run because the side's list says that it is ignored.
+    /// Whether a test does not run because the list of this side marks it as ignored.
     #[serde(default, skip_serializing_if = "std::ops::Not::not")]
     pub ignored: bool,
 }
 
-/// A setting of some tests that changes alike for all of them.
+/// A setting that changes in the same way for some tests.
 #[derive(Clone, Debug, PartialEq, Serialize, Deserialize)]
 #[non_exhaustive]
 pub struct Change {
@@ -142,9 +142,9 @@ pub struct RunChange {
 #[derive(Clone, Debug, PartialEq, Eq)]
 #[non_exhaustive]
 pub struct DiffError {
-    /// The side that has no result; `None` where the error is that of no side, as where memory is refused.
+    /// The side that has no result; `None` if the error is about neither side, such as refused memory.
     pub side: Option<SideName>,
-    /// Why there is none.
+    /// Why it has none.
     pub error: Error,
 }
 
@@ -175,7 +175,7 @@ impl std::error::Error for DiffError {
     }
 }
 
-/// Compares two runs: returns what changes from the first to the second.
+/// Compares two runs, and returns what changes from the first to the second.
 ///
 /// ```no_run
 /// # fn main() -> Result<(), Box<dyn std::error::Error>> {
@@ -198,7 +198,7 @@ pub fn diff(from: &RunRequest<'_>, to: &RunRequest<'_>, options: &DiffOptions) -
     diff_json(&from, &to, options)
 }
 
-/// Compares the runs of two requests in JSON.
+/// Compares the runs of two requests in JSON, and returns what changes from the first to the second.
 pub fn diff_json(from: &[u8], to: &[u8], options: &DiffOptions) -> Result<Diff, DiffError> {
     check_version()?;
     let (run, side) = Run::of_diff(from, to, options.with_origins)?;

@@ -1,4 +1,4 @@
-//! The document of a run, as the library writes it in JSON.
+//! The document of a run, which the library writes in JSON.
 
 use crate::objects::Objects;
 use crate::{Error, Mode, Platform};
@@ -12,17 +12,17 @@ use std::collections::BTreeMap;
 pub struct Document {
     /// The workspace's root.
     pub root: String,
-    /// The files that count, the lowest first; before them the built-in defaults.
+    /// The built-in defaults, and then the files, the lowest first.
     pub sources: Vec<Source>,
     pub profile: String,
-    /// The profiles that count, the nearest first.
+    /// The profile and its ancestors, the nearest first, and last `default`.
     pub chain: Vec<String>,
     pub mode: Mode,
-    /// The triple of the machine that builds.
+    /// The triple of the host.
     pub host: String,
-    /// The triple of the machine that is built for, if there is one.
+    /// The triple of the target, if there is one.
     pub target: Option<String>,
-    /// The tests of the list, in the order of the keys under which it has their binaries.
+    /// The tests of the list, in the order of the keys of their binaries.
     pub tests: Vec<TestRow>,
     /// The warnings of the files.
     pub findings: Vec<Finding>,
@@ -32,8 +32,8 @@ pub struct Document {
     pub setup_scripts: Vec<String>,
     /// The list wrappers of the binaries that have one, in the order of the list's keys.
     pub list_wrappers: Vec<ListWrapper>,
-    /// What a runner needs of the profile beside the settings of tests. Programs are joined to the target directory that
-    /// the list names.
+    /// What a runner needs of the profile beside the settings of tests. Programs are joined to the target directory of
+    /// the list.
     pub objects: Objects,
 }
 
@@ -47,7 +47,7 @@ pub struct ListWrapper {
     pub value: String,
 }
 
-/// A source.
+/// A source of the configuration.
 #[derive(Clone, Debug, PartialEq, Eq, Serialize, Deserialize)]
 #[non_exhaustive]
 pub struct Source {
@@ -68,7 +68,7 @@ pub enum SourceKind {
     Organisation,
     /// The repository's file that a user named.
     Explicit,
-    /// The repository's file in its own place.
+    /// The repository's file at its usual path.
     Discovered,
 }
 
@@ -79,7 +79,7 @@ pub enum SourceKind {
 pub struct TestRow {
     pub binary_id: String,
     pub name: String,
-    /// For which machine its binary is built.
+    /// The platform that its binary is built for.
     pub platform: Platform,
     /// Whether it runs.
     pub runs: Runs,
@@ -87,12 +87,12 @@ pub struct TestRow {
     pub settings: BTreeMap<String, Setting>,
 }
 
-/// Whether a test runs: whether the default filter that counts matches it, and no list says that it is ignored.
+/// Whether a test runs: the default filter that counts matches it, and the list does not mark it as ignored.
 #[derive(Clone, Debug, PartialEq, Eq, Serialize, Deserialize)]
 #[non_exhaustive]
 pub struct Runs {
     pub value: bool,
-    /// Whether the list says that the test is ignored.
+    /// Whether the list marks the test as ignored.
     #[serde(default, skip_serializing_if = "std::ops::Not::not")]
     pub ignored: bool,
     /// Where the default filter is written.
@@ -103,22 +103,22 @@ pub struct Runs {
 #[derive(Clone, Debug, PartialEq, Serialize, Deserialize)]
 #[non_exhaustive]
 pub struct Setting {
-    /// Its value; `null` where it has none.
+    /// Its value; `null` if it has none.
     pub value: serde_json::Value,
-    /// What decides it.
+    /// Where the value comes from.
     pub origins: Vec<Origin>,
 }
 
-/// What decides a setting.
+/// Where a value comes from.
 #[derive(Clone, Debug, PartialEq, Eq, Serialize, Deserialize)]
 #[non_exhaustive]
 pub struct Origin {
     pub kind: OriginKind,
-    /// The profile that has it.
+    /// The profile that writes it.
     pub profile: Option<String>,
-    /// The place of a rule among those of its list, from 0.
+    /// The position of the rule in its list, from 0.
     pub index: Option<usize>,
-    /// The place of the source among those of the document, from 0.
+    /// The position of the source among those of the document, from 0.
     pub source: Option<usize>,
     /// The first and the last line.
     pub lines: Option<(usize, usize)>,
@@ -139,7 +139,7 @@ pub enum OriginKind {
     Profile,
     Override,
     Script,
-    /// A table of a file beside its profiles, as that of a group.
+    /// A table of a file beside its profiles, such as a test group.
     File,
 }
 
@@ -147,7 +147,7 @@ pub enum OriginKind {
 #[derive(Clone, Debug, PartialEq, Eq, Serialize, Deserialize)]
 #[non_exhaustive]
 pub struct Finding {
-    /// Its code, as `unknown-key`.
+    /// Its code, such as `unknown-key`.
     pub code: String,
     /// The name that nextest-runner has for it.
     pub upstream: Option<String>,
@@ -158,21 +158,21 @@ pub struct Finding {
     /// The path of the file, in a finding of a configuration that is loaded.
     #[serde(default, skip_serializing_if = "Option::is_none")]
     pub file: Option<String>,
-    /// The place of the source among those of the document, from 0.
+    /// The position of the source among those of the document, from 0.
     pub source: Option<usize>,
     /// The first and the last line.
     pub lines: Option<(usize, usize)>,
     /// The lines and columns at which it starts and ends.
     pub range: Option<Range>,
     pub column: Option<usize>,
-    /// The filter or the platform that it is about, and the bytes of it that it marks.
+    /// The filter or the platform that it is about, and the bytes at fault.
     pub expression: Option<String>,
     pub span: Option<(usize, usize)>,
-    /// What would be right there.
+    /// What was expected.
     pub expected: Option<String>,
     /// What to do.
     pub help: Option<String>,
-    /// What else helps to see what is wrong.
+    /// Notes that explain it.
     pub notes: Vec<String>,
 }
 
@@ -188,19 +188,19 @@ pub enum Level {
 #[derive(Clone, Debug, PartialEq, Eq, Serialize)]
 #[non_exhaustive]
 pub struct Refusal {
-    /// Why, in words.
+    /// The reason, for people.
     pub reason: String,
-    /// What is wrong with the files, one by one. A configuration that is loaded has the words alone.
+    /// What is wrong with the files, one by one. It is empty if a session is loaded: then there is the reason alone.
     pub findings: Vec<Finding>,
 }
 
 impl Refusal {
-    /// A refusal in words.
+    /// A refusal with a reason alone.
     pub(crate) fn of(reason: String) -> Refusal {
         Refusal { reason, findings: Vec::new() }
     }
 
-    /// The refusal that a document has.
+    /// The refusal in a document.
     pub(crate) fn read(document: &[u8]) -> Result<Refusal, Error> {
         #[derive(Deserialize)]
         struct Findings {

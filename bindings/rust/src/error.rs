@@ -1,9 +1,9 @@
-//! Why a call gives nothing.
+//! Why a call fails.
 
 use crate::document::Refusal;
 use std::fmt;
 
-/// Why a call gives nothing, with the words of the library where it has some.
+/// Why a call fails, with the message of the library if it has one.
 #[derive(Clone, Debug, PartialEq, Eq)]
 #[non_exhaustive]
 pub enum Error {
@@ -19,18 +19,18 @@ pub enum Error {
     Memory,
     /// The request is not valid UTF-8.
     NotText,
-    /// A filter of the profile asks for a part of the test that is empty.
+    /// A filter of the profile uses a part of the test that is empty.
     NotKnown,
-    /// The library that is linked is of this version, and not of [`crate::VERSION`].
+    /// The linked library has this version, and not [`crate::VERSION`].
     Version(String),
-    /// What the library returned is not understood.
+    /// The output of the library is not understood.
     Unreadable(String),
-    /// A number that this version does not know.
+    /// A status that this version does not know.
     Unknown(u32),
 }
 
 impl Error {
-    /// The error of an answer that is not of its form.
+    /// The error of output that is not of its form.
     pub(crate) fn unreadable(error: serde_json::Error) -> Error {
         Error::Unreadable(error.to_string())
     }
@@ -59,11 +59,11 @@ impl fmt::Display for Error {
             Error::NoProfile(refusal) => f.write_str(&refusal.reason),
             Error::NotText => f.write_str("the request is not valid UTF-8"),
             Error::Memory => f.write_str("out of memory"),
-            Error::NotKnown => f.write_str("a filter of the profile asks for a part of the test that is empty"),
+            Error::NotKnown => f.write_str("a filter of the profile uses a part of the test that is empty"),
             Error::Version(version) => {
-                write!(f, "the library is of version {version}, and not of {}", crate::VERSION)
+                write!(f, "the library has version {version}, and not {}", crate::VERSION)
             }
-            Error::Unreadable(reason) => write!(f, "the answer of the library is not understood: {reason}"),
+            Error::Unreadable(reason) => write!(f, "the output of the library is not understood: {reason}"),
             Error::Unknown(status) => write!(f, "status {status}"),
         }
     }

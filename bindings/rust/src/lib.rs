@@ -17,7 +17,7 @@
 //! A [`Config`] may move to another thread (`Send`), since it owns all that it points to. It is not
 //! `Sync`: the library is promised one call at a time on each configuration and its profiles, and two
 //! threads that share one could break that. So a [`Profile`], which borrows its configuration, stays
-//! on the thread of that one. Threads that ask at once have a configuration each, or share one in a
+//! on the thread of that one. Threads that query at the same time have a configuration each, or share one in a
 //! `Mutex` and open its profiles under the lock.
 
 mod diff;
@@ -65,7 +65,7 @@ const UNKNOWN_NUMBER: u32 = 9;
 const DEFAULT: &str = "default";
 const NO_NAME: usize = usize::MAX;
 
-/// For which machine a binary is built.
+/// The platform that a binary is built for.
 #[derive(Clone, Copy, Debug, PartialEq, Eq, Serialize, Deserialize)]
 #[serde(rename_all = "kebab-case")]
 pub enum Platform {
@@ -73,7 +73,7 @@ pub enum Platform {
     Target,
 }
 
-/// For what tests are run.
+/// The run mode.
 #[derive(Clone, Copy, Debug, PartialEq, Eq, Serialize, Deserialize)]
 #[serde(rename_all = "kebab-case")]
 pub enum Mode {
@@ -83,7 +83,7 @@ pub enum Mode {
 
 /// A test, and what is known of its binary, each as nextest lists it.
 ///
-/// Filters may ask for each part, so that each has to be given:
+/// A filter may use any part, so each has to be given:
 ///
 /// ```
 /// let test = rinqebo::Test::named("db::reads").in_binary("api").of_target("lib", "api").of_package("api 0.1.0");
@@ -99,14 +99,14 @@ pub struct Test<'a> {
     mode: Mode,
 }
 
-/// The name of a test, whose binary is still to be given.
+/// The name of a test. Its binary has to follow.
 #[derive(Clone, Copy, Debug)]
 #[must_use]
 pub struct NamedTest<'a> {
     name: &'a str,
 }
 
-/// A test of a binary, whose target is still to be given.
+/// A test of a binary. Its target has to follow.
 #[derive(Clone, Copy, Debug)]
 #[must_use]
 pub struct BinaryTest<'a> {
@@ -114,7 +114,7 @@ pub struct BinaryTest<'a> {
     binary: &'a str,
 }
 
-/// A test of a binary's target, whose package is still to be given.
+/// A test of a binary's target. Its package has to follow.
 #[derive(Clone, Copy, Debug)]
 #[must_use]
 pub struct TargetTest<'a> {
@@ -124,21 +124,21 @@ pub struct TargetTest<'a> {
 }
 
 impl<'a> NamedTest<'a> {
-    /// The id of its binary, as `api::smoke`.
+    /// Sets the id of the test's binary, such as `api::smoke`.
     pub fn in_binary(self, binary: &'a str) -> BinaryTest<'a> {
         BinaryTest { name: self.name, binary }
     }
 }
 
 impl<'a> BinaryTest<'a> {
-    /// The kind of the binary's target, as `lib` or `test`, and the name of that target.
+    /// Sets the kind of the binary's target, such as `lib` or `test`, and the name of that target.
     pub fn of_target(self, kind: &'a str, target: &'a str) -> TargetTest<'a> {
         TargetTest { of: self, kind, target }
     }
 }
 
 impl<'a> TargetTest<'a> {
-    /// The id of the binary's package.
+    /// Sets the id of the binary's package.
     pub fn of_package(self, package: &'a str) -> Test<'a> {
         Test {
             package,
@@ -153,19 +153,19 @@ impl<'a> TargetTest<'a> {
 }
 
 impl<'a> Test<'a> {
-    /// A test of a name. Its binary is built for the target, and it is run as a test, unless
+    /// Returns a test with this name. Its binary is built for the target, and it is run as a test, unless
     /// [`Test::on`] and [`Test::run_as`] say otherwise.
     pub fn named(name: &'a str) -> NamedTest<'a> {
         NamedTest { name }
     }
 
-    /// The same test, of a binary that is built for this platform.
+    /// Returns the same test, of a binary that is built for this platform.
     #[must_use]
     pub fn on(self, platform: Platform) -> Test<'a> {
         Test { platform, ..self }
     }
 
-    /// The same test, run so.
+    /// Returns the same test, run in this mode.
     #[must_use]
     pub fn run_as(self, mode: Mode) -> Test<'a> {
         Test { mode, ..self }
@@ -217,7 +217,7 @@ fn copied(copy: impl Fn(&mut [u8], &mut usize) -> u32) -> Result<String, u32> {
     }
 }
 
-/// A configuration that was loaded.
+/// A loaded configuration.
 pub struct Config {
     room: Room,
 }
@@ -227,12 +227,12 @@ pub struct Config {
 unsafe impl Send for Config {}
 
 impl Config {
-    /// Loads the configuration of some texts.
+    /// Loads a configuration from the texts of its files.
     pub fn load(sources: &Sources) -> Result<Config, Error> {
         Config::from_json(&json_of(sources)?)
     }
 
-    /// Loads the configuration of a request in JSON.
+    /// Loads a configuration by a request in JSON, which `docs/LIBRARY.md` describes.
     pub fn from_json(request: &[u8]) -> Result<Config, Error> {
         check_version()?;
         // SAFETY: it takes nothing.
@@ -256,7 +256,7 @@ impl Config {
         .unwrap_or_default()
     }
 
-    /// The profile of a name.
+    /// Opens the profile with this name.
     pub fn profile(&self, name: &str) -> Result<Profile<'_>, Error> {
         // SAFETY: it takes nothing.
         let room = Room::new(unsafe { ffi::rinqebo_profile_size() })?;
@@ -279,17 +279,17 @@ impl Config {
         self.profile("default")?.objects()
     }
 
-    /// The names of its profiles.
+    /// Returns the names of its profiles.
     pub fn profiles(&self) -> Result<Vec<String>, Error> {
         Ok(self.objects()?.run.profiles)
     }
 
-    /// The groups that it defines, by name.
+    /// Returns the groups that it defines, sorted by name.
     pub fn groups(&self) -> Result<Vec<Group>, Error> {
         Ok(self.objects()?.groups)
     }
 
-    /// The warnings of its load, in their order. They have no places in the files.
+    /// Returns the warnings of its load, in their order. They have no places in the files.
     pub fn findings(&self) -> Result<Vec<Finding>, Error> {
         Ok(self.objects()?.warnings.iter().flat_map(Warning::findings).collect())
     }
@@ -324,28 +324,28 @@ impl Profile<'_> {
         self.text(kind, index)
     }
 
-    /// What a runner needs of it beside the settings of tests.
+    /// Returns what a runner needs of the profile beside the settings of tests.
     pub fn objects(&self) -> Result<Objects, Error> {
         let text = self.text(OBJECTS, 0).ok_or(Error::Unknown(UNKNOWN_NUMBER))?;
         serde_json::from_str(&text).map_err(Error::unreadable)
     }
 
-    /// What it says for a whole run.
+    /// Returns the values of the profile for a whole run.
     pub fn run(&self) -> Result<RunSettings, Error> {
         Ok(self.objects()?.run)
     }
 
-    /// The setup scripts that its configuration defines, in the order in which they run.
+    /// Returns the setup scripts that the configuration defines, in the order in which they run.
     pub fn setup_scripts(&self) -> Result<Vec<SetupScript>, Error> {
         Ok(self.objects()?.setup_scripts)
     }
 
-    /// The wrapper scripts that its configuration defines.
+    /// Returns the wrapper scripts that the configuration defines.
     pub fn wrappers(&self) -> Result<Vec<WrapperScript>, Error> {
         Ok(self.objects()?.wrappers)
     }
 
-    /// The profiles that count, the nearest first: itself, those that it inherits from, and `default`.
+    /// Returns the names of the profile, of those that it inherits from, the nearest first, and `default`.
     pub fn chain(&self) -> Result<Vec<String>, Error> {
         let mut run = self.run()?;
         let mut chain = Vec::new();
@@ -358,7 +358,7 @@ impl Profile<'_> {
         Ok(chain)
     }
 
-    /// The arguments that a test is given: so many.
+    /// The arguments of a test, of which there are `count`.
     fn arguments(&self, test: &Test<'_>, count: usize) -> Result<Vec<String>, Error> {
         let test = test.numbers();
         let argument = |index| {
@@ -387,7 +387,7 @@ impl Profile<'_> {
         }
     }
 
-    /// What a scheduler needs of a test, with its group as an index. It takes no memory.
+    /// Returns what a scheduler needs of a test, with its group as an index. It takes no memory.
     pub fn schedule(&self, test: &Test<'_>) -> Result<Schedule, Error> {
         let numbers = self.numbers(test)?;
         Ok(Schedule {
@@ -399,12 +399,12 @@ impl Profile<'_> {
         })
     }
 
-    /// The name of the group of an index.
+    /// Returns the name of the group with this index.
     pub fn group_name(&self, index: usize) -> Option<String> {
         self.name(GROUP, index)
     }
 
-    /// The settings that the profile gives to a test.
+    /// Returns the settings that the profile gives to a test.
     pub fn settings(&self, test: &Test<'_>) -> Result<TestSettings, Error> {
         let numbers = self.numbers(test)?;
         let test_group = self.name(GROUP, numbers.test_group).map(|name| Group {
@@ -446,7 +446,7 @@ impl Drop for Profile<'_> {
 #[serde(rename_all = "kebab-case")]
 #[non_exhaustive]
 pub struct Schedule {
-    /// A higher one runs earlier.
+    /// Tests of a higher priority start earlier.
     pub priority: i32,
     /// Whether the profile's default filter matches the test.
     pub in_default_filter: bool,

@@ -8,7 +8,7 @@ use std::collections::BTreeMap;
 use std::path::{Path, PathBuf};
 use std::time::Duration;
 
-/// How many tests of a run run at a time.
+/// How many tests run at a time.
 pub type TestThreads = GroupThreads;
 
 /// After how many failures a run ends.
@@ -66,18 +66,18 @@ pub enum FinalStatusLevel {
 pub struct JunitFile {
     /// Where it is written.
     pub path: String,
-    /// The name that it gives itself.
+    /// The name of the report.
     pub report_name: String,
 }
 
-/// What a profile says for a whole run.
+/// The values of a profile for a whole run.
 #[derive(Clone, Debug, PartialEq, Eq, Serialize, Deserialize)]
 #[serde(rename_all = "kebab-case")]
 #[non_exhaustive]
 pub struct RunSettings {
     /// The name of the profile.
     pub profile: String,
-    /// The profile that it inherits from, as it writes it.
+    /// The profile that `inherits` names, if it is written.
     pub inherits: Option<String>,
     /// The names of all profiles.
     pub profiles: Vec<String>,
@@ -90,9 +90,9 @@ pub struct RunSettings {
     pub junit: Option<JunitFile>,
     /// The directory in which the profile stores what it writes.
     pub store_dir: String,
-    /// The default filter, as it is written: `all()` where no file writes one.
+    /// The text of the default filter that counts; `all()` if no file writes one.
     pub default_filter: String,
-    /// The arguments that a test is given where no rule says so.
+    /// The arguments of tests for which no rule sets them.
     pub run_extra_args: Vec<String>,
 }
 
@@ -110,7 +110,7 @@ pub enum RelativeTo {
 #[serde(rename_all = "kebab-case")]
 #[non_exhaustive]
 pub struct Command {
-    /// The program: joined to the directory that it is relative to, where the target directory was given.
+    /// The program. If a target directory was given, it is joined to the directory that it is relative to.
     pub program: String,
     pub args: Vec<String>,
     /// The environment variables that it sets.
@@ -119,7 +119,7 @@ pub struct Command {
 }
 
 impl Command {
-    /// The command as the standard library runs it.
+    /// Returns the command for the standard library to run.
     pub fn to_std(&self) -> std::process::Command {
         let mut command = std::process::Command::new(&self.program);
         command.args(&self.args).envs(&self.env);
@@ -127,20 +127,20 @@ impl Command {
     }
 }
 
-/// When a setup script counts as slow, and when it is ended.
+/// When a setup script counts as slow, and when it is terminated.
 #[derive(Clone, Copy, Debug, PartialEq, Eq, Serialize, Deserialize)]
 #[serde(rename_all = "kebab-case")]
 #[non_exhaustive]
 pub struct ScriptTimeout {
     #[serde(with = "spelled::duration")]
     pub period: Duration,
-    /// After how many periods it is ended.
+    /// After how many periods it is terminated.
     pub terminate_after: Option<u64>,
     #[serde(with = "spelled::duration")]
     pub grace_period: Duration,
 }
 
-/// What a report keeps of a setup script.
+/// What the report keeps of a setup script.
 #[derive(Clone, Copy, Debug, PartialEq, Eq, Serialize, Deserialize)]
 #[serde(rename_all = "kebab-case")]
 #[non_exhaustive]
@@ -174,7 +174,7 @@ pub struct SetupScript {
     pub tests: Option<Vec<ListTest>>,
 }
 
-/// What a wrapper makes of the runner of a target.
+/// How a wrapper combines with the runner of a target.
 #[derive(Clone, Copy, Debug, PartialEq, Eq, Serialize, Deserialize)]
 #[serde(rename_all = "kebab-case")]
 pub enum TargetRunner {
@@ -184,7 +184,7 @@ pub enum TargetRunner {
     AroundWrapper,
 }
 
-/// A script that runs round tests, or round binaries that list their tests.
+/// A script that wraps tests, or binaries that list their tests.
 #[derive(Clone, Debug, PartialEq, Eq, Serialize, Deserialize)]
 #[serde(rename_all = "kebab-case")]
 #[non_exhaustive]
@@ -194,7 +194,8 @@ pub struct WrapperScript {
     pub target_runner: TargetRunner,
 }
 
-/// The objects of a profile, as the library writes them in JSON, for a session and in the document of a run.
+/// What a runner needs of a profile beside the settings of tests. The library writes it in JSON, for a session and in
+/// the document of a run.
 #[derive(Clone, Debug, PartialEq, Eq, Serialize, Deserialize)]
 #[serde(rename_all = "kebab-case")]
 #[non_exhaustive]
@@ -215,7 +216,7 @@ pub struct Objects {
 #[derive(Clone, Debug, PartialEq, Eq, Serialize, Deserialize)]
 #[non_exhaustive]
 pub struct Warning {
-    /// Its code, as `unknown-key`.
+    /// Its code, such as `unknown-key`.
     pub code: String,
     /// The path of the file.
     pub file: String,
@@ -258,8 +259,8 @@ impl Warning {
         }
     }
 
-    /// The findings that a whole run reports for it, one for each of its names, without places in the file, help
-    /// and notes. The message of an unknown key says only that the key has no effect.
+    /// Returns the findings that a whole run reports for it, one for each of its names, without places in the file,
+    /// help and notes. The message of an unknown key says only that the key has no effect.
     pub fn findings(&self) -> Vec<Finding> {
         let of_names = |words: fn(&str) -> (String, String)| {
             let findings = self.names.iter().map(|name| words(name));
@@ -285,12 +286,12 @@ impl Warning {
 }
 
 impl RunSettings {
-    /// The directory in which the profile stores what it writes, as a path.
+    /// Returns the directory in which the profile stores what it writes, as a path.
     pub fn store(&self) -> &Path {
         Path::new(&self.store_dir)
     }
 
-    /// Where the report of the run is written, if one is.
+    /// Returns the path of the run's report, if one is written.
     pub fn junit_path(&self) -> Option<PathBuf> {
         self.junit.as_ref().map(|junit| PathBuf::from(&junit.path))
     }

@@ -1,20 +1,20 @@
-//! Room for a value of the library, at an address that stays.
+//! Memory for a value of the library, at an address that does not change.
 
 use crate::Error;
 use std::alloc::{alloc, dealloc, Layout};
 use std::ptr::NonNull;
 
-/// The alignment that the library asks for.
+/// The alignment that the library requires.
 const ALIGNMENT: usize = 16;
 
-/// Room that is freed when it is dropped. What lies in it is not.
+/// Memory that is freed when it is dropped. The value in it is not freed.
 pub struct Room {
     at: NonNull<u8>,
     layout: Layout,
 }
 
 impl Room {
-    /// Room of some bytes, of which nothing is known.
+    /// Allocates so many bytes, uninitialized.
     pub fn new(size: usize) -> Result<Room, Error> {
         let layout = Layout::from_size_align(size.max(1), ALIGNMENT).map_err(|_| Error::Memory)?;
         // SAFETY: the size is not 0.

@@ -7,7 +7,7 @@ use crate::{ffi, json_of, Error, Mode, Sources, DONE};
 use serde::de::DeserializeOwned;
 use serde::Serialize;
 
-/// The request of a run: all settings that a profile gives to each test of a list.
+/// A request for a run: all settings that a profile gives to each test of a list.
 #[derive(Clone, Copy, Debug, Serialize)]
 pub struct RunRequest<'a> {
     #[serde(flatten)]
@@ -15,16 +15,16 @@ pub struct RunRequest<'a> {
     /// The name of the profile.
     pub profile: &'a str,
     pub mode: Mode,
-    /// What `cargo nextest list --message-format json` prints.
+    /// The output of `cargo nextest list --message-format json`.
     pub list: &'a str,
 }
 
-/// Resolves a request.
+/// Returns the document of a run: the settings of each test of the list, with their origins.
 pub fn resolve(request: &RunRequest<'_>) -> Result<Document, Error> {
     resolve_json(&json_of(request)?)
 }
 
-/// Resolves a request in JSON.
+/// Returns the document of a run, for a request in JSON, which `docs/LIBRARY.md` describes.
 pub fn resolve_json(request: &[u8]) -> Result<Document, Error> {
     check_version()?;
     Run::new(request)?.document()

@@ -18,7 +18,7 @@ pub enum Backoff {
     },
 }
 
-/// How often a test is tried again.
+/// How often a test that fails is retried.
 #[derive(Clone, Copy, Debug, PartialEq, Eq, Serialize)]
 #[serde(rename_all = "kebab-case")]
 #[non_exhaustive]
@@ -39,7 +39,7 @@ pub enum Threads {
     NumTestThreads,
 }
 
-/// What comes of a test.
+/// The result of a test.
 #[derive(Clone, Copy, Debug, PartialEq, Eq, Serialize, Deserialize)]
 #[serde(rename_all = "kebab-case")]
 pub enum Outcome {
@@ -47,29 +47,29 @@ pub enum Outcome {
     Fail,
 }
 
-/// When a test counts as slow, and when it is ended.
+/// When a test counts as slow, and when it is terminated.
 #[derive(Clone, Copy, Debug, PartialEq, Eq, Serialize, Deserialize)]
 #[serde(rename_all = "kebab-case")]
 #[non_exhaustive]
 pub struct SlowTimeout {
     #[serde(with = "spelled::duration")]
     pub period: Duration,
-    /// After how many periods it is ended.
+    /// After how many periods it is terminated.
     pub terminate_after: Option<u64>,
     #[serde(with = "spelled::duration")]
     pub grace_period: Duration,
-    /// What comes of a test that is ended.
+    /// The result of a test that is terminated.
     pub on_timeout: Outcome,
 }
 
-/// How long what a test started may outlive it.
+/// How long processes that a test started may outlive it.
 #[derive(Clone, Copy, Debug, PartialEq, Eq, Serialize, Deserialize)]
 #[serde(rename_all = "kebab-case")]
 #[non_exhaustive]
 pub struct LeakTimeout {
     #[serde(with = "spelled::duration")]
     pub period: Duration,
-    /// What comes of a test that leaks.
+    /// The result of a test that leaks.
     pub result: Outcome,
 }
 
@@ -77,7 +77,7 @@ pub struct LeakTimeout {
 #[derive(Clone, Copy, Debug, PartialEq, Eq, Serialize, Deserialize)]
 #[serde(from = "spelled::ThreadsOr", into = "spelled::ThreadsOr")]
 pub enum GroupThreads {
-    /// This many, or for a negative number so many fewer than there are processors.
+    /// This many. A negative number means so many fewer than there are processors.
     Count(i64),
     NumCpus,
 }
@@ -101,16 +101,16 @@ pub enum Display {
     Never,
 }
 
-/// What a report has of a test.
+/// What the report has of a test.
 #[derive(Clone, Copy, Debug, PartialEq, Eq, Serialize)]
 #[serde(rename_all = "kebab-case")]
 #[non_exhaustive]
 pub struct Report {
     pub store_success_output: bool,
     pub store_failure_output: bool,
-    /// Whether it lists the test where it is skipped.
+    /// Whether it lists the test if it is skipped.
     pub lists_skipped: bool,
-    /// Whether it marks the test as passed where it is flaky and counts as failed.
+    /// Whether it marks the test as passed if it is flaky and counts as failed.
     pub marks_flaky_fail_as_success: bool,
 }
 
@@ -119,15 +119,15 @@ pub struct Report {
 #[serde(rename_all = "kebab-case")]
 #[non_exhaustive]
 pub struct TestSettings {
-    /// A higher one runs earlier.
+    /// Tests of a higher priority start earlier.
     pub priority: i32,
     pub threads_required: Threads,
     /// The id of the script that wraps the run.
     pub run_wrapper: Option<String>,
-    /// The arguments that the test is given.
+    /// Extra arguments of the test binary.
     pub run_extra_args: Vec<String>,
     pub retries: Retries,
-    /// What comes of the test where it passes at a later try.
+    /// The result of the test if it passes only when it is retried.
     pub flaky_result: Outcome,
     pub slow_timeout: SlowTimeout,
     pub leak_timeout: LeakTimeout,

@@ -1,9 +1,9 @@
-//! What a configuration is loaded from: the request of the library, as its JSON has it.
+//! What a configuration is loaded from: the library's request, which is written as JSON.
 
 use serde::{Serialize, Serializer};
 use std::{fs, io};
 
-/// The texts that a configuration is made of. Their caller reads the files.
+/// The files of a configuration, with their texts. The caller reads them.
 #[derive(Clone, Debug, Serialize)]
 #[serde(rename_all = "kebab-case")]
 #[non_exhaustive]
@@ -12,25 +12,25 @@ pub struct Sources {
     pub root: String,
     /// The repository's own file, which may be missing.
     pub file: File,
-    /// The file that a user named, which counts in place of the repository's own.
+    /// The file that a user named, which replaces the repository's own.
     pub config_file: Option<File>,
-    /// The file of an organisation, above those of tools and below the repository's.
+    /// The file of an organisation. It overrides those of tools, and the repository's file overrides it.
     pub organisation_config_file: Option<File>,
-    /// The files of tools: the first is the highest.
+    /// The files of tools. The first has the highest precedence.
     pub tools: Vec<ToolFile>,
-    /// The experimental features that are switched on.
+    /// The experimental features that are enabled, in addition to those that the repository's file enables.
     pub features: Features,
-    /// What `cargo metadata --format-version 1` prints, for `deps` and `rdeps`.
+    /// The output of `cargo metadata --format-version 1`, for `deps` and `rdeps`.
     pub metadata: Option<String>,
-    /// The machine that builds.
+    /// The host of the build.
     pub host: Machine,
-    /// The machine that is built for, where it is another one.
+    /// The target of the build, if it is not the host.
     pub target: Option<Machine>,
     /// The target directory, to which programs of scripts may be relative. A whole run takes that of its list.
     pub target_directory: Option<String>,
 }
 
-/// A file: its path, and what came of reading it.
+/// A file: its path, and the outcome of reading it.
 #[derive(Clone, Debug, Serialize)]
 pub struct File {
     pub path: String,
@@ -38,20 +38,20 @@ pub struct File {
     pub outcome: ReadOutcome,
 }
 
-/// What came of reading a file.
+/// The outcome of reading a file.
 #[derive(Clone, Debug, PartialEq, Eq)]
 pub enum ReadOutcome {
     /// Its text.
     Text(String),
     /// There is no such file.
     NotFound,
-    /// A part of its path that should be a directory is none.
+    /// A parent in its path is not a directory.
     NotADirectory,
-    /// Anything else, as bytes that are not valid UTF-8: a message, which a refusal includes.
+    /// Any other failure, such as invalid UTF-8: a message, which the error includes.
     Failed(String),
 }
 
-/// A file that a tool provides. It has to be there.
+/// A file that a tool provides. It must exist.
 #[derive(Clone, Debug, Serialize)]
 pub struct ToolFile {
     pub tool: String,
@@ -67,8 +67,8 @@ pub struct Features {
     pub wrapper_scripts: bool,
 }
 
-/// A machine: its triple, and what `rustc --print cfg` prints for it, if that is given. Without it
-/// the triple is looked for in a table.
+/// A machine: its triple, and the output of `rustc --print cfg` for it. Without this output the triple is looked up in
+/// a table.
 #[derive(Clone, Debug, Serialize)]
 pub struct Machine {
     pub triple: String,
@@ -92,7 +92,7 @@ impl Serialize for ReadOutcome {
     }
 }
 
-/// What `fs::read_to_string` returns.
+/// The outcome of `fs::read_to_string`.
 impl From<io::Result<String>> for ReadOutcome {
     fn from(read: io::Result<String>) -> ReadOutcome {
         match read {
@@ -107,7 +107,7 @@ impl From<io::Result<String>> for ReadOutcome {
 }
 
 impl File {
-    /// A file of this text.
+    /// Returns a file with this text.
     pub fn of(path: &str, text: &str) -> File {
         File {
             path: path.to_owned(),
@@ -115,7 +115,7 @@ impl File {
         }
     }
 
-    /// The file at a path, read from the disk.
+    /// Reads the file at a path from the disk.
     pub fn read(path: &str) -> File {
         File {
             path: path.to_owned(),
@@ -125,7 +125,7 @@ impl File {
 }
 
 impl Sources {
-    /// The repository's file alone, of this text, built and run on a machine of this triple.
+    /// Returns the repository's file alone, with this text, for a build on a machine with this triple.
     pub fn of_file(root: &str, text: &str, triple: &str) -> Sources {
         Sources {
             root: root.to_owned(),

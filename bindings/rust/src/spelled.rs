@@ -76,7 +76,7 @@ pub mod duration {
         ("ns", 1),
     ];
 
-    /// The duration that a text spells.
+    /// The duration of a text.
     pub fn read(text: &str) -> Option<Duration> {
         let (digits, name) = text.split_at(text.find(|c: char| !c.is_ascii_digit())?);
         let (_, unit) = UNITS.iter().find(|(unit, _)| *unit == name)?;

@@ -43,7 +43,7 @@ fn config() -> Config {
     Config::load(&Sources::of_file("/w", FILE, TRIPLE)).expect("the file is accepted")
 }
 
-/// A test of a library, of which no filter here asks more.
+/// A test of a library, with the parts that the filters here use.
 fn test_of<'a>(binary: &'a str, name: &'a str) -> Test<'a> {
     Test::named(name).in_binary(binary).of_target("lib", binary).of_package("")
 }
@@ -160,7 +160,7 @@ fn refusals_tell_why() {
     assert!(boxed.to_string().contains("ci"));
 }
 
-/// A request for a session, whose members the next tests spoil one by one.
+/// A request for a session. The next tests break its members one by one.
 fn request() -> serde_json::Value {
     let mut sources = Sources::of_file("/w", "", TRIPLE);
     sources.config_file = Some(File::of("/c.toml", ""));
@@ -265,7 +265,7 @@ fn words_that_stand_for_nothing_are_told() {
     assert_eq!(run_error(&request), Some(told));
 }
 
-/// Why a request is not understood: a load and a run say the same.
+/// Why a request is not understood: a load and a run report the same.
 fn reason_of(request: &serde_json::Value) -> String {
     let Some(Error::NotUnderstood(reason)) = load_error(request) else { panic!("it is understood") };
     assert_eq!(run_error(request), Some(Error::NotUnderstood(reason.clone())));
@@ -327,7 +327,7 @@ fn a_file_that_could_not_be_read_is_refused_with_its_message() {
 fn a_file_that_a_user_named_counts_in_place_of_the_own_one() {
     let mut sources = Sources::of_file("/w", "[profile.ci]\nretries = 1\n", TRIPLE);
     sources.config_file = Some(File::of("/named.toml", "[profile.ci]\nretries = 3\n"));
-    // What came of the own one does not count then.
+    // The outcome of the repository's own file does not matter then.
     for outcome in [sources.file.outcome.clone(), ReadOutcome::Failed("not read".to_owned())] {
         sources.file.outcome = outcome;
         let config = Config::load(&sources).unwrap();
@@ -410,7 +410,7 @@ fn bytes_that_are_no_request() {
     assert_eq!(place_of(Config::from_json(b"{}").err()), "root");
 }
 
-/// The answer to a run over the worked example.
+/// The result of a run over the worked example.
 fn answer(profile: &str, mode: Mode) -> Result<Document, Error> {
     let list = example("list.json");
     resolve(&RunRequest { sources: &real(), profile, mode, list: &list })
@@ -469,7 +469,7 @@ fn a_run_tells_the_scripts_of_its_list() {
     assert!(document.list_wrappers.is_empty());
 }
 
-/// What a run and a profile that is open say of the priority and the retries of each test.
+/// The priority and the retries of each test, by a run and by an open profile.
 #[test]
 fn a_run_and_a_session_agree() {
     let document = answer("ci", Mode::Test).unwrap();
@@ -509,7 +509,7 @@ fn a_run_that_is_refused_tells_its_findings() {
     let Err(Error::NoProfile(refusal)) = ask("[profile.ci]\n", "cj") else { panic!("there is no cj") };
     assert!(refusal.reason.contains("cj"), "{}", refusal.reason);
     assert_eq!(refusal.findings.len(), 1);
-    // The features are those of the request, and those that the file switches on.
+    // The features are those of the request, and those that the file enables.
     let script = "[scripts.setup.db]\ncommand = 'true'\n";
     assert!(matches!(ask(script, "default"), Err(Error::Refused(_))));
     assert!(ask(&format!("experimental = ['setup-scripts']\n{script}"), "default").is_ok());
@@ -566,7 +566,7 @@ fn a_session_has_the_features_of_its_file() {
     let mut sources = Sources::of_file("/w", script, TRIPLE);
     sources.features.setup_scripts = true;
     assert!(Config::load(&sources).is_ok());
-    // The file that a user named counts in place of the own one.
+    // The file that a user named replaces the repository's own.
     let mut sources = Sources::of_file("/w", "experimental = ['setup-scripts']\n", TRIPLE);
     sources.config_file = Some(File::of("/c.toml", script));
     assert!(Config::load(&sources).is_err());
@@ -584,7 +584,7 @@ fn what_a_filter_asks_for_has_to_be_given() {
     assert_eq!(asked("ci", &full), None);
     let without_kind = Test::named("t").in_binary("b").of_target("", "b").of_package("p");
     assert_eq!(asked("ci", &without_kind), Some(Error::NotKnown));
-    // The platforms of the rule that asks for the package do not hold.
+    // The platforms of the rule that uses the package do not match.
     assert_eq!(asked("ci", &Test::named("").in_binary("").of_target("lib", "").of_package("")), None);
     assert_eq!(asked("default", &Test::named("").in_binary("").of_target("", "").of_package("")), None);
     assert_eq!(asked("named", &Test::named("t").in_binary("b").of_target("lib", "").of_package("p")), Some(Error::NotKnown));

@@ -44,11 +44,12 @@ abbrev pub lent : Lft → Share → Ptr → Session → Fml
 lent κ q (block_ptr b o) session = fsep (flft κ q) (hidden_shr the_row κ session b o)
 lent κ q null_ptr session = ffalse
 
--- profiles of a session that is lent for the time ι
+-- profiles of a session that is borrowed for the time ι
 abbrev pub profile_row : Lft → RattleType
 profile_row ι = profile.the_row (record { mir = erased; lft = ι })
 
--- a profile of a name lies at p, of a session that is lent for the time ι, and it is the program's
+-- a profile of a name lies at p, of a session that is borrowed for the time ι, and it is the
+-- program's
 abbrev pub opened : Lft → Session → List ℕ → Ptr → Fml
 opened ι session name p = fex Profile (λ x. fex (IsProfileIn session name x)
     (λ _. lies_at (profile_row ι) full_share p x))

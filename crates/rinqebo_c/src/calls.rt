@@ -33,8 +33,8 @@ use std::alloc::Global;
 use std::mem::size_of;
 
 /// Resolves a request in JSON for a whole run: writes the document of the result, or why there is
-/// none, at the start of a buffer, and returns a number for which it is. Where the buffer is too
-/// small it stays as it was, and `needed` says what it takes.
+/// none, at the start of a buffer, and returns the status. If the buffer is too small, it is
+/// unchanged, and `needed` is the size that it must have.
 #[unsafe(no_mangle)]
 pub extern "C" fn rinqebo_resolve(
     alloc: Global,
@@ -49,11 +49,11 @@ pub extern "C" fn rinqebo_resolve(
     resolve(alloc, request, answer, needed)
 }
 
-/// Compares the runs of two requests in JSON: writes the document of what changes from the first
-/// to the second, or why there is none, at the start of a buffer, and returns a number for which it
-/// is. Where the buffer is too small it stays as it was, and `needed` says what it takes. `side`
-/// says which side has no result. Unless `origins` is 0, other origins of a value that is the same
-/// are a change too.
+/// Compares the runs of two requests in JSON: writes the document of what changes from the first to
+/// the second, or why there is none, at the start of a buffer, and returns the status. If the
+/// buffer is too small, it is unchanged, and `needed` is the size that it must have. `side` is the
+/// side that has no result. Unless `origins` is 0, a value that is the same and comes from
+/// elsewhere is a change too.
 #[unsafe(no_mangle)]
 pub extern "C" fn rinqebo_diff(
     alloc: Global,
@@ -97,8 +97,8 @@ pub extern "C" fn rinqebo_run_size() -> usize
     size_of::<Run>()
 }
 
-/// Makes the run of a request in JSON, in room for a run. It always leaves a run there, whose
-/// status says how it ended.
+/// Makes the run of a request in JSON, in memory for a run. It always leaves a run there, which has
+/// the status.
 #[unsafe(no_mangle)]
 pub unsafe extern "C" fn rinqebo_run_new(alloc: Global, request: &[u8], room: *mut u8)
     // The room has the size and the alignment of a run, and holds none.
@@ -108,8 +108,8 @@ pub unsafe extern "C" fn rinqebo_run_new(alloc: Global, request: &[u8], room: *m
     (room as *mut Run).write(Run::new(alloc, request));
 }
 
-/// Compares the runs of two requests in JSON, as `rinqebo_diff` does, and keeps how that ends as a
-/// run, in room for a run. It always leaves a run there, whose status says how it ended.
+/// Compares the runs of two requests in JSON, as `rinqebo_diff` does, and keeps the output as a
+/// run, in memory for a run. It always leaves a run there, which has the status.
 #[unsafe(no_mangle)]
 pub unsafe extern "C" fn rinqebo_diff_new(
     alloc: Global,
@@ -180,8 +180,8 @@ pub extern "C" fn rinqebo_session_size() -> usize
     size_of::<Session>()
 }
 
-/// Loads a request in JSON into room for a session. It always leaves a session there, whose status
-/// says how it went.
+/// Loads a request in JSON into memory for a session. It always leaves a session there, which has
+/// the status.
 #[unsafe(no_mangle)]
 pub unsafe extern "C" fn rinqebo_session_load(alloc: Global, request: &[u8], room: *mut u8)
     // The room has the size and the alignment of a session, and holds none.
@@ -191,7 +191,7 @@ pub unsafe extern "C" fn rinqebo_session_load(alloc: Global, request: &[u8], roo
     (room as *mut Session).write(Session::load(alloc, request));
 }
 
-/// How a load went.
+/// Returns the status of a load.
 #[unsafe(no_mangle)]
 pub unsafe extern "C" fn rinqebo_session_status(session: *const u8) -> u32
     ghost g: { List ℕ × Share × Session }
@@ -202,7 +202,7 @@ pub unsafe extern "C" fn rinqebo_session_status(session: *const u8) -> u32
     Session::status(&*(session as *const Session))
 }
 
-/// Copies out why a session has no configuration; it is empty where it has one.
+/// Copies out why a session has no configuration; the text is empty if it has one.
 #[unsafe(no_mangle)]
 pub unsafe extern "C" fn rinqebo_session_reason(
     session: *const u8,
@@ -218,11 +218,11 @@ pub unsafe extern "C" fn rinqebo_session_reason(
     Session::copy_reason(&*(session as *const Session), out, needed)
 }
 
-/// Frees what a session owns. The room is the caller's again.
+/// Frees what a session owns. The memory is the caller's again.
 #[unsafe(no_mangle)]
 pub unsafe extern "C" fn rinqebo_session_free(session: *mut u8)
     ghost value: { Session }
-    // A session lies there, and no profile of it is left: else that one would read what is freed.
+    // A session is there, and no profile of it is left, which would read freed memory.
     requires* { sem 𝓛 (lies_at the_row full_share session value) }
     ensures* { sem 𝓛 (room_at the_row session) }
 {
@@ -237,8 +237,8 @@ pub extern "C" fn rinqebo_profile_size() -> usize
     size_of::<Profile<'static>>()
 }
 
-/// Opens a profile of a session, by its name, in room for a profile. It always leaves a profile
-/// there, whose status says how it went.
+/// Opens a profile of a session, by its name, in memory for a profile. It always leaves a profile
+/// there, which has the status.
 #[unsafe(no_mangle)]
 pub unsafe extern "C" fn rinqebo_profile_open(
     alloc: Global,
@@ -255,7 +255,7 @@ pub unsafe extern "C" fn rinqebo_profile_open(
     (room as *mut Profile<'_>).write(Profile::open(alloc, &*(session as *const Session), name));
 }
 
-/// How an opening went.
+/// Returns the status of an opened profile.
 #[unsafe(no_mangle)]
 pub unsafe extern "C" fn rinqebo_profile_status(profile: *const u8) -> u32
     ghost g: { List ℕ × List ℕ × Share × Share × Profile }
@@ -268,8 +268,8 @@ pub unsafe extern "C" fn rinqebo_profile_status(profile: *const u8) -> u32
     Profile::status(&*(profile as *const Profile<'_>))
 }
 
-/// Writes the settings that a profile gives to a test, as numbers, and returns how it went. It
-/// takes no memory.
+/// Writes the settings that a profile gives to a test, as numbers, and returns the status. It takes
+/// no memory.
 #[unsafe(no_mangle)]
 pub unsafe extern "C" fn rinqebo_profile_ask(
     profile: *const u8,
@@ -286,7 +286,7 @@ pub unsafe extern "C" fn rinqebo_profile_ask(
     Profile::ask(&*(profile as *const Profile<'_>), test, settings)
 }
 
-/// Copies out the argument of an index that a profile gives to a test. It takes no memory.
+/// Copies out the argument with this index that a profile gives to a test. It takes no memory.
 #[unsafe(no_mangle)]
 pub unsafe extern "C" fn rinqebo_profile_argument(
     profile: *const u8,

@@ -114,7 +114,7 @@ understood from to with_origins left right (Ok end) reads_left reads_right so =
     })
 understood from to with_origins left right (Err want) reads_left reads_right so = tt
 
--- the bytes of a side are no request
+-- the bytes of a side are not a request
 pub unread : (from to : List ℕ) (with_origins : Bool) (name : SideName) (bytes : List ℕ) (ending : Ending)
     → IsNoRequest bytes ending → ((Holds : List ℕ → Type 0) → Holds bytes → HoldsOn Holds from to (Some name))
     → EndsFor from to with_origins (Some name) ending

@@ -45,9 +45,9 @@ pub record FailsOn (side : DiffSide) (gathered : Gathered) (ending : Ending) : T
   pub reports : ReportsFailure failure ending
   pub cause : IsCauseOn side gathered ending
 
--- how a request ends over the files of its sides: with the document of what changes, or with why
--- the left side has no result, or why the right one has none where the left one loads; want of
--- memory aside
+-- how a request ends over the files of its sides, unless memory runs out: with the document of what
+-- changes, or with why the left side has no result, or why the right one has none if the left one
+-- loads
 abbrev pub EndsBetween : DiffRequest → Gathered → Gathered → Option SideName → Ending → Type 0
 EndsBetween request from to (Some names.From) ending = FailsOn request.from from ending
 EndsBetween request from to (Some names.To) ending =
@@ -90,16 +90,16 @@ pub record EndsUnderstood (from to : List ℕ) (with_origins : Bool) (side : Opt
 abbrev pub IsUnderstood : List ℕ → Type 0
 IsUnderstood request = (run : RunText) × (run_of request ≡ Some run)
 
--- something holds of the bytes of the left side's request, or of those of the right one's where
--- those of the left one are understood
+-- something holds of the bytes of the left side's request, or of those of the right one's if those
+-- of the left one are understood
 abbrev pub HoldsOn : (List ℕ → Type 0) → List ℕ → List ℕ → Option SideName → Type 0
 HoldsOn Holds from to None = ⊥
 HoldsOn Holds from to (Some names.From) = Holds from
 HoldsOn Holds from to (Some names.To) = IsUnderstood from × Holds to
 
--- how the comparison of the bytes of two requests ends, and which side has no result: as that of
--- the runs that they describe does, or the bytes of a side are not understood, or are not UTF-8;
--- want of memory aside
+-- how the comparison of the bytes of two requests ends, and which side has no result, unless memory
+-- runs out: as that of the runs that they describe does, or the bytes of a side are not understood,
+-- or are not UTF-8
 abbrev pub EndsFor : List ℕ → List ℕ → Bool → Option SideName → Ending → Type 0
 EndsFor from to with_origins side (ends.Answered text) =
     EndsUnderstood from to with_origins side (ends.Answered text)
@@ -120,7 +120,7 @@ side_number None = 0
 side_number (Some names.From) = 1
 side_number (Some names.To) = 2
 
--- a number says whether other origins of a value that is the same are a change too
+-- whether a value that is the same and comes from elsewhere is a change too, by a number
 abbrev pub counts_origins : ℕ → Bool
 counts_origins origins = not (origins == 0)
 

@@ -28,7 +28,7 @@ pub struct Compared {
 pub enum Reading {
     /// A request for a run.
     Run(RunRequest),
-    /// No request: the ending says why.
+    /// Not a request: the ending says why.
     Ended(Ending),
 }
 

@@ -9,7 +9,8 @@ use rinqebo_diff::SideName;
 use rinqebo_resolve::Run;
 use std::alloc::Global;
 
-/// Whether other origins of a value that is the same are a change too: unless the number is 0.
+/// Whether a value that is the same and comes from elsewhere is a change too: unless the number is
+/// 0.
 fn counts_origins(origins: u32) -> bool
     ensures { result ≡ counts_origins origins }
 {
@@ -17,7 +18,7 @@ fn counts_origins(origins: u32) -> bool
 }
 
 /// The number of the side that has no result: 1 is the left side, from which something changes, and
-/// 2 the right side. It is 0 if both have one, and for want of memory.
+/// 2 the right side. It is 0 if both have one, and if memory ran out.
 fn side_number(side: Option<SideName>) -> u32
     ensures { result ≡ side_number side }
 {
@@ -28,11 +29,11 @@ fn side_number(side: Option<SideName>) -> u32
     }
 }
 
-/// Compares the runs of two requests in JSON: writes the document of what changes at the start of
-/// a buffer, or why there is none, and returns a number for which it is. Where the buffer is too
-/// small it stays as it was. Either way `needed` is the length of what there is to write, and
-/// `side` the number of the side that has no result. Unless `origins` is 0, other origins of a
-/// value that is the same are a change too.
+/// Compares the runs of two requests in JSON: writes the document of what changes at the start of a
+/// buffer, or why there is none, and returns the status. If the buffer is too small, it is
+/// unchanged. Either way `needed` is the length of the output, and `side` the number of the side
+/// that has no result. Unless `origins` is 0, a value that is the same and comes from elsewhere is
+/// a change too.
 pub fn compare(
     alloc: Global,
     from: &[u8],
@@ -53,8 +54,8 @@ pub fn compare(
     ending.report(answer, needed)
 }
 
-/// Compares the runs of two requests in JSON, and keeps how that ends as a run. There always is
-/// one: its status says how it ended. `side` and `origins` are those of [`compare`].
+/// Compares the runs of two requests in JSON, and keeps the output as a run, which always has a
+/// status. `side` and `origins` are those of [`compare`].
 pub fn compared_run(alloc: Global, from: &[u8], to: &[u8], origins: u32, side: &mut u32) -> Run
     ensures { IsComparedRun from.now to.now origins side.new result }
 {

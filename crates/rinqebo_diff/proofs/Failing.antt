@@ -21,7 +21,7 @@ use Rattle.rinqebo_diff.specs.declared.loaded.SideName.TheVariants as names
 use Rattle.rinqebo_diff.specs.declared.request.DiffRequest.{DiffRequest}
 use Rattle.rinqebo_diff.specs.declared.request.DiffSide.{DiffSide}
 
--- what holds of a failure holds of it where it is handed on
+-- what holds of a failure holds of it when it is passed on
 pub handed_on : {A E : Type 0} (P : E → Type 0) (r : Result A E) (failure : E)
     → IsErrAnd r (λ other. other ≡ failure) → P failure → IfErr r P
 handed_on P (Ok a) failure same is = tt
@@ -72,7 +72,7 @@ pub right_fails : {A : Type 0} (request : DiffRequest) (from to : Gathered) (r :
 right_fails request from to r failure same loads fails =
     handed_on (DiffFails request from to) r failure same (as_right request from to failure loads fails)
 
--- a diff has no result for want of memory
+-- a diff has no result since memory ran out
 pub diff_wants : {A : Type 0} (request : DiffRequest) (from to : Gathered) (r : Result A DiffFailure)
     → IsErrAnd r (λ other. other ≡ failures.Memory) → IfErr r (DiffFails request from to)
 diff_wants request from to r same = handed_on (DiffFails request from to) r failures.Memory same tt

@@ -9,12 +9,12 @@ abbrev pub are_named : RequestedSettings → Bool
 are_named asks.Decided = false
 are_named (asks.These runs named) = true
 
--- all settings are named, in order, and it is named whether tests run
+-- all settings are named, in order, and so is `runs`
 abbrev pub AreAll : RequestedSettings → Type 0
 AreAll asks.Decided = ⊥
 AreAll (asks.These runs named) = (runs ≡ true) × (named.items ≡ settings)
 
--- whether it is compared whether tests run
+-- whether `runs` is compared
 abbrev pub compares_runs : RequestedSettings → Bool
 compares_runs asks.Decided = true
 compares_runs (asks.These runs named) = runs

@@ -72,7 +72,7 @@ pub record Differs (request : DiffRequest) (from to : Gathered) (diff : Diff) : 
   pub is_right : IsEvaluationOf request.to to right
   pub is_diff : IsDiffOf request left right diff
 
--- the exit status: 0 exactly where nothing changes
+-- the exit status: 0 exactly if nothing changes
 abbrev pub diff_status : Diff → ℕ
 diff_status diff = if is_empty diff then 0 else 1
 
@@ -82,7 +82,7 @@ pub record IsPageOf (request : DiffRequest) (from to : Gathered) (text : List �
   pub differs : Differs request from to diff
   pub is_text : IsRendered request diff text
 
--- A request has its result: what changes goes out, and the status says whether something does.
+-- A request has its result: what changes is written, and the status says whether something does.
 pub record HasResult (request : DiffRequest) (from to : Gathered) (status : ℕ)
     (before after : Option (List ℕ)) : Type 0 where
   pub diff : Diff

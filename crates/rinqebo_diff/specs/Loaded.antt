@@ -9,7 +9,7 @@ use Rattle.rinqebo_run.specs.LookedUp.{IsLookedUp}
 use Rattle.rinqebo_diff.specs.declared.request.DiffSide.{DiffSide}
 use Rattle.rinqebo_diff.specs.declared.loaded.Loaded.{Loaded}
 
--- A side is loaded: its session is that of its request, every written rule holds of its files, its
+-- A side is loaded: its session is that of its request, its files satisfy every written rule, its
 -- configuration is what they mean, it has the profile that is requested, and each filter that the
 -- profile evaluates was looked up.
 pub record IsLoadedSide (side : DiffSide) (gathered : Gathered) (loaded : Loaded) : Type 0 where

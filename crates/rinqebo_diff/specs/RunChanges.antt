@@ -36,7 +36,7 @@ pub record AreRunChanges (left right : Evaluation) (changes : List RowChange) : 
   pub are_after : AreRunRowsOf right after
   pub are_changes : AreKeyedChanges before after changes
 
--- changes are those of the whole run, where they are compared
+-- changes are those of the whole run, if they are compared
 abbrev pub AreRunChangesIf : Bool → Evaluation → Evaluation → List RowChange → Type 0
 AreRunChangesIf true left right changes = AreRunChanges left right changes
 AreRunChangesIf false left right changes = changes ≡ []

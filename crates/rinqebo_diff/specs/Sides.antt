@@ -31,7 +31,7 @@ pub record Evaluation : Type 0 where
   pub chain : List Name
 
 -- A side is compared by what its files mean: its session is that of its request over them, and its
--- profile is the one that is requested. Every written rule holds of the files, they have the
+-- profile is the one that is requested. The files satisfy every written rule, they have the
 -- profile, and each filter that it evaluates was looked up.
 pub record IsEvaluationOf (side : DiffSide) (gathered : Gathered) (evaluation : Evaluation) : Type 0
   where

@@ -1,4 +1,4 @@
--- The exit statuses of a diff that has no result, and what goes out of it.
+-- The exit statuses of a diff that has no result, and what is written of it.
 use Rattle.std.specs.Prelude.{◌≡◌, ◌⊎◌, ℕ, List, Option}
 use Rattle.rinqebo_files.specs.declared.files.Gathered.{Gathered}
 use Rattle.rinqebo_report.specs.declared.format.Format.TheVariants as formats

@@ -1,4 +1,4 @@
--- What goes out of a diff.
+-- What is written of a diff.
 use Rattle.std.specs.Prelude.{ℕ, List, Option}
 use Rattle.std.specs.Io.KnownBytes.{Appends}
 use Rattle.rinqebo_changes.specs.Documents.{IsDiffJson}

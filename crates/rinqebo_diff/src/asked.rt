@@ -35,14 +35,14 @@ impl ComparedSettings {
         Ok(ComparedSettings::new(true, settings))
     }
 
-    /// The settings, as a request of either side names them.
+    /// The settings, for the request of either side.
     pub fn asked(&self) -> &RequestedSettings
         ensures { result.now ≡ self.now.asked }
     {
         &self.asked
     }
 
-    /// Whether it is compared whether tests run.
+    /// Whether `runs` is compared.
     pub fn with_runs(&self) -> bool
         ensures { result ≡ compares_runs self.now.asked }
     {

@@ -17,7 +17,7 @@ ghost use Rattle.rinqebo_diff.specs.SwappedSides.{HaveSwapped};
 ghost use Rattle.rinqebo_diff.specs.declared.request.DiffRequest.{DiffRequest as Requested};
 
 /// No test changes between a side and itself, and none is on one side alone: by the same session,
-/// profile and mode each test has the same values. Where the whole run is not compared, or the side
+/// profile and mode each test has the same values. If the whole run is not compared, or the side
 /// gives it the same each time, nothing changes at all, and the exit status is 0.
 pub fn law_equal_sides()
     ensures tests { (side : Evaluation) (mode : Mode) (asked : Asked) (files others : List File)

@@ -16,7 +16,7 @@ use std::alloc::{AllocError, Global};
 /// A side that is loaded.
 #[derive(Drop)]
 pub struct Loaded<'g> {
-    /// What all commands begin with.
+    /// The session, with which all commands begin.
     pub session: Session<'g>,
     /// Its configuration.
     pub config: Config,
@@ -38,7 +38,7 @@ pub enum SideName {
 pub enum DiffFailure {
     /// A side has none.
     Side(SideName, Failure),
-    /// Want of memory.
+    /// Memory ran out.
     Memory,
 }
 
@@ -71,7 +71,7 @@ pub fn load_side<'g>(
     })
 }
 
-/// Loads a side of a name.
+/// Loads one of the sides.
 pub fn load_named<'g>(
     alloc: Global,
     name: SideName,

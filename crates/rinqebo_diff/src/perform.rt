@@ -67,7 +67,7 @@ pub fn diff_page(
     Ok(render_diff(alloc, &answer.diff, request)?)
 }
 
-/// The exit status of a diff: 0 where nothing changes, else 1.
+/// The exit status of a diff: 0 if nothing changes, else 1.
 fn status_of(diff: &Diff) -> u8
     ensures { result ≡ diff_status diff.now }
 {
@@ -193,11 +193,10 @@ fn print_answer<O: Write, E: Write>(
 }
 
 /// Writes what changes between the sides of a request, over the files that they name, and returns
-/// the exit status: 0 where nothing changes, 1 where something does, 2 for a list, platforms and
-/// metadata that are not understood, 3 where the files of a side are refused, 4 where a side has no
-/// such profile, 5 for want of memory, 6 where a write fails. Where there is no result, standard
-/// output gets nothing, but for JSON a document of why the files of a side are refused or lack its
-/// profile.
+/// the exit status: 0 if nothing changes, 1 if something does, 2 if a list, platforms or metadata
+/// are not understood, 3 if the files of a side are refused, 4 if a side has no such profile, 5 if
+/// memory runs out, 6 if a write fails. Without a result standard output gets nothing, or in JSON a
+/// document of why the files of a side are refused or lack its profile.
 pub fn perform_diff<O: Write, E: Write>(
     alloc: Global,
     request: &DiffRequest<'_>,

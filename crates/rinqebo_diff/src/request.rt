@@ -11,7 +11,7 @@ pub struct DiffSide<'a> {
     pub request: Request<'a>,
     /// The name of the profile.
     pub profile: &'a str,
-    /// For what the tests are run.
+    /// The run mode.
     pub mode: NextestRunMode,
 }
 
@@ -23,7 +23,7 @@ pub enum DiffFormat<'a> {
     /// One document of JSON, on a line.
     Json,
     /// Notices of GitHub's workflows, with paths below the folder in which a workflow runs: the
-    /// empty text, where that is not known.
+    /// empty text, if that is not known.
     Github(&'a str),
     /// A table for a comment.
     Markdown,
@@ -40,9 +40,9 @@ pub struct DiffRequest<'a> {
     pub compared: ComparedSettings,
     /// Whether what changes for the whole run is compared too.
     pub with_run: bool,
-    /// Whether other origins are a change too, where the values are the same.
+    /// Whether a value that is the same and comes from elsewhere is a change too.
     pub with_origins: bool,
-    /// Whether each test of a group is listed, also where it has all tests of a binary.
+    /// Whether each test of a group is listed, even if the group has all tests of a binary.
     pub lists_all: bool,
     /// How the diff is written.
     pub format: DiffFormat<'a>,
@@ -59,7 +59,7 @@ impl DiffRequest<'_> {
     }
 }
 
-/// What words request: a diff, or what another command does.
+/// What arguments request: a diff, or another command.
 #[derive(Drop)]
 pub enum AnyCommand<'a> {
     /// What changes between two sides.

@@ -83,7 +83,7 @@ fn counts_of(alloc: Global, binaries: &[ListedBinary]) -> Result<Vec<BinaryTests
     Ok(counts)
 }
 
-/// A side as it is reported.
+/// A side in a report.
 fn side_of(
     alloc: Global,
     side: &DiffSide<'_>,
@@ -120,7 +120,7 @@ fn rows_of_run(
     run_rows(alloc, entries, scripts)
 }
 
-/// What changes for the whole run, where it is compared.
+/// What changes for the whole run, if it is compared.
 fn changed_run(
     alloc: Global,
     with_run: bool,

@@ -24,7 +24,7 @@ fn has_right_side(matches: &ArgMatches<'_>) -> bool {
         .any(|(name, _)| matches.contains_id(*name))
 }
 
-/// How it is written that a side has no result.
+/// The format in which a side without a result is reported.
 fn side_format<'a>(matches: &ArgMatches<'a>) -> Format<'a> {
     match matches.get_str("format") {
         Some("json") => Format::Json,
@@ -37,7 +37,7 @@ fn compares_run(matches: &ArgMatches<'_>) -> bool {
     matches.get_strs("KEY").unwrap_or(&[]).is_empty()
 }
 
-/// The settings that are compared: those that words name.
+/// The settings that are compared: those that arguments name.
 fn compared_settings(
     alloc: Global,
     asked: RequestedSettings,
@@ -113,7 +113,7 @@ fn left_options<'a>(
     })
 }
 
-/// The files of tools of the right side: those of the left side, if none is named anew.
+/// The files of tools of the right side: those of its own options, else those of the left side.
 fn right_tools<'a>(
     alloc: Global,
     matches: &ArgMatches<'a>,
@@ -125,7 +125,7 @@ fn right_tools<'a>(
     Ok(left)
 }
 
-/// The files of the right side: those of the left side, but for what is named anew.
+/// The files of the right side: those of the left side, unless its own options name others.
 fn right_files<'a>(
     alloc: Global,
     matches: &ArgMatches<'a>,
@@ -151,8 +151,8 @@ fn right_files<'a>(
     })
 }
 
-/// What the languages of the right side know: what those of the left side do, but for what is named
-/// anew.
+/// What the languages of the right side know: what those of the left side do, unless its own
+/// options say otherwise.
 fn right_engines<'a>(matches: &ArgMatches<'a>, left: EngineOptions<'a>) -> EngineOptions<'a> {
     let host = matches.get_str("to-host");
     EngineOptions {
@@ -169,7 +169,7 @@ fn right_engines<'a>(matches: &ArgMatches<'a>, left: EngineOptions<'a>) -> Engin
     }
 }
 
-/// The options of the right side: those of the left side, but for what is named anew.
+/// The options of the right side: those of the left side, unless it has its own.
 fn right_options<'a>(
     alloc: Global,
     matches: &ArgMatches<'a>,
@@ -242,7 +242,7 @@ fn diff_request<'a>(
     })
 }
 
-/// Reads the command line, and the environment where it has no option.
+/// Reads the command line, and the environment for options that it lacks.
 pub fn parse_all<'a>(
     alloc: Global,
     words: &'a [String],

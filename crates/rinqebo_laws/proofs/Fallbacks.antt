@@ -1,4 +1,4 @@
--- What `--why` and `explain` report of where the fallback of a setting comes from agrees.
+-- `--why` and `explain` agree on the origins of the fallback of a setting.
 use Rattle.std.proofs.Common.{◌≡◌, ◌∙◌, ℕ, true, List, [], ◌∷◌, Option, None, map, refl, sym, ap}
 use Rattle.nextest_elements.specs.declared.run_mode.NextestRunMode.{NextestRunMode}
 use Rattle.nextest_settings.specs.Queries.{fallback_origin}

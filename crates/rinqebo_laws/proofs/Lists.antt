@@ -14,11 +14,11 @@ use Rattle.std.specs.Ordering.{flip_args}
 pub all_contains : {X : Type 0} (P : X → Type 0) (xs : List X) (x : X) → AllByRecursion P xs → Contains xs x → P x
 all_contains P xs x all has = All-contains P xs x (All-from_recursion P xs all) has
 
--- what a list contains stands at a place
+-- what a list contains is at a place
 pub place_of : {X : Type 0} (xs : List X) (x : X) → Contains xs x → (n : ℕ) × (slice_get xs n ≡ Some x)
 place_of xs x has = (has.0, slice_get-get_or xs has.0 x has.1 ∙ ap Some has.2)
 
--- what stands at a place is contained
+-- what is at a place is contained
 pub contains_at : {X : Type 0} (xs : List X) (n : ℕ) (x : X) → slice_get xs n ≡ Some x → Contains xs x
 contains_at [] n x is = absurd cc
 contains_at (y ∷ xs) zero x is =
@@ -46,7 +46,7 @@ Above n m = flip_args nat_cmp n m ≡ Less
 above_below : (n m : ℕ) → Above n m → m < n
 above_below n m is = ranked m n Less (sym is)
 
--- an element that stands before all of a list is none of them
+-- an element that is before all of a list is not one of them
 not_above : (x : ℕ) (xs : List ℕ) → AllByRecursion (Above x) xs → Contains xs x → ⊥
 not_above x xs all has = let lower = above_below x x (all_contains (Above x) xs x all has) in absurd (omega (arith, lower))
 
@@ -90,7 +90,7 @@ same_descending (x ∷ xs) (y ∷ ys) one two into back =
 -- ---- lists beside each other
 
 module _ {A B C : Type 0} (R : A → B → Type 0) (S : A → C → Type 0) where
-  -- what stands beside the same is related
+  -- what is beside the same is related
   pub beside_same : (T : B → C → Type 0) → ((a : A) (b : B) (c : C) → R a b → S a c → T b c)
       → (ps : List A) (qs : List B) (rs : List C) → AllZip R ps qs → AllZip S ps rs → AllZip T qs rs
   beside_same T turn [] [] [] one two = tt
@@ -101,7 +101,7 @@ module _ {A B C : Type 0} (R : A → B → Type 0) (S : A → C → Type 0) wher
   beside_same T turn (a ∷ ps) (b ∷ qs) (c ∷ rs) one two =
       (turn a b c one.0 two.0, beside_same T turn ps qs rs one.1 two.1)
 
-  -- and seen alike, if each is
+  -- and shown alike, if each is
   pub seen_alike : {D : Type 0} (f : B → D) (g : C → D) → ((a : A) (b : B) (c : C) → R a b → S a c → f b ≡ g c)
       → (ps : List A) (qs : List B) (rs : List C) → AllZip R ps qs → AllZip S ps rs → map f qs ≡ map g rs
   seen_alike f g turn [] [] [] one two = refl
@@ -113,7 +113,7 @@ module _ {A B C : Type 0} (R : A → B → Type 0) (S : A → C → Type 0) wher
       λ i. turn a b c one.0 two.0 i ∷ seen_alike f g turn ps qs rs one.1 two.1 i
 
 module _ {A B : Type 0} (R : A → B → Type 0) where
-  -- what stands on the right has something on its left
+  -- what is on the right has something on its left
   pub left_of : (ps : List A) (qs : List B) (n : ℕ) (b : B) → AllZip R ps qs → slice_get qs n ≡ Some b
       → (a : A) × (slice_get ps n ≡ Some a) × R a b
   left_of [] [] n b all is = absurd cc
@@ -123,7 +123,7 @@ module _ {A B : Type 0} (R : A → B → Type 0) where
       let same : y ≡ b = cc in (x, refl, subst (R x) same all.0)
   left_of (x ∷ ps) (y ∷ qs) (suc n) b all is = left_of ps qs n b all.1 is
 
-  -- what stands on the left has something on its right
+  -- what is on the left has something on its right
   pub right_of : (ps : List A) (qs : List B) (n : ℕ) (a : A) → AllZip R ps qs → slice_get ps n ≡ Some a
       → (b : B) × (slice_get qs n ≡ Some b) × R a b
   right_of [] [] n a all is = absurd cc

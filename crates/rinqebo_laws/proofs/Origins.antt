@@ -111,7 +111,7 @@ module _ (layers : List Layer) where
         (subst (AllByRecursion Unwritten) are.splits none) are.writes
     not_built_in xs (no_leaf empty) no_rule report are some = some (none_shown xs (chain_shown [] xs empty are))
 
-    -- what comes of a chain is shown alike
+    -- what a chain writes is shown alike
     pub profile_shown : (xs ys : List Origin) → AreProfileOrigins layers chain table name xs
         → AreProfileOrigins layers chain table name ys → map origin_shown xs ≡ map origin_shown ys
     profile_shown xs ys (built_in none is) (built_in never same) = ap (map origin_shown) (is ∙ sym same)

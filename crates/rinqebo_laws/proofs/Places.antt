@@ -15,7 +15,7 @@ use Rattle.rinqebo_laws.proofs.Lists.{one_greatest, one_least}
 use Rattle.rinqebo_report.specs.declared.origin.FileLines.{FileLines}
 use Rattle.rinqebo_rules.specs.Origins.{step_view}
 
--- steps that are seen alike lead to the same
+-- steps that are shown alike lead to the same
 into_alike : (p q : Step) (n : Node) → step_view p ≡ step_view q → step_into p n ≡ step_into q n
 into_alike (Key a) (Key b) n same =
     let names : a.now ≡ b.now = cc in ap (λ name. member_of name n) names
@@ -40,7 +40,7 @@ has_alike : (ps qs : List Step) (o : Option Node) → map step_view ps ≡ map s
 has_alike ps qs None same = refl
 has_alike ps qs (Some n) same = ap is_some (on_alike ps qs (Some n) same)
 
--- paths that are seen alike are there by the same lines
+-- paths that are shown alike are there by the same lines
 there_alike : (ps qs : List Step) (text : List ℕ) (n : ℕ) → map step_view ps ≡ map step_view qs
     → is_there_by ps text n ≡ is_there_by qs text n
 there_alike ps qs text n same = has_alike ps qs (tree_of (first_lines n text)) same
@@ -78,7 +78,7 @@ some_steps [] qs same some none = some refl
 some_steps (p ∷ ps) qs same some none =
     let same' : map step_view (p ∷ ps) ≡ [] = same ∙ ap (map step_view) none in absurd cc
 
--- the lines of paths that are seen alike are the same
+-- the lines of paths that are shown alike are the same
 pub one_lines : (text : Option (List ℕ)) (ps qs : List Step) (a b : Option FileLines)
     → map step_view ps ≡ map step_view qs → (ps ≡ [] → ⊥) → AreLinesAt text ps a → AreLinesAt text qs b → a ≡ b
 one_lines None ps qs a b same some one other = one ∙ sym other

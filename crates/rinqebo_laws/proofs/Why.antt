@@ -55,7 +55,7 @@ not_fallback Decides is = absurd cc
 
 -- ---- lists
 
--- what stands in a list with one element more is an element before it, or this one
+-- what is in a list with one element more is an element before it, or this one
 pub before_or_last : {X : Type 0} (xs : List X) (x y : X) (n : ℕ) → slice_get (xs ++ x ∷ []) n ≡ Some y
     → (slice_get xs n ≡ Some y) ⊎ (x ≡ y)
 before_or_last [] x y zero is = let same : x ≡ y = cc in inr same
@@ -245,7 +245,7 @@ module _ {M K P : Type 0} (layers : List Layer)
       (subst (λ o. AreOriginsBy (record { layers = layers; chain = chain }) wraps (key_table s mode) (key_name s) o
       row.origins.items) both.1 is.origins_reported)
 
-  -- what the fallback gives where none decides
+  -- the fallback if none decides
   pub by_fallback : (fallback : Rule) → option_map value_view fallback.value
       ≡ option_map (reported_of s) (fallback_of fields mode s)
       → AreProfileOrigins layers chain (key_table s mode) (key_name s) (origins_of fallback)

@@ -48,7 +48,7 @@ pub record HaveKey (rows : List SettingRow) (key : List ℕ) : Type 0 where
   pub is_row : Contains rows row
   pub has_key : string_bytes row.key ≡ key
 
--- Rows have one with a key exactly where some rule decides.
+-- Rows have one with a key exactly if some rule decides.
 abbrev pub HaveKeyIfDecided : List Rule → List SettingRow → List ℕ → Type 0
 HaveKeyIfDecided rules rows key = HaveKey rows key ↔ ((n : ℕ) × DecidesAt rules n)
 

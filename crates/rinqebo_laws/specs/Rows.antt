@@ -13,7 +13,7 @@ pub record SaySame (one other : SettingRow) : Type 0 where
   pub value : AreAlike one.value other.value
   pub origins : map origin_shown one.origins.items ≡ map origin_shown other.origins.items
 
--- Two reports agree on a test: they name it alike, say the same of whether it runs, and of each
+-- Two reports agree on a test: they name it alike, and agree on whether it runs, and on each
 -- setting that both report.
 pub record AgreeOnTest (one other : TestRows) : Type 0 where
   pub binary : string_bytes one.binary ≡ string_bytes other.binary

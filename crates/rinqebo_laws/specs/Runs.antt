@@ -18,16 +18,16 @@ use Rattle.rinqebo_rules.specs.ProfileOrigins.{AreProfileOrigins}
 use Rattle.rinqebo_rules.specs.Reported.{boolean, scalar, value_view}
 use Rattle.rinqebo_rules.specs.Runs.{runs_if}
 
--- A row says that a test runs exactly where a rule says that its default filter matches the test,
--- and a list does not say that the test is ignored.
+-- A row says that a test runs exactly if a rule says that its default filter matches the test,
+-- and no list marks the test as ignored.
 pub record SaysByRule (is_ignored : Bool) (rule : Rule) (row : SettingRow) : Type 0 where
   pub matches : Bool
   pub rule_says : option_map value_view rule.value ≡ Some (scalar (boolean matches))
   pub row_says : option_map value_view row.value
       ≡ Some (scalar (boolean (runs_if matches is_ignored)))
 
--- A row comes from the default filter of the override that decides: it says what that filter does,
--- with one origin, the place of the filter in that override.
+-- A row comes from the default filter of the override that decides: it says whether that filter
+-- matches, with one origin, the place of the filter in that override.
 pub record IsByFilter (layers : List Layer) (is_ignored : Bool) (rule : Rule) (row : SettingRow)
     : Type 0 where
   pub says : SaysByRule is_ignored rule row
@@ -35,8 +35,8 @@ pub record IsByFilter (layers : List Layer) (is_ignored : Bool) (rule : Rule) (r
   pub alone : row.origins.items ≡ origin ∷ []
   pub within : IsWithin layers (key_steps None (codes "default-filter")) rule.origin origin
 
--- A row comes from the default filter of a chain of profiles, where no override decides: it says
--- what that filter does, with the origins of the filter.
+-- A row comes from the default filter of a chain of profiles, if no override decides: it says
+-- whether that filter matches, with the origins of the filter.
 pub record IsByChain (is_ignored : Bool) (fallback : Rule) (row : SettingRow) : Type 0 where
   pub says : SaysByRule is_ignored fallback row
   pub origins : map origin_shown (origins_of fallback) ≡ map origin_shown row.origins.items

@@ -11,7 +11,7 @@ use Rattle.rinqebo_report.specs.declared.value.Value.{Value}
 use Rattle.rinqebo_report.specs.declared.value.Value.TheVariants as values
 use Rattle.rinqebo_rules.specs.Reported.{value_view}
 
--- An origin, but for its columns: nothing writes a value, the default table does, or a file does:
+-- An origin without its columns: nothing writes a value, the default table does, or a file does:
 -- under a profile, in its fields or in one of its rules, or outside of all profiles. A file is a
 -- source, with the lines that have the value.
 pub data ShownOrigin : Type 0 where

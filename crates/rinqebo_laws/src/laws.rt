@@ -25,11 +25,11 @@ ghost use Rattle.rinqebo_run.specs.ReportsReasons.{IfWhy, ReportsReasons};
 ghost use Rattle.rinqebo_run.specs.RunsReasons.{ReportsRunsReasons};
 
 /// What `explain --why` and `explain` report of a setting of a test agree, in one session, profile
-/// and mode. At most one rule decides. Where one does, the value is what that rule writes, and it
-/// comes from the place of the key in that rule. Where none does, the value and the origins are
-/// those of the fallback, and come from the chain of profiles; of a run wrapper, which has neither,
-/// the fallback is built in, and `explain` reports no origins. Where no keys are requested,
-/// `explain` reports the setting exactly where some rule decides.
+/// and mode. At most one rule decides. If one does, the value is what that rule writes, and it
+/// comes from the place of the key in that rule. If none does, the value and the origins are those
+/// of the fallback, and come from the chain of profiles; of a run wrapper, which has neither, the
+/// fallback is built in, and `explain` reports no origins. If no keys are requested, `explain`
+/// reports the setting exactly if some rule decides.
 pub fn law_why_agrees()
     ensures one { (session : Session) (profile : Name) (test : FoundTest) (s : Setting)
         (why : Report) → ReportsReasons session profile test s why
@@ -52,10 +52,10 @@ pub fn law_why_agrees()
 {}
 
 /// What `explain --why runs` and `explain` report of whether a test runs agree, in one session,
-/// profile and mode. At most one override decides. Where one does, the test runs exactly where the
-/// default filter of this override matches it and no list says that it is ignored, and that comes
-/// from the place of the filter. Where none does, the same is so of the default filter of the chain
-/// of profiles, and both report the same origins of it.
+/// profile and mode. At most one override decides. If one does, the test runs exactly if the
+/// default filter of this override matches it and no list marks it as ignored, and that comes from
+/// the place of the filter. If none does, the same is so of the default filter of the chain of
+/// profiles, and both report the same origins of it.
 pub fn law_why_runs_agrees()
     ensures one { (session : Session) (profile : Name) (test : FoundTest) (why : Report)
         → ReportsRunsReasons session profile test why
@@ -70,7 +70,7 @@ pub fn law_why_runs_agrees()
 {}
 
 /// What a list and `explain` report of a test of the list agree, in one session, profile and mode:
-/// whether it runs, and the value and the origins of each setting that both report. Where the same
+/// whether it runs, and the value and the origins of each setting that both report. If the same
 /// settings are requested, both report the same settings, in the same order. A test that `explain`
 /// finds in a list is a test of the list, and the same one each time.
 pub fn law_list_agrees()

@@ -11,8 +11,8 @@ ghost use Rattle.rinqebo_rules.specs.Verdicts.{IsDeciding};
 ghost use Rattle.rinqebo_rules.specs.declared.verdict.RuleVerdict.{RuleVerdict};
 
 /// The verdicts on the rules of a setting for a test: on overrides, or for a run wrapper on script
-/// rules. A rule decides exactly where it holds and writes the setting, and no earlier one does.
-/// The setting has what this rule writes, and where none decides, its fallback.
+/// rules. A rule decides exactly if it holds and writes the setting, and no earlier one does. The
+/// setting has what this rule writes, and if none decides, its fallback.
 pub fn law_rule_verdicts()
     ensures nth { (j : Judged) (s : Setting) (n : ℕ) (rule : EvaluatedRule Filter RuleValue)
         → slice_get (judged_rules j s) n ≡ Some rule

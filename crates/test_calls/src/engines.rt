@@ -14,7 +14,7 @@ use std::alloc::{AllocError, Global};
 use std::cell::Cell;
 
 /// Filters by name: a text matches the tests of that name and the binaries of that id, and the
-/// empty text all. A text with `!` is refused. There is no memory for more than so many readings.
+/// empty text all. A text with `!` is refused. It has memory for so many readings.
 #[derive(Drop)]
 pub struct Names {
     room: Cell<usize>,

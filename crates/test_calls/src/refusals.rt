@@ -1,4 +1,4 @@
-//! An engine that has no memory for more than so many filters, and that refuses texts with `!`.
+//! An engine that has memory for so many filters, and that refuses texts with `!`.
 use crate::engines::{Anywhere, Names};
 use crate::loads::{ends_by_room, load_files, load_text};
 use nextest_config::{
@@ -26,7 +26,7 @@ filter = "d"
 run-wrapper = "w"
 "#;
 
-/// Whether a load ends as an engine with memory for so many readings lets it.
+/// Whether a load ends as it has to with an engine that has memory for so many readings.
 fn ends_by_readings(alloc: Global, room: usize) -> bool {
     let names = Names::with_room(room);
     let engines = ParseContext {
@@ -111,7 +111,7 @@ fn load_refused(alloc: Global) -> Result<NextestConfig<Names, Anywhere>, ConfigP
     load_files(alloc, &engines, HIGHER, &tools, &mut warnings)
 }
 
-/// Whether what does not compile stands in these sections.
+/// Whether what does not compile is in these sections.
 fn is_in(error: &ConfigParseError, sections: &[ConfigCompileSection]) -> bool {
     match error.kind() {
         ConfigParseErrorKind::CompileErrors(errors) => errors

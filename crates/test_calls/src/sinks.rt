@@ -1,4 +1,4 @@
-//! A sink that has no memory for more than so many warnings.
+//! A sink that has memory for so many warnings.
 use crate::loads::{ends_by_room, load_text};
 use nextest_config::{ConfigSource, ConfigWarnings, DefaultConfigWarnings, ParseContext};
 use std::alloc::{AllocError, Global};
@@ -77,7 +77,7 @@ command = "x"
 filter = "all()"
 "#;
 
-/// Whether with room for so many warnings these are kept, and the load ends so.
+/// Whether with memory for so many warnings these are kept, and the load ends so.
 fn keeps_room(alloc: Global, room: usize) -> bool {
     let mut sink = Scarce {
         kept: DefaultConfigWarnings::new(alloc),

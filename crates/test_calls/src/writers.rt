@@ -1,4 +1,4 @@
-//! Writers that fail: nothing follows, and the status says so.
+//! Writers that fail: nothing is written afterwards, and the status is right.
 use nextest_config::ReadOutcome;
 use nextest_explain::explain;
 use nextest_files::FileReader;
@@ -135,7 +135,7 @@ fn check_failing(
     Ok(())
 }
 
-/// The words, and the status where the writers take all.
+/// The arguments, and the status if the writers take all.
 static ROWS: [(&str, u8); 7] = [
     ("/w default test b t", 0),
     ("/w default test b t --all", 0),

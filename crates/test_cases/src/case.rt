@@ -3,7 +3,7 @@ use crate::files::StoredFiles;
 use std::alloc::{AllocError, Global};
 use thiserror::Error;
 
-/// Files, and the lines that say what a program does over them.
+/// Files, and the lines of what a program does over them.
 #[derive(Drop)]
 pub struct Case<'a> {
     /// Its name.
@@ -17,7 +17,7 @@ pub struct Case<'a> {
 /// Why a text is not a list of cases.
 #[derive(Debug, Drop, Error)]
 pub enum CaseError<'a> {
-    /// A line says nothing that a case may say.
+    /// A line is not one that a case may have.
     #[error("no line of a case: `{0}`")]
     Line(&'a str),
     /// A case runs nothing.
@@ -43,7 +43,7 @@ impl<'a> Case<'a> {
         }
     }
 
-    /// Takes a line that stands below the one that begins the case.
+    /// Takes a line below the one that begins the case.
     fn take_line(&mut self, alloc: Global, line: &'a str) -> Result<(), CaseError<'a>> {
         if !self.files.take_line(alloc, line)? {
             self.lines.push(line).map_err(AllocError::from)?;

@@ -118,7 +118,7 @@ impl<'a> StoredFiles<'a> {
         Ok(())
     }
 
-    /// Takes a part of a text that stands many times, in which `{}` is the number of the time.
+    /// Takes a part of a text that is repeated, in which `{}` is the number of the repetition.
     fn add_times(
         &mut self,
         alloc: Global,
@@ -191,7 +191,7 @@ impl FileReader for StoredFiles<'_> {
     }
 }
 
-/// The files of a case, where no more than some bytes of a text are there.
+/// The files of a case, with no more than some bytes of a text.
 #[derive(Clone, Copy)]
 pub struct Beginnings<'a> {
     /// The files.

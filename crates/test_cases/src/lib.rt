@@ -1,9 +1,9 @@
-//! Cases of test programs: files in memory, and lines that say what a program does over them.
+//! Cases of test programs: files in memory, and lines of what a program does over them.
 //!
-//! Empty lines and lines that begin with `#` say nothing. A line `case NAME` begins a case. Below it
+//! Empty lines and lines that begin with `#` are comments. A line `case NAME` begins a case. Below it
 //! are lines about its files, and lines that the program itself reads:
 //!
-//! | Line | What it says |
+//! | Line | Meaning |
 //! |---|---|
 //! | `file PATH` | there is a file at this path; the lines below it that begin with two spaces are its text |
 //! | `missing PATH` | there is no file, as at each path that the case doesn't name |

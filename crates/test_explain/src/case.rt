@@ -1,4 +1,4 @@
-//! What the lines of a case say beside its files: the command lines that run, and what is printed.
+//! The lines of a case beside its files: the command lines that run, and what is printed.
 use std::alloc::{AllocError, Global};
 use test_cases::{Case, CaseError};
 
@@ -40,7 +40,7 @@ impl<'a> Setup<'a> {
         Ok(())
     }
 
-    /// What the lines of a case say beside its files.
+    /// The lines of a case beside its files.
     pub fn of(alloc: Global, case: &Case<'a>) -> Result<Setup<'a>, CaseError<'a>> {
         let mut setup = Setup {
             shown: None,

@@ -12,7 +12,7 @@ struct Ending {
     err: String,
 }
 
-/// Runs over the files of a case, where no more than some bytes of a text are there.
+/// Runs over the files of a case, with no more than some bytes of a text.
 fn ending_of(
     alloc: Global,
     case: &Case<'_>,
@@ -169,7 +169,7 @@ fn add_without_details(report: &mut String, text: &str) -> Result<(), AllocError
     Ok(())
 }
 
-/// Whether one of these words stands in a line.
+/// Whether one of these words is in a line.
 fn has_word(line: &str, words: &str) -> bool {
     line.split(' ')
         .any(|word| words.split(' ').any(|wanted| wanted == word))

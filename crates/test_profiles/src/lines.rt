@@ -18,7 +18,7 @@ pub enum Call {
     Resolve,
 }
 
-/// What a call returns, which is made once more where it returns want of memory.
+/// What a call returns, which is made once more if it returns a refusal of memory.
 macro_rules! once_more {
     ($lines:ident, $call:ident, $memory:pat, $answer:expr) => {
         match $answer {

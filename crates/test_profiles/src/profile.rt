@@ -1,11 +1,11 @@
-//! What a profile says, before and after the platforms are known.
+//! What a profile writes, before and after the platforms are known.
 use crate::lines::{Call, Lines, once_more};
 use crate::run::{Early, Profile, Run};
 use indexmap::IndexMap;
 use nextest_config::{NextestRunMode, ScriptId};
 use std::alloc::{AllocError, Global};
 
-/// Adds what a profile says before the platforms are known.
+/// Adds what a profile writes before the platforms are known.
 pub fn add_early(run: &Run<'_>, lines: &mut Lines<'_>, early: &Early<'_>) {
     lines.add("early-store-dir", &early.store_dir());
     lines.add("has-junit", &early.has_junit());
@@ -21,7 +21,7 @@ pub fn add_early(run: &Run<'_>, lines: &mut Lines<'_>, early: &Early<'_>) {
     }
 }
 
-/// Adds what a profile says on the platforms of a build.
+/// Adds what a profile writes on the platforms of a build.
 pub fn add_profile(run: &Run<'_>, lines: &mut Lines<'_>, profile: &Profile<'_>) {
     add_names(run, lines, profile);
     add_places(run, lines, profile);
@@ -55,7 +55,7 @@ fn ids_of<V>(alloc: Global, scripts: &IndexMap<ScriptId, V>) -> Result<Vec<&str>
     Ok(ids)
 }
 
-/// Adds where a profile stores, its report, and where its default filter stands, with its text.
+/// Adds the directory of a profile, its report, and the place and the text of its default filter.
 fn add_places(run: &Run<'_>, lines: &mut Lines<'_>, profile: &Profile<'_>) {
     lines.add("store-dir", &profile.store_dir());
     let made = once_more!(lines, Junit, Err(AllocError), profile.junit(run.alloc));
@@ -75,7 +75,7 @@ fn add_places(run: &Run<'_>, lines: &mut Lines<'_>, profile: &Profile<'_>) {
     lines.add("default-filter-text", &filter.text);
 }
 
-/// Adds what a profile tells a run.
+/// Adds the values of a profile for a run.
 fn add_run(lines: &mut Lines<'_>, profile: &Profile<'_>) {
     lines.add("test-threads", &profile.test_threads());
     lines.add("max-fail", &profile.max_fail());
@@ -93,7 +93,7 @@ fn add_limits(lines: &mut Lines<'_>, profile: &Profile<'_>) {
     lines.add("leak-timeout", &profile.leak_timeout());
 }
 
-/// Adds what a profile says of its tests, and when it shows their output.
+/// Adds what a profile writes for its tests, and when it shows their output.
 fn add_of_tests(lines: &mut Lines<'_>, profile: &Profile<'_>) {
     lines.add("retries", &profile.retries());
     lines.add("flaky-result", &profile.flaky_result());

@@ -1,4 +1,4 @@
-//! The report of a run: the load of a case's files, and what a profile of them says.
+//! The report of a run: the load of a case's files, and what a profile of them writes.
 use crate::lines::{Call, Lines, once_more};
 use crate::numbers::add_numbers;
 use crate::profile::{add_early, add_profile};
@@ -24,7 +24,7 @@ pub fn report_of(run: &Run<'_>) -> Result<String, AllocError> {
     lines.into_text()
 }
 
-/// Loads the files of a case, and once more after want of memory.
+/// Loads the files of a case, and once more after memory was refused.
 fn load_once_more(run: &Run<'_>, lines: &mut Lines<'_>) -> Result<Config, ConfigParseError> {
     let error = match load(run) {
         Ok(config) => return Ok(config),
@@ -72,7 +72,7 @@ fn add_refusal<E: Debug>(run: &Run<'_>, lines: &mut Lines<'_>, error: &E) {
     add_rows(run, lines);
 }
 
-/// Adds what a configuration kept, and what a profile of it says.
+/// Adds what a configuration kept, and what a profile of it writes.
 fn add_config(run: &Run<'_>, lines: &mut Lines<'_>, config: &Config) {
     add_warnings(run, lines, config);
     let asked = once_more!(
@@ -100,8 +100,8 @@ fn add_warnings(run: &Run<'_>, lines: &mut Lines<'_>, config: &Config) {
     }
 }
 
-/// Adds what a profile says before the platforms are known, and on those of the build. After want
-/// of memory the profile that was handed back is asked once more.
+/// Adds what a profile writes before the platforms are known, and on those of the build. If memory
+/// was refused, the profile that was returned is used once more.
 fn add_early_profile(run: &Run<'_>, lines: &mut Lines<'_>, early: Early<'_>) {
     add_early(run, lines, &early);
     match early.apply_build_platforms(run.alloc, run.platforms) {
@@ -110,7 +110,7 @@ fn add_early_profile(run: &Run<'_>, lines: &mut Lines<'_>, early: Early<'_>) {
     }
 }
 
-/// Adds what a profile says on the platforms of the build, where they were applied once in vain.
+/// Adds what a profile writes on the platforms of the build, if they were applied once in vain.
 fn add_once_more(run: &Run<'_>, lines: &mut Lines<'_>, early: Early<'_>) {
     lines.note_again(Call::ApplyBuildPlatforms);
     match early.apply_build_platforms(run.alloc, run.platforms) {
@@ -119,7 +119,7 @@ fn add_once_more(run: &Run<'_>, lines: &mut Lines<'_>, early: Early<'_>) {
     }
 }
 
-/// Adds what a profile says on the platforms of the build, of itself and of what is asked, and then
+/// Adds what a profile writes on the platforms of the build, the results of its queries, and then
 /// the rows and the numbers of rules.
 fn add_evaluatable(run: &Run<'_>, lines: &mut Lines<'_>, profile: &Profile<'_>) {
     let case = run.case;

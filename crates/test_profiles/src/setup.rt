@@ -7,7 +7,7 @@ use nextest_files::FileReader;
 use std::alloc::{AllocError, Global};
 use test_cases::{Case, CaseError, StoredFiles};
 
-/// The host where a case names none.
+/// The host if a case names none.
 const LINUX: &str = "x86_64-unknown-linux-gnu";
 
 /// The files of a case, a build, tests, and the profiles to run.
@@ -124,7 +124,7 @@ impl<'a> Setup<'a> {
         Ok(())
     }
 
-    /// What the lines of a case say.
+    /// The lines of a case.
     pub fn of(alloc: Global, case: &Case<'a>) -> Result<Setup<'a>, CaseError<'a>> {
         let mut setup = Setup::new(alloc, case)?;
         for line in &case.lines {

@@ -68,7 +68,7 @@ fn source_text(alloc: Global, source: Source<'_>) -> Result<String, AllocError> 
     String::from_str(alloc, word)
 }
 
-/// An override by a copy of its id, which is made once more after want of memory.
+/// An override by a copy of its id, which is made once more after memory was refused.
 fn id_text(alloc: Global, id: &OverrideId) -> Result<String, AllocError> {
     let copy = match id.clone() {
         Ok(copy) => copy,
@@ -175,7 +175,7 @@ impl<'a> NameMatcher for Named<'a> {
     }
 }
 
-/// Adds the names of the members of some groups where no test is in a group of its own.
+/// Adds the names of the members of some groups if no test is in a group of its own.
 pub fn add_empty_groups(run: &Run<'_>, lines: &mut Lines<'_>) {
     let members = PrecomputedGroupMembership::empty(run.alloc);
     for group in &run.case.groups {

@@ -10,7 +10,7 @@ use rinqebo_report::{
 use std::alloc::{AllocError, Global};
 use std::mem;
 
-/// The command that a report answers: `check`, unless another one is named.
+/// The command of a report: `check`, unless another one is named.
 #[derive(Drop)]
 enum Command {
     Explain,
@@ -127,7 +127,7 @@ impl Builder {
         }
     }
 
-    /// Whether a list says that the last test is ignored.
+    /// Whether a list marks the last test as ignored.
     fn is_ignored(&self) -> bool {
         match self.tests.last() {
             Some(test) => test.is_ignored,

@@ -77,7 +77,7 @@ fn set_advice(alloc: Global, finding: &mut Finding, line: &Line) -> Result<(), R
     Ok(())
 }
 
-/// Sets what a line says of a finding.
+/// Sets the part of a finding that a line has.
 pub fn complete(alloc: Global, finding: &mut Finding, line: &Line) -> Result<(), RowError> {
     match line.word(0)? {
         "at" => {

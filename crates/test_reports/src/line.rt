@@ -41,7 +41,7 @@ fn unescaped(alloc: Global, text: &str) -> Result<String, RowError> {
     }
 }
 
-/// The character that stands behind a backslash by this one.
+/// The character that this one means behind a backslash.
 fn named(c: char) -> Option<char> {
     match c {
         'n' => Some('\n'),
@@ -76,7 +76,7 @@ impl Line {
         Ok(String::from_str(alloc, self.word(place)?)?)
     }
 
-    /// A copy of the word at a place, unless it stands for nothing.
+    /// A copy of the word at a place, unless it means nothing.
     pub fn optional_text(&self, alloc: Global, place: usize) -> Result<Option<String>, RowError> {
         match self.word(place)? {
             "-" => Ok(None),
@@ -89,7 +89,7 @@ impl Line {
         self.word(place)?.parse::<u64>().ok().ok_or(RowError::NoRow)
     }
 
-    /// The number at a place, unless the word stands for nothing.
+    /// The number at a place, unless the word means nothing.
     pub fn optional_number(&self, place: usize) -> Result<Option<u64>, RowError> {
         match self.word(place)? {
             "-" => Ok(None),

@@ -1,10 +1,10 @@
 //! Prints reports in each of their forms.
 //!
-//! The reports come on standard input. Empty lines and lines that begin with `#` say nothing. Each
-//! other line has words with tabs between them, in which `\n`, `\t`, `\e` and `\\` stand for the end
-//! of a line, a tab, an escape and a backslash; `-` stands for nothing. It is one of these:
+//! The reports come on standard input. Empty lines and lines that begin with `#` are comments. Each
+//! other line has words with tabs between them, in which `\n`, `\t`, `\e` and `\\` are the end of a
+//! line, a tab, an escape and a backslash; `-` means nothing. It is one of these:
 //!
-//! | Line | What it says |
+//! | Line | Meaning |
 //! |---|---|
 //! | `case NAME ROOT` | a report begins, of a workspace with this root |
 //! | `source KIND TOOL PATH` | a source: `default`, `tool`, `organisation`, `explicit` or `discovered` |
@@ -13,7 +13,7 @@
 //! | `explain`, `why KEY`, `list` or `show-config` | the command; without one it is `check` |
 //! | `test BINARY NAME PLATFORM` | a test |
 //! | `runs true`, `runs false` | pages show whether the test runs; without it, it runs and they do not |
-//! | `ignored` | a list says that the test is ignored |
+//! | `ignored` | a list marks the test as ignored |
 //! | `setting KEY` | a setting of the test |
 //! | `entry KEY`, `hidden KEY` | a leaf of the configuration |
 //! | `rule VERDICT` | a rule |
@@ -43,7 +43,7 @@
 //! | `nearest NAME KNOWN ..` | the known name that is nearest to a name is printed |
 //!
 //! A range is the line and the column of its start, and then those of its end. A page has 200
-//! columns, or as many as stand behind its form and a colon, as in `text:40`.
+//! columns, or the number behind its form and a colon, as in `text:40`.
 //!
 //! A line of another form is reported on standard error, and the status is 2.
 #![tactic(auto)]

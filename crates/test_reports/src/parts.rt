@@ -19,7 +19,7 @@ pub fn verdict_of(words: &str) -> Option<Verdict> {
     }
 }
 
-/// The answer of this word.
+/// The value of this word.
 pub fn answer_of(word: &str) -> Option<ConditionAnswer> {
     match word {
         "absent" => Some(ConditionAnswer::Absent),

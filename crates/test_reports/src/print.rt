@@ -43,7 +43,7 @@ fn nearest(alloc: Global, line: &Line) -> Result<String, RowError> {
     Ok(text)
 }
 
-/// How many columns a page has, where a form does not say it.
+/// How many columns a page has, if its form has no number.
 const COLUMNS: usize = 200;
 
 /// The name of a form and the number of columns behind it, as in `text:40`.

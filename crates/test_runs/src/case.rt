@@ -1,4 +1,4 @@
-//! What the lines of a case say beside its files: the environment, and the command lines that run.
+//! The lines of a case beside its files: the environment, and the command lines that run.
 use rinqebo_request::{Environment, RunVariables};
 use std::alloc::{AllocError, Global};
 use test_cases::{Case, CaseError};
@@ -75,7 +75,7 @@ impl<'a> Setup<'a> {
         Ok(())
     }
 
-    /// What the lines of a case say beside its files.
+    /// The lines of a case beside its files.
     pub fn of(alloc: Global, case: &Case<'a>) -> Result<Setup<'a>, CaseError<'a>> {
         let mut setup = Setup {
             environment: environment_in(alloc, "/w")?,

@@ -4,7 +4,7 @@
 //! `/w`, without variables but `COLUMNS`, which is 200. A file at the path `-` is standard input. Each
 //! line of a case that is not about its files is one of these:
 //!
-//! | Line | What it says |
+//! | Line | Meaning |
 //! |---|---|
 //! | `folder PATH` | the folder that the program runs in |
 //! | `set NAME VALUE` | a variable of the environment |
@@ -29,7 +29,7 @@ use std::io;
 use std::process::ExitCode;
 use test_cases::{Case, CaseError, read_cases};
 
-/// Reads the cases of a text, each with what its lines say.
+/// Reads the cases of a text, each with its lines.
 fn cases_of(alloc: Global, text: &str) -> Result<Vec<(Case<'_>, Setup<'_>)>, CaseError<'_>> {
     let mut cases = Vec::new(alloc);
     for case in read_cases(alloc, text)? {

@@ -1,7 +1,7 @@
 //! Where the values at paths are written, as text.
 //!
 //! A path is its steps with spaces between them: a position in digits, or else a key. It
-//! prints the lines, the bytes of the key and those of the value, or `-` where there are none:
+//! prints the lines, the bytes of the key and those of the value, or `-` if there are none:
 //! `2..2 key 13..20 value 23..24`. A path without a place prints `none`.
 
 use nextest_places::{Lines, Step};

@@ -3,7 +3,7 @@
 //! The items of a text come in their order, with `; ` between them. A part of a key is its path,
 //! its span and what its key is of: `a.b 0..1 pair`, `a 1..2 table` or `a 2..3 element 0`, in which
 //! the number is the position of the element that the keys below it are inside. A value is its
-//! path, `=`, its span and its kind, or `-` where its bytes read as no value: `a = 4..5 integer`. A
+//! path, `=`, its span and its kind, or `-` if its bytes read as no value: `a = 4..5 integer`. A
 //! name with other characters than those of a key without quotes is written in double quotes. One that
 //! reads as no key is `?`.
 

@@ -1,4 +1,4 @@
-//! Filters, and what they say of tests.
+//! Filters, and their values at tests.
 //!
 //! A row has nine columns with tabs between: the text of a filter, for what it is read (`override`,
 //! `default` or `test`), of a test the id of its package, the id, kind and name of its binary, the
@@ -12,7 +12,7 @@
 //! | Result | Printed |
 //! |---|---|
 //! | the text is refused | `refused`, the name of the fault, where it starts and how long it is, in bytes |
-//! | a filter | `ok`, whether it matches the test, whether it matches the binary, the reading, and the parts that only a test can answer |
+//! | a filter | `ok`, whether it matches the test, whether it matches the binary, the reading, and the parts that only a test can decide |
 //!
 //! Whether it matches the binary may also be `unknown`. The texts of a reading and those parts are in
 //! double quotes, in which `\n`, `\r`, `\t`, `\"` and `\\` are written for characters.
@@ -24,7 +24,7 @@ use filter_engine::{
 use nextest_engines::{BinaryQuery, BuildPlatform, FiltersetKind, TestQuery};
 use std::alloc::{AllocError, Global};
 
-/// What is printed for a row, if it gives no packages.
+/// What is printed for a row, unless it is of packages.
 pub fn answer_to(
     alloc: Global,
     filters: &mut NextestFilters,
@@ -45,7 +45,7 @@ pub fn answer_to(
     }
 }
 
-/// What comes of reading the filter of a row, and of asking it.
+/// The result of reading the filter of a row, and of evaluating it.
 fn answer(alloc: Global, filters: &NextestFilters, row: &str) -> Result<String, RowError> {
     let mut columns = Vec::new(alloc);
     for column in row.split('\t') {
@@ -116,8 +116,8 @@ fn default_filter(
     }
 }
 
-/// What a filter says of a test and of its binary, how it was read, and the parts that only a test
-/// can answer.
+/// The values of a filter at a test and at its binary, how it was read, and the parts that only a
+/// test can decide.
 fn matches(
     alloc: Global,
     filter: &Filterset<FieldMatcher>,

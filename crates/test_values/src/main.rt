@@ -1,4 +1,4 @@
-//! Reads rows of several kinds, one a line, and prints what each of them says.
+//! Reads rows of several kinds, one a line, and prints the result of each.
 //!
 //! A line of standard input is the word of a kind, a tab and the row. Empty lines and lines that
 //! begin with `#` print nothing.
@@ -8,7 +8,7 @@
 //! | `value` | a value of a configuration, as its reader reads it (`value.rt`) |
 //! | `faults` | a file, whose faults of elements are printed (`faults.rt`) |
 //! | `place` | a path in a text, whose lines are printed (`place.rt`) |
-//! | `schema` | a place of a configuration file, and what its shape says of it (`schema.rt`) |
+//! | `schema` | a place of a configuration file, and its shape (`schema.rt`) |
 //! | `platform` | the spec of platforms, read, or evaluated on a platform (`platform.rt`) |
 //! | `filter` | a filter and a test (`filter.rt`) |
 //!

@@ -76,7 +76,7 @@ fn defined_row(alloc: Global, row: &str) -> Result<Option<TargetRow<'_>>, AllocE
     }
 }
 
-/// What comes of reading the text of a row, and of its value on the platform that the row names.
+/// The result of reading the text of a row, and its value on the platform that the row names.
 fn answer(alloc: Global, defined: &[TargetRow<'_>], row: &str) -> Result<String, RowError> {
     let (text, platform) = row.split_once('\t').ok_or(RowError::NoRow)?;
     let text = unescaped(alloc, text, Escapes::Numbered)?;

@@ -3,7 +3,7 @@ use filter_engine::MetadataFault;
 use nextest_documents::TextFault;
 use std::alloc::{AllocError, AllocFailed};
 
-/// Why a row has no answer.
+/// Why a row has no result.
 #[derive(Clone, Copy, Debug)]
 pub enum RowError {
     /// It is of no kind, or not of the form of its kind.

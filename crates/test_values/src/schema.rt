@@ -1,4 +1,4 @@
-//! What the shape of a configuration file says of its places.
+//! The shape of a configuration file at its places.
 //!
 //! | Row | Prints |
 //! |---|---|
@@ -9,7 +9,7 @@ use crate::row::RowError;
 use nextest_shape::{Shape, file_shape, json_schema, keys_of, schema_page};
 use std::alloc::Global;
 
-/// What the shape of a file says of a row's place.
+/// The shape of a file at a row's place.
 pub fn answer_to(alloc: Global, row: &str) -> Result<String, RowError> {
     if row == "page" {
         let page = schema_page(alloc)?;

@@ -1,4 +1,4 @@
-//! Filters in ordinary Rust, read and asked of many tests, and its two crates of patterns alone. It is there to
+//! Filters in ordinary Rust, read and matched against many tests, and its two crates of patterns alone. It is there to
 //! be compared with `test_values`.
 #[path = "../../plain_program/src/filter.rs"]
 mod filter;
@@ -42,7 +42,7 @@ fn holding(filters: &str, names: &str) -> Result<(), String> {
 fn matches(kind: &str, pattern: &str, name: &str) -> Option<bool> {
     match kind {
         "regex" => Regex::new(pattern).ok().map(|regex| regex.is_match(name)),
-        // A name is no path: `/` is a byte as others, which is the crate's own choice where none is made.
+        // A name is not a path: `/` is a byte like others, which is the crate's own default.
         "glob" => GlobBuilder::new(pattern).build().ok().map(|glob| glob.compile_matcher().is_match(name)),
         _ => None,
     }

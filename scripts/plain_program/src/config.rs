@@ -29,7 +29,7 @@ pub struct Config {
     pub rules: BTreeMap<String, Rules>,
 }
 
-/// What comes of a load. Without a configuration there is an error.
+/// The result of a load. Without a configuration there is an error.
 #[derive(Default)]
 pub struct Loaded {
     pub config: Option<Config>,

@@ -1,4 +1,4 @@
-//! The language of filters, without what asks for a graph of packages or for groups.
+//! The language of filters, without the predicates that need a graph of packages or groups.
 use globset::{Glob, GlobMatcher};
 use regex::Regex;
 
@@ -61,7 +61,7 @@ enum Name {
     Package,
 }
 
-/// A filter. `Default` asks for the default filter, which a default filter may not.
+/// A filter. `Default` is the default filter, which a default filter may not use.
 pub enum Filter {
     All,
     None,
@@ -201,7 +201,7 @@ impl<'a> Parser<'a> {
         let filter = match word {
             "all" => Filter::All,
             "none" => Filter::None,
-            "default" if self.is_default => return Err("`default()` may not stand in a default filter".to_owned()),
+            "default" if self.is_default => return Err("`default()` may not be in a default filter".to_owned()),
             "default" => Filter::Default,
             "test" => self.name(Name::Test)?,
             "binary" => self.name(Name::Binary)?,

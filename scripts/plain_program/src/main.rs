@@ -1,4 +1,4 @@
-//! Two commands of `rinqebo` in ordinary Rust: `explain` tells the settings of a test, and `check` what
+//! Two commands of `rinqebo` in ordinary Rust: `explain` prints the settings of a test, and `check` what
 //! is wrong with the repository's file. It is there to be measured beside `rinqebo`.
 mod config;
 mod filter;
@@ -101,7 +101,7 @@ fn check(loaded: &Loaded, deny_warnings: bool) -> io::Result<u8> {
     })
 }
 
-/// The settings that are asked for: all, where none is named.
+/// The requested settings: all, if none is named.
 fn asked(keys: &[String]) -> Result<Vec<Setting>, String> {
     if keys.is_empty() {
         return Ok(Setting::ALL.to_vec());

@@ -142,7 +142,7 @@ impl Display for Origin<'_> {
 /// A value, and where it comes from. Only a run wrapper may be absent.
 pub type Answer<'c> = Option<(Value<'c>, Origin<'c>)>;
 
-/// A configuration, the chain of a profile, and what it is asked on.
+/// A configuration, the chain of a profile, and the platforms of queries.
 pub struct Query<'c> {
     pub config: &'c Config,
     pub chain: &'c [&'c str],
@@ -161,7 +161,7 @@ impl<'c> Query<'c> {
             && rule.filter.as_ref().is_none_or(|filter| filter.matches(test, self.default_filter()))
     }
 
-    /// The answers to all settings of a test.
+    /// All settings of a test.
     pub fn answers(&self, test: &Test) -> [Answer<'c>; 15] {
         let mut answers = Setting::ALL.map(|_| None);
         for &name in self.chain {

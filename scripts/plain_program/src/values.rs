@@ -190,7 +190,7 @@ impl Display for Retries {
     }
 }
 
-/// When a test is slow, and what comes of it.
+/// When a test is slow, and its result then.
 #[derive(Clone, Copy, Debug, Deserialize)]
 #[serde(from = "SlowTimeoutForm")]
 pub struct SlowTimeout {
@@ -240,7 +240,7 @@ impl Display for SlowTimeout {
     }
 }
 
-/// When a test leaks, and what comes of it.
+/// When a test leaks, and its result then.
 #[derive(Clone, Copy, Debug, Deserialize)]
 #[serde(from = "LeakTimeoutForm")]
 pub struct LeakTimeout {

@@ -45,7 +45,7 @@ fn identifier_answer(alloc: Global, text: &str) -> Result<String, RowError> {
     }
 }
 
-/// An identifier, and its parts where it is one of a tool or of the organisation.
+/// An identifier, and its parts if it is one of a tool or of the organisation.
 fn parts_answer(alloc: Global, identifier: &ConfigIdentifier) -> Result<String, AllocError> {
     if let Some((tool, name)) = identifier.tool_components() {
         return format!(in alloc; "{identifier}, `{name}` of tool `{tool}`");
@@ -75,7 +75,7 @@ fn key_answer(alloc: Global, text: &str) -> Result<String, RowError> {
     }
 }
 
-/// The tree of a document. What the cause of a refusal says is TOML's.
+/// The tree of a document. The cause of a refusal is the message of the reader of TOML.
 pub fn document_answer(alloc: Global, read: Result<Tree, TextFault>) -> Result<String, RowError> {
     match read {
         Ok(tree) => Ok(format!(in alloc; "{tree:?}")?),

@@ -60,7 +60,7 @@ To = SliceRefOf (1 ∷ []) tt (plain (λ _. u8)) (λ _. tt)
 abbrev Side : Slot 3
 Side = RefMutOf (2 ∷ []) tt (plain (λ _. u32)) (λ _. tt)
 
--- of a `&mut` that was passed on there is what the callee says of its last value
+-- of a `&mut` that was passed on there is the callee's promise of its last value
 abbrev passed : (s : Slot 3) → Stay s yes
 passed s = record { fit = λ κs x w. Unit {0}; has = λ κs x w vs. left ((s.row κs).exit yes) x w }
 

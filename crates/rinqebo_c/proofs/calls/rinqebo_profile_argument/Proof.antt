@@ -1,4 +1,4 @@
--- `rinqebo_profile_argument` asks the profile that is lent at the pointer for an argument of a test, and
+-- `rinqebo_profile_argument` calls the profile that is borrowed at the pointer for an argument of a test, and
 -- passes the caller's buffer on: a walk of its MIR by hand.
 use Rattle.std.proofs.Common.{◌≡◌, ℕ, List, [], ◌∷◌, ◌++◌, refl, Bor, w32, w64}
 use Rattle.std.proofs.raw_atomic.Walks.{proved}
@@ -52,7 +52,7 @@ Out = SliceRefMutOf (2 ∷ []) tt (plain (λ _. u8)) (λ _. tt)
 abbrev Needed : Slot 4
 Needed = RefMutOf (3 ∷ []) tt (plain (λ _. usize)) (λ _. tt)
 
--- of a `&mut` that was passed on there is what the callee says of its last value
+-- of a `&mut` that was passed on there is the callee's promise of its last value
 abbrev passed : (s : Slot 4) → Stay s yes
 passed s = record { fit = λ κs x w. Unit {0}; has = λ κs x w vs. left ((s.row κs).exit yes) x w }
 
@@ -175,11 +175,11 @@ rinqebo_profile_argument_spec 𝓤 𝓛 𝓜 𝓡 wired =
     await ! tt $ pick ! (λ w. split ! $ move ! (1 ∷ []) $ pick ! (λ ws. split ! $ move ! (1 ∷ []) $ heard ! _ (λ is.
     fsplit ! $ drop ! $ fsplit ! $ drop ! $ fsplit ! $ drop ! $ fsplit ! $ move ! (1 ∷ []) $ fsplit ! $ move !
     (1 ∷ []) $ drop ! $
-    -- [`needed` and `out` at their last values; the tokens and the answer; what a `&` holds]
+    -- [`needed` and `out` at their last values; the tokens and the result; what a `&` holds]
     move ! (2 ∷ []) $ split ! $ split ! $ move ! (1 ∷ []) $ split ! $ move ! (3 ∷ []) $
     peeks ! u32 (Is u32) (shows 𝓛 u32) w (v ∷ []) (λ ok. lands_as ! refl refl ((uint_Lawful 𝓛 w32).typed w _ ok).0 $
     returns ! (look_at ! 0 refl) $ free_all ! refl $
-    -- [the answer; the token of the session's loan; the tokens; that of the profile's loan; `needed`;
+    -- [the result; the token of the session's loan; the tokens; that of the profile's loan; `needed`;
     -- `out`; what a `&` holds]
     move ! (1 ∷ 6 ∷ []) $ fjoin ! $ move ! (3 ∷ 0 ∷ []) $ fjoin ! $
     suffices ! _ (ends_at 𝓛 f.ended stayed c (y (block_ptr b o)) v w

@@ -1,4 +1,4 @@
--- `rinqebo_profile_ask` asks the profile that is lent at the pointer, and passes the caller's settings on: a
+-- `rinqebo_profile_ask` calls the profile that is borrowed at the pointer, and passes the caller's settings on: a
 -- walk of its MIR by hand.
 use Rattle.std.proofs.Common.{ℕ, List, [], ◌∷◌, ◌++◌, refl, Bor, w32}
 use Rattle.std.proofs.raw_atomic.Walks.{proved}
@@ -48,7 +48,7 @@ Test = RefOf (0 ∷ []) tt (plain (λ κs. asked.the_row (named_lft 3 1 tt κs))
 abbrev Settings : Slot 3
 Settings = RefMutOf (2 ∷ []) tt (plain (λ _. answer.the_row)) (λ _. tt)
 
--- of a `&mut` that was passed on there is what the callee says of its last value
+-- of a `&mut` that was passed on there is the callee's promise of its last value
 abbrev passed : (s : Slot 3) → Stay s yes
 passed s = record { fit = λ κs x w. Unit {0}; has = λ κs x w vs. left ((s.row κs).exit yes) x w }
 
@@ -129,11 +129,11 @@ rinqebo_profile_ask_spec 𝓤 𝓛 𝓜 𝓡 wired =
     (fact 𝓤 (ReturnsNumbers x test.now settings.now ws.1.1.0 w)))))) (id⊢ 𝓤 _) $
     await ! tt $ pick ! (λ w. split ! $ move ! (1 ∷ []) $ pick ! (λ ws. split ! $ move ! (1 ∷ []) $ heard ! _ (λ is.
     fsplit ! $ drop ! $ fsplit ! $ drop ! $ fsplit ! $ move ! (1 ∷ []) $ drop ! $
-    -- [`settings` at its last value; the tokens and the answer; what a `&` holds]
+    -- [`settings` at its last value; the tokens and the result; what a `&` holds]
     move ! (1 ∷ []) $ split ! $ split ! $ move ! (1 ∷ []) $ split ! $ move ! (3 ∷ []) $
     peeks ! u32 (Is u32) (shows 𝓛 u32) w (v ∷ []) (λ ok. lands_as ! refl refl ((uint_Lawful 𝓛 w32).typed w _ ok).0 $
     returns ! (look_at ! 0 refl) $ free_all ! refl $
-    -- [the answer; the token of the session's loan; the tokens; that of the profile's loan; `settings`;
+    -- [the result; the token of the session's loan; the tokens; that of the profile's loan; `settings`;
     -- what a `&` holds]
     move ! (1 ∷ 5 ∷ []) $ fjoin ! $ move ! (3 ∷ 0 ∷ []) $ fjoin ! $
     suffices ! _ (ends_at 𝓛 f.ended stayed c (y (block_ptr b o)) v w

@@ -1,4 +1,4 @@
--- `rinqebo_profile_open` makes a profile of the session that is lent at the pointer, and moves it into
+-- `rinqebo_profile_open` makes a profile of the session that is borrowed at the pointer, and moves it into
 -- the room: a walk of its MIR by hand.
 use Rattle.std.proofs.Common.{◌≡◌, List, [], ◌∷◌, ◌++◌, refl, sym, ap, ◌∙◌, Bor}
 use Rattle.std.proofs.raw_atomic.Walks.{proved_at}

@@ -1,4 +1,4 @@
--- `rinqebo_profile_status` asks the profile that is lent at the pointer: a walk of its MIR by hand.
+-- `rinqebo_profile_status` calls the profile that is borrowed at the pointer: a walk of its MIR by hand.
 use Rattle.std.proofs.Common.{◌≡◌, ℕ, List, [], ◌∷◌, refl, Bor, w32}
 use Rattle.std.proofs.raw_atomic.Walks.{proved}
 use base.Logic.{id⊢, ex_e, snd∗}
@@ -78,7 +78,7 @@ rinqebo_profile_status_spec 𝓤 𝓛 𝓜 𝓡 wired =
     heard ! _ (λ is. split ! $ split ! $ move ! (1 ∷ []) $ split ! $ move ! (3 ∷ []) $
     peeks ! u32 (Is u32) (shows 𝓛 u32) w (v ∷ []) (λ ok. lands_as ! refl refl ((uint_Lawful 𝓛 w32).typed w _ ok).0 $
     returns ! (look_at ! 0 refl) $ free_all ! refl $
-    -- [the answer; the token of the session's loan; no token; that of the profile's loan; what a `&` holds]
+    -- [the result; the token of the session's loan; no token; that of the profile's loan; what a `&` holds]
     move ! (1 ∷ 4 ∷ []) $ fjoin ! $ move ! (3 ∷ 0 ∷ []) $ fjoin ! $ move ! (1 ∷ []) $
     suffices ! _ (ends_at 𝓛 f.ended stayed c (y (block_ptr b o)) v w (tt, tt) (tt, tt)) $
     nothing ! $ nothing ! $ join ! $ move ! (3 ∷ 0 ∷ 1 ∷ []) $ group ! 3 $ frame ! $ says ! is $ done !))))))))

@@ -1,4 +1,4 @@
--- `rinqebo_run_length` asks the run that is lent at the pointer for its length: a walk of its MIR by hand.
+-- `rinqebo_run_length` calls the run that is borrowed at the pointer for its length: a walk of its MIR by hand.
 use Rattle.std.proofs.Common.{◌≡◌, ℕ, List, [], ◌∷◌, refl, Bor, length, w64}
 use Rattle.std.proofs.raw_atomic.Walks.{proved}
 use base.Logic.{id⊢, ex_e, snd∗}
@@ -76,7 +76,7 @@ rinqebo_run_length_spec 𝓤 𝓛 𝓜 𝓡 wired =
     peeks ! usize (Is usize) (shows 𝓛 usize) w (v ∷ [])
     (λ ok. lands_as ! refl refl ((uint_Lawful 𝓛 w64).typed w _ ok).0 $
     returns ! (look_at ! 0 refl) $ free_all ! refl $
-    -- [the answer; the token of the loan; no token; what a `&` holds]
+    -- [the result; the token of the loan; no token; what a `&` holds]
     move ! (1 ∷ 3 ∷ []) $ fjoin ! $ move ! (1 ∷ []) $
     suffices ! _ (ends_at 𝓛 f.ended stayed c (y (block_ptr b o)) v w (tt, tt) (tt, tt)) $
     nothing ! $ nothing ! $ join ! $ move ! (3 ∷ 0 ∷ 1 ∷ []) $ group ! 3 $ frame ! $ says ! is $ done !)))))))

@@ -1,4 +1,4 @@
--- `rinqebo_run_text` asks the run that is lent at the pointer for a piece of its text, and passes the
+-- `rinqebo_run_text` calls the run that is borrowed at the pointer for a piece of its text, and passes the
 -- caller's buffer on: a walk of its MIR by hand.
 use Rattle.std.proofs.Common.{ℕ, List, [], ◌∷◌, ◌++◌, refl, Bor, w64}
 use Rattle.std.proofs.raw_atomic.Walks.{proved}
@@ -45,7 +45,7 @@ use Rattle.rinqebo_resolve.proofs.run.Run.copy_piece.Met.{met}
 abbrev Out : Slot 1
 Out = SliceRefMutOf (0 ∷ []) tt (plain (λ _. u8)) (λ _. tt)
 
--- of a `&mut` that was passed on there is what the callee says of its last value
+-- of a `&mut` that was passed on there is the callee's promise of its last value
 abbrev passed : (s : Slot 1) → Stay s yes
 passed s = record { fit = λ κs x w. Unit {0}; has = λ κs x w vs. left ((s.row κs).exit yes) x w }
 
@@ -121,12 +121,12 @@ rinqebo_run_text_spec 𝓤 𝓛 𝓜 𝓡 wired =
     (fact 𝓤 (IsPieceOf (ending_text x.ending) offset out.now ws.1.1.0 w)))))) (id⊢ 𝓤 _) $
     await ! tt $ pick ! (λ w. split ! $ move ! (1 ∷ []) $ pick ! (λ ws. split ! $ move ! (1 ∷ []) $ heard ! _ (λ is.
     fsplit ! $ drop ! $ fsplit ! $ drop ! $ fsplit ! $ move ! (1 ∷ []) $ drop ! $
-    -- [`out` at its last value; the tokens and the answer; what a `&` holds]
+    -- [`out` at its last value; the tokens and the result; what a `&` holds]
     move ! (1 ∷ []) $ split ! $ split ! $ move ! (2 ∷ []) $
     peeks ! usize (Is usize) (shows 𝓛 usize) w (v ∷ [])
     (λ ok. lands_as ! refl refl ((uint_Lawful 𝓛 w64).typed w _ ok).0 $
     returns ! (look_at ! 0 refl) $ free_all ! refl $
-    -- [the answer; the token of the loan; the token; `out`; what a `&` holds]
+    -- [the result; the token of the loan; the token; `out`; what a `&` holds]
     move ! (1 ∷ 4 ∷ []) $ fjoin ! $
     suffices ! _ (ends_at 𝓛 f.ended stayed c (y (block_ptr b o)) v w (tt, (tt, (ws.1.1.0, tt)))
     (tt, (tt, (tt, tt)))) $

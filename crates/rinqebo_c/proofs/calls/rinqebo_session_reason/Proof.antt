@@ -1,4 +1,4 @@
--- `rinqebo_session_reason` asks the session that is lent at the pointer, and passes the caller's buffer
+-- `rinqebo_session_reason` calls the session that is borrowed at the pointer, and passes the caller's buffer
 -- on: a walk of its MIR by hand.
 use Rattle.std.proofs.Common.{◌≡◌, ℕ, List, [], ◌∷◌, ◌++◌, refl, string_bytes, Bor, w32}
 use Rattle.std.proofs.raw_atomic.Walks.{proved}
@@ -48,7 +48,7 @@ Out = SliceRefMutOf (0 ∷ []) tt (plain (λ _. u8)) (λ _. tt)
 abbrev Needed : Slot 2
 Needed = RefMutOf (1 ∷ []) tt (plain (λ _. usize)) (λ _. tt)
 
--- of a `&mut` that was passed on there is what the callee says of its last value
+-- of a `&mut` that was passed on there is the callee's promise of its last value
 abbrev passed : (s : Slot 2) → Stay s yes
 passed s = record { fit = λ κs x w. Unit {0}; has = λ κs x w vs. left ((s.row κs).exit yes) x w }
 
@@ -115,11 +115,11 @@ rinqebo_session_reason_spec 𝓤 𝓛 𝓜 𝓡 wired =
     (fact 𝓤 (IsCopiedOut (string_bytes x.reason) out.now ws.1.0 ws.1.1.0 w)))))) (id⊢ 𝓤 _) $
     await ! tt $ pick ! (λ w. split ! $ move ! (1 ∷ []) $ pick ! (λ ws. split ! $ move ! (1 ∷ []) $ heard ! _ (λ is.
     fsplit ! $ drop ! $ fsplit ! $ move ! (1 ∷ []) $ fsplit ! $ move ! (1 ∷ []) $ drop ! $
-    -- [`needed` and `out` at their last values; the tokens and the answer; what a `&` holds]
+    -- [`needed` and `out` at their last values; the tokens and the result; what a `&` holds]
     move ! (2 ∷ []) $ split ! $ split ! $ move ! (2 ∷ []) $
     peeks ! u32 (Is u32) (shows 𝓛 u32) w (v ∷ []) (λ ok. lands_as ! refl refl ((uint_Lawful 𝓛 w32).typed w _ ok).0 $
     returns ! (look_at ! 0 refl) $ free_all ! refl $
-    -- [the answer; the token of the loan; the tokens; `needed`; `out`; what a `&` holds]
+    -- [the result; the token of the loan; the tokens; `needed`; `out`; what a `&` holds]
     move ! (1 ∷ 5 ∷ []) $ fjoin ! $
     suffices ! _ (ends_at 𝓛 f.ended stayed c (y (block_ptr b o)) v w (tt, (ws.1.0, (ws.1.1.0, tt)))
     (tt, (tt, (tt, tt)))) $

@@ -1,4 +1,4 @@
--- `rinqebo_session_status` asks the session that is lent at the pointer: a walk of its MIR by hand.
+-- `rinqebo_session_status` calls the session that is borrowed at the pointer: a walk of its MIR by hand.
 use Rattle.std.proofs.Common.{◌≡◌, ℕ, List, [], ◌∷◌, refl, Bor, w32}
 use Rattle.std.proofs.raw_atomic.Walks.{proved}
 use base.Logic.{id⊢, ex_e, snd∗}
@@ -74,7 +74,7 @@ rinqebo_session_status_spec 𝓤 𝓛 𝓜 𝓡 wired =
     heard ! _ (λ is. split ! $ split ! $ move ! (2 ∷ []) $
     peeks ! u32 (Is u32) (shows 𝓛 u32) w (v ∷ []) (λ ok. lands_as ! refl refl ((uint_Lawful 𝓛 w32).typed w _ ok).0 $
     returns ! (look_at ! 0 refl) $ free_all ! refl $
-    -- [the answer; the token of the loan; no token; what a `&` holds]
+    -- [the result; the token of the loan; no token; what a `&` holds]
     move ! (1 ∷ 3 ∷ []) $ fjoin ! $ move ! (1 ∷ []) $
     suffices ! _ (ends_at 𝓛 f.ended stayed c (y (block_ptr b o)) v w (tt, tt) (tt, tt)) $
     nothing ! $ nothing ! $ join ! $ move ! (3 ∷ 0 ∷ 1 ∷ []) $ group ! 3 $ frame ! $ says ! is $ done !)))))))
