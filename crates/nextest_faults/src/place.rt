@@ -32,7 +32,7 @@ pub(crate) enum Place {
     Leaf(Leaf),
     /// A table of fields.
     Table {
-        /// What becomes of its other keys.
+        /// Whether its other keys are refused.
         others: Others,
         /// What may stand there that is no table.
         other: Box<Place>,
