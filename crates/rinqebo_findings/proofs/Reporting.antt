@@ -70,14 +70,14 @@ module _ {Fault : Type 0} (IsOf : Fault → Finding → Type 0) (Joined : Fault 
       subst (λ fs. ReportFaults IsOf Joined fs findings) (take_all place faults no_more) reported
 
 -- the findings of the values of a document over the defaults, and of its unknown keys
-pub of_values_found : (layers : List Layer) (source : ℕ) (document laid : Node) (found keys : List FoundFault)
-    (made given : List ValueFault) (of_faults of_keys findings : List Finding) → laid ≡ over document defaults
+pub of_values_found : (layers : List Layer) (source : ℕ) (document laid : Node) (found keys keys_given : List FoundFault)
+    (made given again : List ValueFault) (of_faults of_keys findings : List Finding) → laid ≡ over document defaults
     → Adds [] found (schema.faults a_file [] laid) → Adds [] keys (refused_at (schema.unknown a_file [] laid))
-    → map (λ f. f.fault) made ≡ found → given ≡ made
+    → map (λ f. f.fault) made ≡ found → given ≡ made → again ≡ made → keys_given ≡ keys
     → ReportFaults (IsFindingOf layers source) (IsJoined given) given of_faults
-    → ReportFaults (λ key. IsKeyFinding layers source key.path.items) (λ key. IsInPlace given key.path.items) keys of_keys
+    → ReportFaults (λ key. IsKeyFinding layers source key.path.items) (λ key. IsInPlace again key.path.items) keys_given of_keys
     → findings ≡ of_faults ++ of_keys → ReportValues layers source document findings
-of_values_found layers source document laid found keys made given of_faults of_keys findings laid_is are_all are_keys same same_made reported keys_reported whole =
+of_values_found layers source document laid found keys keys_given made given again of_faults of_keys findings laid_is are_all are_keys same same_made same_again same_keys reported keys_reported whole =
     record {
       found = given;
       are_all = subst (λ fs. Adds [] fs (schema.faults a_file [] (over document defaults)))
@@ -88,7 +88,11 @@ of_values_found layers source document laid found keys made given of_faults of_k
       keys = keys;
       are_all_keys = subst (λ node. Adds [] keys (refused_at (schema.unknown a_file [] node))) laid_is are_keys;
       of_keys = of_keys;
-      keys_reported = keys_reported;
+      keys_reported = subst
+          (λ fs. ReportFaults (λ key. IsKeyFinding layers source key.path.items) (λ key. IsInPlace fs key.path.items) keys of_keys)
+          (same_again ∙ sym same_made)
+          (subst (λ ks. ReportFaults (λ key. IsKeyFinding layers source key.path.items) (λ key. IsInPlace again key.path.items) ks of_keys)
+          same_keys keys_reported);
       whole = whole;
     }
 
