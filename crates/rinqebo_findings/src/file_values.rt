@@ -9,7 +9,7 @@ use crate::element_repairs::leave_out_element;
 use crate::value_faults::{ValueFault, fault_findings, with_strays};
 use nextest_config::Tree;
 use nextest_documents::lay_over;
-use nextest_faults::file_faults;
+use nextest_shape::file_faults;
 use nextest_tables::default_tree;
 use rinqebo_files::Layer;
 use rinqebo_load::Session;
