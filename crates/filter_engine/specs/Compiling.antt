@@ -1,4 +1,4 @@
--- What predicates ask of fields, as the names that have it.
+-- What predicates test of fields, as the names that have it.
 use Rattle.std.specs.Prelude.{ℕ, Bool, true, false, List, Result}
 use Rattle.std.specs.Result.{result_map_both}
 use Rattle.filter_language.specs.declared.matchers.PatternFault.{PatternFault}

@@ -41,7 +41,7 @@ no_length : (outer : List Known) → length outer ≡ 0 → outer ≡ []
 no_length [] e = refl
 no_length (k ∷ outer) e = absurd (omega (arith, e))
 
--- No level stands open behind marks that leave none open.
+-- No level is open behind marks that leave none open.
 pub closed_behind : {M L : Type 0} (answers : Question L → Option Bool) (meaning : M → L)
     (marks : List (mark.Mark M)) → depth_behind 0 marks ≡ 0
     → (let start : Stack = record { inner = fresh; outer = [] } in

@@ -1,4 +1,4 @@
--- Marks that a text writes, and that write a filter that may stand there, are read.
+-- Marks that a text writes, and that write a filter that may be there, are read.
 use Rattle.std.proofs.Common.{◌≡◌, ◌<◌, ◌+◌, ◌==◌, ℕ, zero, suc, Bool, true, false, inl, inr, List, [], ◌∷◌, ◌++◌, Option, None, Some, Result, Ok, is_none, option_map, length, codes, refl, sym, ◌∙◌, ap, subst, arith, append_assoc, append-nil, length-append, if◌then◌else◌}
 use Rattle.std.proofs.lemmas.Bool.Decides.{eqb_tells}
 use Rattle.std.specs.Option.{option_or, option_and_then}
@@ -17,7 +17,7 @@ use Rattle.filter_language.proofs.Marks.{next_wanted, next_joining}
 use Rattle.filter_language.proofs.PredicatesRead.{IsAsked, question_read}
 use Rattle.filter_language.proofs.Spelled.{both_true, skips}
 
--- What a mark begins with is no blank.
+-- What a mark begins with is not a blank.
 pub record IsMarkFront (spelling : List ℕ) : Type 0 where
   pub first : ℕ
   pub more : List ℕ

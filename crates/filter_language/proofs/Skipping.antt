@@ -129,7 +129,7 @@ closed_agrees s all new is agree =
     subst (λ (u : Stack). Agree u (closed_by all.inner all.outer)) (sym is)
     (closed_agree s.inner s.outer all.inner all.outer agree)
 
--- What is said at the end, where no level stands open.
+-- What is said at the end, where no level is open.
 pub said_agrees : (s all : Stack) → Agree s all → all.outer ≡ [] → said s.inner ≡ said all.inner
 said_agrees s all agree closed = said_at s.inner s.outer all.inner all.outer agree closed
   where

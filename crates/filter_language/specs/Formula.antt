@@ -7,7 +7,7 @@ use Rattle.filter_language.specs.declared.mark.Match as match
 use Rattle.filter_language.specs.declared.mark.Question as question
 use Rattle.filter_language.specs.declared.mark.Question.TheVariants.{All, Nothing, Default, Platform, Matches}
 
--- A pattern that a name is asked for: the field with that name, the sign and whether the field
+-- A pattern for a name: the field with that name, the sign and whether the field
 -- has it by default, the text with its escapes resolved, the predicate as it was written, and
 -- what the pattern means.
 pub record Pattern (L : Type 0) : Type 0 where

@@ -122,7 +122,7 @@ abbrev pub meaning_of : {L : Type 0} → Sign → List ℕ → List ℕ → Resu
 meaning_of sign start end (Ok meaning) = Ok meaning
 meaning_of sign start end (Err fault) = Err (wrong_between (meaningless sign fault) start end)
 
--- What stands in a text before a rest with which it ends, else all of it.
+-- What is in a text before a rest with which it ends, else all of it.
 abbrev pub before_rest : List ℕ → List ℕ → List ℕ
 before_rest text rest =
     if bytes_eq (drop (length text - length rest) text) rest

@@ -52,7 +52,7 @@ abbrev pub ValuesAreTrue : {L : Type 0} → (L → List ℕ → Bool) → Type 0
 ValuesAreTrue {L} accepts = (f default : Formula L) (test : Test)
     → Tells (value_beside accepts (of_test test) default f) (HoldsBeside accepts default f test)
 
--- What a filter answers of a binary, it answers of each test of the binary.
+-- The known value of a filter at a binary is its value at each test of the binary.
 abbrev pub BinariesSpeakForTests : {L : Type 0} → (L → List ℕ → Bool) → Type 0
 BinariesSpeakForTests {L} accepts = (f default : Formula L) (test : Test) (b : Bool)
     → value_beside accepts (of_binary test.binary) default f ≡ Some b

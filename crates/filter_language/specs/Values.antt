@@ -68,7 +68,7 @@ field_answer accepts s BinaryName = Some (accepts s.binary.binary_name)
 field_answer accepts s Kind = Some (accepts s.binary.kind)
 field_answer accepts s Group = Some false
 
--- What a question answers, by the names that patterns accept.
+-- The value of a predicate, by the names that patterns accept.
 abbrev pub answer : {L : Type 0} → (L → List ℕ → Bool) → Subject → Question L → Option Bool
 answer accepts s Always = Some true
 answer accepts s Never = Some false

@@ -1,4 +1,4 @@
--- The rows and groups that a text writes are told by the text.
+-- The rows and groups that a text writes are determined by the text.
 use Rattle.std.proofs.Common.{◌≡◌, ℕ, ◌+◌, ◌<◌, ◌⊎◌, ◌↔◌, Bool, true, false, ◌&&◌, ◌==◌, eqb-true, List, [], ◌∷◌, ◌++◌, Option, Some, None, length, map, drop, get_or, refl, sym, ap, ◌∙◌, subst, ⊎_elim, inl, inr, arith, true≢false, append_assoc, append-nil}
 use Rattle.std.proofs.lemmas.Bool.{or_cases}
 use Rattle.std.proofs.lemmas.List.{map-append, drop_more, drop-drop, length-drop}
@@ -382,7 +382,7 @@ pub branch_inside : (text : List ℕ) (at len : ℕ) → ends_row true (drop len
 branch_inside text at len ends =
     omega (arith, branch_room (drop len (drop at text)) ends, length-drop len (drop at text), length-drop at text)
 
--- What stands behind a branch, from the byte that ends it on.
+-- What is behind a branch, from the byte that ends it on.
 pub branch_end : (text : List ℕ) (at len byte : ℕ) → ends_row true (drop len (drop at text)) ≡ true
     → get_or text (at + len) 0 ≡ byte
     → drop len (drop at text) ≡ byte ∷ drop (at + (len + 1)) text

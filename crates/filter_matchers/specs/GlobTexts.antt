@@ -9,7 +9,7 @@ use Rattle.filter_matchers.specs.declared.glob.place.Place.TheVariants.{Start, E
 use Rattle.filter_matchers.specs.declared.glob.part.GlobPart.{GlobPart}
 use Rattle.filter_matchers.specs.declared.glob.part.GlobPart.TheVariants.{Byte, AnyByte, AnyBytes, Nothing}
 
--- What stands at the front of a text, and the rest of the text, if it does.
+-- What is at the front of a text, and the rest of the text, if it does.
 abbrev pub Leading : Type 0 → Type 0
 Leading A = Option (A × List ℕ)
 

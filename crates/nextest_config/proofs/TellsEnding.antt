@@ -21,7 +21,7 @@ pub with_source : (source : Option Source) (kind : ConfigParseErrorKind) → is_
 with_source (Some source) kind is = at_cause source (cause_view kind)
 with_source None kind is = cc
 
--- a refusal without a source is want of memory
+-- a refusal without a source is a refusal of memory
 pub without_source : (source : Option Source) (kind : ConfigParseErrorKind) → is_some source ≡ false
     → is_some source ≡ not (is_memory kind)
     → TellsEnding (ending_with source kind) out_of_memory

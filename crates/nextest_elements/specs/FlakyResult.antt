@@ -1,4 +1,4 @@
--- What becomes of a flaky test.
+-- The result of a flaky test.
 use Rattle.std.specs.Prelude.{ℕ, List, [], ◌∷◌, Result, codes}
 use Rattle.nextest_elements.specs.declared.flaky_result.FlakyResult.{FlakyResult}
 use Rattle.nextest_elements.specs.declared.flaky_result.FlakyResult.TheVariants as results

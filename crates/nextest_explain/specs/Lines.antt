@@ -13,17 +13,17 @@ use Rattle.nextest_texts.specs.Owner.{Owner, nobody, a_tool, the_organisation}
 use Rattle.nextest_explain.specs.declared.options.Places.{Places}
 use Rattle.nextest_explain.specs.declared.options.Places.TheVariants.{Words, Whole}
 
--- A file is told by its path as it is, and by who provides it, where that is not the repository.
+-- A file is reported by its path as it is, and by who provides it, where that is not the repository.
 abbrev pub provided : List ℕ → Owner → List ℕ
 provided path nobody = path
 provided path (a_tool tool) = path ++ codes " provided by tool `" ++ tool ++ codes "`"
 provided path the_organisation = path ++ codes " provided by organisation"
 
--- A source is told by its file and its owner.
+-- A source is reported by its file and its owner.
 abbrev pub where_text : Source → List ℕ
 where_text source = provided source.path (owner_of_source source.kind)
 
--- An override is told by the profile under which it stands, its position there, and its source.
+-- An override is reported by the profile under which it stands, its position there, and its source.
 abbrev pub override_text : RuleId → List ℕ
 override_text rule =
     codes "override profile." ++ rule.profile ++ codes ".overrides." ++ decimal rule.index

@@ -48,7 +48,7 @@ fields_next fields i field p es within is =
     drop_more fields i field within ∙ ap (λ f. f ∷ drop (i + 1) fields) (sym is) in
     ap (λ fs. fields_faults (fields_view fs) p es) here
 
--- what stands at a field that is there
+-- what is at a field that is there
 pub field_there : (k : Key) (must : Bool) (f : List ℕ → Node → List Fault) (p q : List ℕ) (n : Node) (o : Option Node)
     → o ≡ Some n → q ≡ below p (key_text k) → f q n ≡ field_faults k must f p o
 unfolding field_faults

@@ -126,7 +126,7 @@ abbrev pub others_view : Others → schemas.Others
 others_view others.Noted = are_noted
 others_view others.Refused = are_refused
 
--- some fields, each with the schema of what may stand there
+-- some fields, each with the schema of what may be there
 abbrev pub fields_of : List (Field Schema) → Fields
 fields_of [] = no_more
 fields_of (f ∷ fs) = field f.key (need_test f.need) f.place (fields_of fs)

@@ -57,7 +57,7 @@ pub(crate) enum Need {
     Growing,
 }
 
-/// What stands at a key of a table.
+/// What is at a key of a table.
 pub(crate) fn member<'t>(members: &'t BTreeMap<String, Tree>, key: Key) -> Option<&'t Tree>
     ensures { option_map (λ tree. tree_view tree.now) result
         ≡ get (key_text key) (entries_view members.entry.now.entries) }

@@ -28,7 +28,7 @@ pub(crate) enum Leaf {
     Identifier,
     /// The group of a test.
     TestGroup,
-    /// What becomes of a flaky test.
+    /// The result of a flaky test.
     FlakyResult,
     /// Which tests are shown during a run.
     StatusLevel,
@@ -50,11 +50,11 @@ pub(crate) enum Leaf {
     Count,
     /// How delays grow.
     Backoff,
-    /// What becomes of a test that leaks.
+    /// The result of a test that leaks.
     LeakResult,
-    /// What becomes of a test that is ended.
+    /// The result of a test that is terminated.
     SlowResult,
-    /// What becomes of a setup script that is ended.
+    /// The result of a setup script that is terminated.
     SetupResult,
     /// Which skipped tests a report lists.
     ReportSkipped,

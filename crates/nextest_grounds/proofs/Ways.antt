@@ -88,7 +88,7 @@ blocked_along (k ∷ ks) n is = leaf_first (k ∷ ks) n refl
 pub blocked_hides : (p : Path) (n : Node) (k : Kind) → way_along p n ≡ blocked → Hides n p k
 blocked_hides p n k is = by_leaf (blocked_along p n is)
 
--- what stands at a path, by its kind
+-- what is at a path, by its kind
 kinds_at : (ks : Path) (o : Option Node) → ((n : Node) → node_at ks n ≡ option_map kind_of (node_along ks n))
     → option_and_then (node_at ks) o ≡ option_map kind_of (option_and_then (node_along ks) o)
 kinds_at ks None ih = refl
@@ -112,7 +112,7 @@ kind_leaf None v is = cc
 kind_leaf (Some (table es)) v is = cc
 kind_leaf (Some n) v is = let same : n ≡ v = cc in ap Some same
 
--- a way from what is no table
+-- a way from what is not a table
 pub blocked_off : (keys : List (Bor (List ℕ))) (n : Node) → as_table n ≡ None → 0 < length keys
     → blocked ≡ way_along (keys_view keys) n
 blocked_off [] n is some = absurd (omega arith)

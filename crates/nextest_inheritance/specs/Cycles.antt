@@ -62,7 +62,7 @@ pub record LeadsIntoOne (parents : Parents) (cycles : List (List Name)) (name : 
   pub is_one : Contains cycles cycle
   pub leads : LeadsInto parents name cycle
 
--- the ancestors of a name, the nearest first, as many as are asked for at most
+-- the ancestors of a name, the nearest first, so many at most
 abbrev pub ancestors : Parents → ℕ → Name → List Name
 ancestors parents zero name = []
 ancestors parents (suc n) name =

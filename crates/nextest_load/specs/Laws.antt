@@ -20,7 +20,7 @@ use Rattle.nextest_load.specs.Config.{ScriptTables, config_of}
 use Rattle.nextest_load.specs.Scripts.{AreScriptsOf}
 use Rattle.nextest_load.specs.Steps.{element_cause}
 
--- A fault is the least of a file's tree: it is one of its faults, and its place stands before the
+-- A fault is the least of a file's tree: it is one of its faults, and its place is before the
 -- places of all others.
 pub record IsLeastFault (n : Node) (fault : Fault) : Type 0 where
   pub before : List SitedCause
@@ -46,7 +46,7 @@ abbrev pub RefusesCycles : (lower : NameSet) → FileText → Type 0
 RefusesCycles lower file =
     TellCycles file (inheritance_faults lower (written_parents file.profiles))
 
--- engines answer default filters: one with no part that only a test can answer has an answer for
+-- engines decide default filters: one with no part that only a test can decide has a known value for
 -- each binary, whatever the default filter means
 abbrev pub AnswerDefaultFilters : {M K P : Type 0} → Readings M K P → Type 0
 AnswerDefaultFilters {M} engines = (text : Text) (m : M)

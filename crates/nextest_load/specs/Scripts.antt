@@ -44,7 +44,7 @@ setup_sections ss = sections_at setup_path ss ++ sections_at old_setup_path ss
 abbrev pub wrapper_sections : List SourceText → List Section
 wrapper_sections ss = sections_at wrapper_path ss
 
--- One id is defined before another: it stands in a table; the other stands in none of the tables
+-- One id is defined before another: it is in a table; the other is in none of the tables
 -- before that one, and in that one either not at all or behind it.
 pub record IsDefinedBefore (sections : List Section) (a b : Name) : Type 0 where
   pub earlier : List Section

@@ -66,12 +66,12 @@ pub record AreKnownScripts (known : KnownNames) (scripts : ScriptUse) : Type 0 w
   pub list_wrapper : IfWritten scripts.list_wrapper (IsIn known.wrapper_scripts)
   pub run_wrapper : IfWritten scripts.run_wrapper (IsIn known.wrapper_scripts)
 
--- a rule with a list wrapper has a filter without parts that only a test can answer
+-- a rule with a list wrapper has a filter without parts that only a test can decide
 abbrev pub ListsWithoutTests : {M K P : Type 0} → Readings M K P → ScriptRuleText → Type 0
 ListsWithoutTests {M} engines r = IsSome r.scripts.list_wrapper → (t : List ℕ) (m : M)
     → r.filter ≡ Some t → engines.read_filter DefaultFilter t ≡ Ok m → engines.leaves m ≡ []
 
--- All that is asked of a profile of a source.
+-- All that is required of a profile of a source.
 pub record IsAcceptedProfile {M K P : Type 0} (engines : Readings M K P) (known : KnownNames)
     (p : ProfileText) : Type 0 where
   -- its default filter is read
@@ -86,7 +86,7 @@ pub record IsAcceptedProfile {M K P : Type 0} (engines : Readings M K P) (known 
   -- each rule with a list wrapper can be answered without a test
   pub lists : Each (ListsWithoutTests engines) p.script_rules
 
--- All that is asked of what a source defines.
+-- All that is required of what a source defines.
 pub record AreAcceptedDefinitions (features : Features) (source : Source) (file : FileText)
     : Type 0 where
   -- it may define the groups and the scripts that it defines
@@ -100,7 +100,7 @@ pub record AreAcceptedDefinitions (features : Features) (source : Source) (file 
   -- no script is both a setup script and a wrapper script
   pub one_kind : Each (λ id. ¬ IsIn file.wrapper_scripts id) (setup_ids_of file)
 
--- All that is asked of the rules of a source over lower files.
+-- All that is required of the rules of a source over lower files.
 pub record AreAcceptedRules {M K P : Type 0} (engines : Readings M K P) (lower : NameSet)
     (known : KnownNames) (file : FileText) : Type 0 where
   -- its parents are sound beside the profiles of lower files

@@ -45,7 +45,7 @@ abbrev pub match_section : {X : Type 0} → FilterSection → X → X → X
 match_section at_profile at_profiles at_overrides = at_profiles
 match_section (at_override index) at_profiles at_overrides = at_overrides
 
--- a default filter: what it means, its text, and where it stands
+-- a default filter: what it means, its text, and where it is
 pub record FilterChoice (M : Type 0) : Type 0 where
   pub filter : M
   pub text : List ℕ

@@ -137,12 +137,12 @@ abbrev pub listing_rule : {M : Type 0} → QueryContext M → List (EvaluatedRul
     → Option (EvaluatedRule M ScriptRuleUse)
 listing_rule query script_rules = winner query (λ w. is_some w.scripts.list_wrapper) script_rules
 
--- a filter, if there is one, has an answer for each binary, whatever the default filter means
+-- a filter, if there is one, has a known value for each binary, whatever the default filter means
 abbrev pub HasBinaryAnswers : {M : Type 0} → BinaryMatch M → Option M → Type 0
 HasBinaryAnswers {M} matches filter =
     IfWritten filter (λ m. (binary : Binary) (default : M) → IsSome (matches m binary default))
 
--- Script rules answer for binaries: the filter of each rule with a list wrapper has an answer for
+-- Script rules answer for binaries: the filter of each rule with a list wrapper has a known value for
 -- each binary, whatever the default filter means.
 abbrev pub AnswerForBinaries : {M : Type 0} → BinaryMatch M → List (EvaluatedRule M ScriptRuleUse)
     → Type 0

@@ -28,7 +28,7 @@ source_override Default = None
 source_override Profile = None
 source_override (Script rule) = None
 
--- a mark is there exactly where an origin is, and is right for it
+-- a mark is there exactly if an origin is, and is right for it
 abbrev pub MarksOrigin : {Source : Type 0} → (Source → Origin → Type 0) → Option Source
     → Option Origin → Type 0
 MarksOrigin shows None None = Unit {0}
@@ -43,7 +43,7 @@ MarksOverride shows None mark = Unit {0}
 MarksOverride shows (Some rule) (Some source) = shows source rule
 MarksOverride shows (Some rule) None = ⊥
 
--- a mark is there exactly where a script rule is, and is right for what the rule writes
+-- a mark is there exactly if a script rule is, and is right for what the rule writes
 abbrev pub MarksScriptRule : {Source : Type 0} → (Source → ScriptRuleUse → Type 0) → Option Source
     → Option ScriptRuleUse → Type 0
 MarksScriptRule shows None None = Unit {0}

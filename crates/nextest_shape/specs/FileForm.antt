@@ -111,13 +111,13 @@ fail_fast_form =
     (may keys.Terminate anything
     no_fields)))
 
--- which tests are told of while they run
+-- which tests are shown while they run
 abbrev pub status_level_form : Form
 status_level_form =
     words (codes "none" ∷ codes "fail" ∷ codes "retry" ∷ codes "slow" ∷ codes "leak"
     ∷ codes "pass" ∷ codes "skip" ∷ codes "all" ∷ [])
 
--- which tests are told of at the end of a run
+-- which tests are reported of at the end of a run
 abbrev pub final_status_level_form : Form
 final_status_level_form =
     words (codes "none" ∷ codes "fail" ∷ codes "flaky" ∷ codes "slow" ∷ codes "skip"

@@ -14,7 +14,7 @@ text_view texts.Any = any_text
 text_view (texts.OneOf words) = one_of (map (λ word. word.now) words.now)
 text_view (texts.Of pattern) = of_pattern pattern
 
--- some fields, each with the form of what may stand there
+-- some fields, each with the form of what may be there
 abbrev pub field_forms_of : List (Field Form) → FieldForms
 field_forms_of [] = no_fields
 field_forms_of (f ∷ fs) = a_field f.key f.is_required f.shape (field_forms_of fs)

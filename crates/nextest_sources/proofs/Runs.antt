@@ -116,7 +116,7 @@ pub ran_check : (s : Source) (c : Option LoadCause) (old new : List Warning) (o 
     → Found (fault_at_source s c) o → Ran (check s c ∷ []) old new o
 ran_check s c old new o same found = record { is = check_at s c old new o same found }
 
--- a warning was told
+-- a warning was reported
 pub ran_warned : (w : Warning) (old new : List Warning) → new ≡ old ++ w ∷ [] → Ran (warn w ∷ []) old new passed
 ran_warned w old new is = record { is = (refl, is) }
 

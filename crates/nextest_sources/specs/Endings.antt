@@ -9,7 +9,7 @@ use Rattle.nextest_sources.specs.declared.error.ConfigParseError.{ConfigParseErr
 use Rattle.nextest_sources.specs.declared.error.ConfigParseErrorKind.{ConfigParseErrorKind}
 use Rattle.nextest_sources.specs.declared.error.ConfigParseErrorKind.TheVariants as kinds
 
--- how a call ended: with no fault, with this one, or for want of memory; no call ends with a
+-- how a call ended: with no fault, with this one, or because memory ran out; no call ends with a
 -- malformed refusal, which tells no fault
 pub data Ending : Type 0 where
   passed : Ending
@@ -44,18 +44,18 @@ Found fault (refused f) = fault ≡ Some f
 Found fault no_memory = Unit {0}
 Found fault malformed = ⊥
 
--- an ending is a refusal with this fault, or want of memory
+-- an ending is a refusal with this fault, or a refusal of memory
 abbrev pub IsRefusal : Option LoadFault → Ending → Type 0
 IsRefusal fault passed = ⊥
 IsRefusal fault (refused f) = fault ≡ Some f
 IsRefusal fault no_memory = Unit {0}
 IsRefusal fault malformed = ⊥
 
--- a refusal tells this fault, or want of memory
+-- a refusal tells this fault, or a refusal of memory
 abbrev pub Refuses : ConfigParseError → Option LoadFault → Type 0
 Refuses e fault = IsRefusal fault (error_view e)
 
--- a refusal is want of memory
+-- a refusal is one of memory
 abbrev pub IsMemory : ConfigParseError → Type 0
 IsMemory e = error_view e ≡ no_memory
 

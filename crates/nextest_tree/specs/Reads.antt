@@ -10,7 +10,7 @@ use Rattle.nextest_tree.specs.Key.{key_text}
 use Rattle.nextest_tree.specs.Node.{Node, array, Nodes, no_nodes, node, table, Entries, no_entries, entry, get}
 use Rattle.nextest_tree.specs.Schema.{FaultCause, wrong_kind, missing, bad_value, out_of_range, unknown_field, Fault, is_one_of, below, Schema, Fields, no_more, field, faults, unknown, field_faults, field_unknown}
 
--- a walk: the path where it stands, and which paths it has noted
+-- a walk: the path where it is, and which paths it has noted
 pub record ReadState : Type 0 where
   pub path : List ℕ
   pub is_noted : List ℕ → Bool
@@ -27,7 +27,7 @@ walk_view w = record { path = string_bytes w.path; is_noted = contains_text w.un
 abbrev pub noting : List (List ℕ) → ReadState → ReadState
 noting paths at = record { path = at.path; is_noted = λ q. at.is_noted q || is_one_of paths q }
 
--- the walk one step on, at what stands at a key
+-- the walk one step on, at what is at a key
 abbrev pub inside : List ℕ → ReadState → ReadState
 inside k at = record { path = below at.path k; is_noted = at.is_noted }
 
@@ -36,7 +36,7 @@ abbrev pub back_at : List ℕ → ReadState → ReadState
 back_at p at = record { path = p; is_noted = at.is_noted }
 
 -- With no fault, the unknown paths are noted and the walk stands where it stood; else the first
--- fault is told.
+-- fault is reported.
 abbrev pub outcome : List Fault → List (List ℕ) → ReadState → Result ReadState Fault
 outcome [] paths at = Ok (noting paths at)
 outcome (f ∷ fs) paths at = Err f
@@ -68,7 +68,7 @@ abbrev pub test_outcome : Option FaultCause → ReadState → Result ReadState F
 test_outcome None at = Ok at
 test_outcome (Some c) at = Err (record { path = at.path; cause = c })
 
--- the fault of a cause at a path; want of memory is none
+-- the fault of a cause at a path; a refusal of memory has none
 abbrev pub fault_at : List ℕ → ElementCause → Option Fault
 fault_at p causes.WrongKind = Some (record { path = p; cause = wrong_kind })
 fault_at p (causes.Missing k) = Some (record { path = p; cause = missing (string_bytes k) })
@@ -91,7 +91,7 @@ abbrev pub Gives : {X : Type 0} → Result X ElementFault → Walk → Result Re
 Gives (Ok x) new read = read ≡ Ok (walk_view new)
 Gives (Err e) new read = Fails e read
 
--- the value at a key is there exactly where the key is
+-- the value at a key is there exactly if the key is
 abbrev pub IsOptional : {X : Type 0} → (Node → X → Type 0) → Option Node → Option X → Type 0
 IsOptional P None None = Unit {0}
 IsOptional P (Some n) (Some x) = P n x

@@ -72,7 +72,7 @@ abbrev mutual
       × BeginsSomewhere CommaMark marks more × BeginsAnyCommas more inside
       × Spells depth e inside last × SpellsFurther depth es last rest
 
--- Marks spell an expression: it stands first, with any number of commas behind it, and its
+-- Marks spell an expression: it is first, with any number of commas behind it, and its
 -- functions nest at most 128 deep.
 abbrev pub SpellsBody : Expression → List Placed → Type 0
 SpellsBody e marks = (more : List Placed) × Spells 128 e marks more × BeginsAnyCommas more []

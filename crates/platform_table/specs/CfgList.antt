@@ -60,7 +60,7 @@ pub record TellsNoTarget (text : List ℕ) : Type 0 where
   pub written : WritesLines (lines text) read
   pub untold : IsFalse (tells_target read)
 
--- Why a text is refused. Of want of memory it says nothing.
+-- Why a text is refused. Of a refusal of memory it says nothing.
 abbrev pub IsRefusedFor : List ℕ → PlatformFault → Type 0
 IsRefusedFor text UnknownTriple = ⊥
 IsRefusedFor text (BadLine number) = IsFirstBad (lines text) number

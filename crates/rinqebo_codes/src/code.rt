@@ -66,7 +66,7 @@ pub enum Code {
     UnknownScript,
     /// A rule names a script at a key that takes scripts of another kind.
     WrongScriptKind,
-    /// A list wrapper wraps a whole binary, so its filter may not ask for tests.
+    /// A list wrapper wraps a whole binary, so its filter may not use tests.
     ListWrapperFilter,
     /// No file has the given profile.
     UnknownProfile,

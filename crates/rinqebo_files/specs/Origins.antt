@@ -24,7 +24,7 @@ use Rattle.rinqebo_files.specs.declared.layers.Layer.{Layer}
 use Rattle.rinqebo_files.specs.declared.places.SpanPart.{SpanPart}
 use Rattle.rinqebo_files.specs.declared.places.SpanPart.TheVariants as parts
 
--- what brings a file, as it is told: the defaults are no file
+-- what brings a file, as it is reported: the defaults are not a file
 abbrev pub reported_kind : ReportedKind → Option SourceKind
 reported_kind told.Default = None
 reported_kind (told.Tool name) = Some (tool_file (string_bytes name))

@@ -124,7 +124,7 @@ fn predicate_meant(alloc: Global, name: &str) -> Result<Option<String>, AllocErr
     }
 }
 
-/// A name is no predicate: it may be that of a test.
+/// A name is not a predicate: it may be that of a test.
 fn no_predicate(
     alloc: Global,
     place: (usize, usize),

@@ -188,7 +188,7 @@ fn add_unknown_feature(
     refused.add_finding(found)
 }
 
-/// Adds that an item of the features is no string.
+/// Adds that an item of the features is not a string.
 fn add_item_kind(
     refused: &mut Refused<'_, '_>,
     path: &[Step<'_>],
@@ -215,7 +215,7 @@ fn add_listed_features(refused: &mut Refused<'_, '_>, items: &[Tree]) -> Result<
     Ok(())
 }
 
-/// Adds that what switches a feature on or off is no truth value, if it is none.
+/// Adds that what switches a feature on or off is not a boolean, if it is none.
 fn add_switch(
     refused: &mut Refused<'_, '_>,
     path: &[Step<'_>],
@@ -227,7 +227,7 @@ fn add_switch(
     }
 }
 
-/// Adds the keys of a table of features that name none, and the values that are no truth values.
+/// Adds the keys of a table of features that name none, and the values that are not booleans.
 fn add_switched_features(
     refused: &mut Refused<'_, '_>,
     members: &BTreeMap<String, Tree>,

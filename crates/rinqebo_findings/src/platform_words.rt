@@ -262,7 +262,7 @@ fn bad_whole(alloc: Global, stopped: Stopped<'_>) -> Result<Option<Worded>, Allo
     Ok(Some(worded))
 }
 
-/// What is meant by a text that is no triple, where that is plain.
+/// What is meant by a text that is not a triple, where that is plain.
 fn platform_meant(text: &str) -> Option<&'static str> {
     match text.trim() {
         "windows" => Some("write `cfg(windows)`"),

@@ -7,7 +7,7 @@ use Rattle.rinqebo_load.specs.declared.failure.Failure.{Failure}
 use Rattle.rinqebo_load.specs.declared.failure.Failure.TheVariants as failures
 use Rattle.rinqebo_load.specs.declared.fault.InputFault.{InputFault}
 
--- A failure of what all commands begin with: the engines, or want of memory.
+-- A failure of what all commands begin with: the engines, or a refusal of memory.
 abbrev pub IsBeginningFailure : Failure → Type 0
 IsBeginningFailure (failures.Engines fault) = Unit {0}
 IsBeginningFailure (failures.Refused report) = ⊥
@@ -16,7 +16,7 @@ IsBeginningFailure (failures.NoTest report) = ⊥
 IsBeginningFailure (failures.SeveralTests report) = ⊥
 IsBeginningFailure failures.Memory = Unit {0}
 
--- a failure is that of a fault, or want of memory
+-- a failure is that of a fault, or a refusal of memory
 abbrev pub IsFailureOf : InputFault → Failure → Type 0
 IsFailureOf fault (failures.Engines told) = told ≡ fault
 IsFailureOf fault (failures.Refused report) = ⊥
@@ -26,7 +26,7 @@ IsFailureOf fault (failures.SeveralTests report) = ⊥
 IsFailureOf fault failures.Memory = Unit {0}
 
 -- A request has no session: the fault says which of the things that it names is not understood;
--- want of memory aside.
+-- unless memory runs out.
 abbrev pub IsUnusable : Request → Gathered → Failure → Type 0
 IsUnusable request gathered (failures.Engines fault) = IsInputFault request gathered fault
 IsUnusable request gathered (failures.Refused report) = ⊥

@@ -22,9 +22,9 @@ NamesList path (faults.EmptyList file) = option_map string_bytes file.path ≡ S
 NamesList path (faults.List told fault) = string_bytes told ≡ path
 NamesList path fault = Unit {0}
 
--- ---- causes of faults, want of memory aside
+-- ---- causes of faults, unless memory runs out
 
--- a text is no list of tests, for this fault
+-- a text is not a list of tests, for this fault
 abbrev pub IsListFault : Option (String Global) → InputFault → Type 0
 IsListFault (Some text) (faults.EmptyList file) = IsFaultIn (string_bytes text) not_json
 IsListFault (Some text) (faults.List path fault) =

@@ -96,7 +96,7 @@ pub enum InputFault {
     /// There are no metadata, and the program evaluates a filter that needs them.
     #[error("{0}")]
     NoMetadata(OpenFilter),
-    /// Want of memory.
+    /// Memory was refused.
     #[error("out of memory")]
     Memory,
 }

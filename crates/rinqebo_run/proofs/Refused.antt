@@ -32,7 +32,7 @@ is_about session test found Holds (Ok answer) is zero holds =
     (zero, record { found = found; is_found = is; holds = holds })
 is_about session test found Holds (Err failure) is zero holds = tt
 
--- want of memory is a failure about any profile
+-- a refusal of memory is a failure about any profile
 pub want_reported : {A : Type 0} (session : Session) (profile : Name) (r : Result A Failure)
     → IsErrAnd r (λ failure. failure ≡ failures.Memory) → IfErr r (IsFailureAbout session profile)
 want_reported session profile (Ok answer) is = tt
@@ -44,7 +44,7 @@ pub want_evaluated : {A : Type 0} (session : Session) (profile : Name) (r : Resu
 want_evaluated session profile (Ok answer) is = tt
 want_evaluated session profile (Err failure) is = subst (IsFailureOn session profile) (sym is) tt
 
--- what holds of a failure holds of it where it is told
+-- what holds of a failure holds of it where it is reported
 pub passed_on : {A : Type 0} (P : Failure → Type 0) (r : Result A Failure) (failure : Failure)
     → IsErrAnd r (λ told. told ≡ failure) → P failure → IfErr r P
 passed_on P (Ok answer) failure same is = tt

@@ -1,4 +1,4 @@
--- A default filter with no part that only a test can answer has an answer for each binary.
+-- A default filter with no part that only a test can decide has a known value for each binary.
 use Rattle.std.proofs.Common.{◌≡◌, ℕ, zero, suc, Bool, true, false, ◌||◌, List, [], ◌∷◌, ◌++◌, Option, None, Some, Result, Ok, Err, IsSome, option_map, not, refl, sym, ◌∙◌, ap}
 use Rattle.std.specs.List.{fold, list_any, flat_map}
 use Rattle.nextest_engines.specs.Engines.{Binary}

@@ -27,12 +27,12 @@ filter_matches filter test default =
 abbrev pub filter_holds_binary : Filter → engines.Binary → Filter → Option Bool
 filter_holds_binary filter binary default = value_beside (binary_subject binary) default filter
 
--- An atom that only a test can answer, as it is written.
+-- An atom that only a test can decide, as it is written.
 abbrev pub atom_leaves : Atom → List (List ℕ)
 atom_leaves (NameHas part) = atom_text (NameHas part) ∷ []
 atom_leaves _ = []
 
--- The parts of a term, and of a filter, that only a test can answer, from left to right.
+-- The parts of a term, and of a filter, that only a test can decide, from left to right.
 abbrev pub term_leaves : Term → List (List ℕ)
 term_leaves t = atom_leaves t.atom
 

@@ -28,7 +28,7 @@ platforms_of (Triple triple) = OnTriple (string_bytes triple)
 abbrev pub is_cfg : List ℕ → Bool
 is_cfg text = is_some (after_prefix (codes "cfg(") text) && ends_with eqb text (codes ")")
 
--- Whether a byte may stand in a triple: a letter or a digit of ASCII, `_`, `-` or `.`.
+-- Whether a byte may be in a triple: a letter or a digit of ASCII, `_`, `-` or `.`.
 abbrev pub is_triple_byte : ℕ → Bool
 is_triple_byte c = is_ascii_alphanumeric c || ((c == 95) || ((c == 45) || (c == 46)))
 
