@@ -73,7 +73,7 @@ first_operand : {L : Type 0} (answers : Question L → Option Bool) (f : Formula
     ≡ with_marks answers (at (joint either (formula_value answers f)) outer) rest
 first_operand answers f h either outer rest fits = h (behind either) outer rest fits
 
--- What is beside `and` stands anywhere.
+-- What is beside `and` is anywhere.
 first_side : {L : Type 0} (answers : Question L → Option Bool) (f : Formula L)
     → ((either : Option Bool) (outer : List Known) (rest : List (Mark L)) → length outer + nesting f ≤ 128
     → with_marks answers (at (behind either) outer) (written f rest)

@@ -47,7 +47,7 @@ mark_front compiler MinusMark spelling is = front_is spelling 45 [] is (λ text.
 unblank_stays : (c : ℕ) (text : List ℕ) → is_blank c text ≡ false → skipped (c ∷ text) ≡ c ∷ text
 unblank_stays c text is = rw is refl
 
--- A mark stands where the blanks before it end.
+-- A mark is where the blanks before it end.
 pub at_mark : (blanks spelling rest place : List ℕ) → AreBlanks blanks → IsMarkFront spelling
     → place ≡ blanks ++ (spelling ++ rest) → skipped place ≡ spelling ++ rest
 at_mark blanks spelling rest place are front split =
@@ -231,7 +231,7 @@ operand_clear compiler shape next AndMark spelling rest is step = absurd (cc)
 operand_clear compiler shape next OrMark spelling rest is step = absurd (cc)
 operand_clear compiler shape next MinusMark spelling rest is step = absurd (cc)
 
--- Behind a mark stand others, up to where a filter may end.
+-- Behind a mark are others, up to where a filter may end.
 abbrev pub EndsBehind : {L : Type 0} → Shape → List (Mark L) → Type 0
 EndsBehind shape marks = (final : Shape) × (shape_behind shape marks ≡ Some final) × MayEnd final
 

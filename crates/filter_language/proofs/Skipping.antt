@@ -56,7 +56,7 @@ inner_changes k j (around ∷ ks) l i (also ∷ ls) change (inr skipped, rest) =
 inner_changes k j [] l i (also ∷ ls) change agree = absurd (agree)
 inner_changes k j (around ∷ ks) l i [] change agree = absurd (agree)
 
--- As many levels stand around one as around the other.
+-- As many levels are around one as around the other.
 as_deep : (k : Known) (ks : List Known) (l : Known) (ls : List Known) → AgreeFrom k ks l ls → length ks ≡ length ls
 as_deep k [] l [] agree = refl
 as_deep k (around ∷ ks) l (also ∷ ls) agree = ap suc (as_deep around ks also ls agree.1)

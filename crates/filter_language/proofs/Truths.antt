@@ -1,4 +1,4 @@
--- Values tell the truth, and what a binary answers its tests answer.
+-- Values are the truth, and a known value at a binary is the value at its tests.
 use Rattle.std.proofs.Common.{◌≡◌, ℕ, Bool, true, false, ◌⊎◌, inl, inr, not, List, Option, None, Some, IsSome, option_map, refl, ◌∙◌, ap}
 use Rattle.nextest_engines.specs.Engines.{Test, Binary}
 use Rattle.nextest_engines.specs.declared.queries.BuildPlatform.{BuildPlatform}

@@ -17,7 +17,7 @@ group_ban Test = NoTestGroups
 group_ban OverrideFilter = BannedPredicate GroupInOverrideFilter
 group_ban DefaultFilter = BannedPredicate GroupInDefaultFilter
 
--- A default filter does not ask for itself.
+-- A default filter does not use itself.
 abbrev pub default_ban : FiltersetKind → Option FaultKind
 default_ban Test = None
 default_ban OverrideFilter = None

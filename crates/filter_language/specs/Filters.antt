@@ -88,7 +88,7 @@ wanted_in compiler knows_packages kind shape place =
     negated_or_not compiler knows_packages kind shape place (skipped place)
     (after_one (codes "not ") (codes "!") (skipped place))
 
--- Where no operator stands, the filter ends, or something is wrong there.
+-- Without an operator, the filter ends, or something is wrong there.
 abbrev pub ended_in : {L : Type 0} → List ℕ → List ℕ → List ℕ
     → Result (Option (MarkRead L)) Misreading
 ended_in place (around ∷ outer) text = Err (wrong_at ExpectedCloseParenthesis place)

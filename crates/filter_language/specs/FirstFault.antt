@@ -9,7 +9,7 @@ use Rattle.filter_language.specs.Places.{Misreading}
 use Rattle.filter_language.specs.Predicates.{Compiler}
 use Rattle.filter_language.specs.Writing.{AreBlanks, SpellsMark}
 
--- From a place on, marks are read one after another, up to another place, each with what stands
+-- From a place on, marks are read one after another, up to another place, each with what is
 -- open around it.
 abbrev pub ReadsTo : {L : Type 0} → Compiler L → Bool → FiltersetKind → Shape → List ℕ
     → List (MarkRead L) → Shape → List ℕ → Type 0

@@ -18,7 +18,7 @@ pub record Pattern (L : Type 0) : Type 0 where
   pub written : List ℕ
   pub meaning : L
 
--- What is asked of a test or a binary: always true, never true, the default filter, a platform,
+-- What is tested of a test or a binary: always true, never true, the default filter, a platform,
 -- or a field with a name that a pattern matches.
 pub data Question (L : Type 0) : Type 0 where
   Always : Question L

@@ -59,7 +59,7 @@ abbrev pub close_of : FaultKind → List ℕ → List ℕ → Option (List ℕ)
 close_of kind place close (Some rest) = Ok (close, rest)
 close_of kind place close None = Err (wrong_at kind place)
 
--- What is wrong where no `)` stands.
+-- What is wrong if there is no `)`.
 abbrev pub no_close : List ℕ → FaultKind
 no_close close =
     if is_some (after_prefix (codes ",") close) then UnexpectedComma else ExpectedCloseParenthesis

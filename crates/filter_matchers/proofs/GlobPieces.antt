@@ -173,7 +173,7 @@ module _ (inside : Bool) (levels : ℕ) (at : Place) where
         (inner, mid, below, e, deep, (one this mid).1 (refl, refl), found.2),
   )
 
-  -- Where no piece stands, the text writes no row.
+  -- Without a piece, the text writes no row.
   pub no_piece : (text : List ℕ) → ends_row inside text ≡ false
       → ((p : GlobPart) (r : List ℕ) → WritesPart inside at text p r → ⊥)
       → ((inner : List ℕ) → text ≡ 91 ∷ inner → ⊥)

@@ -125,7 +125,7 @@ module _ (inside : Bool) (levels : ℕ) where
     (rw (append-nil (map meaning hirs)) at (means end [] empty_means), empties end ∙ and_true (is_nil hirs)),
   )
 
-  -- Where no piece stands, the text writes no row.
+  -- Without a piece, the text writes no row.
   pub no_row : (text : List ℕ) (at : Place) (rest : List ℕ) (hirs : List Hir) → ReadTo text at rest hirs
       → ((row : Row) (left : List ℕ) → WritesRow inside levels at rest row left → ⊥)
       → (row : Row) (left : List ℕ) → WritesRow inside levels place.Start text row left → ⊥
@@ -342,7 +342,7 @@ module _ (levels : ℕ) where
   first_row rest (only row) left w = (row, 125 ∷ left, w)
   first_row rest (also row branches) left w = (row, 44 ∷ w.0, w.1)
 
-  -- Where no branch stands, the text writes no group.
+  -- Without a branch, the text writes no group.
   pub no_group : (text rest : List ℕ) (hirs : List Hir) → ReadBranches text rest hirs
       → ((row : Row) (left : List ℕ) → WritesRow true levels place.Start rest row left → ⊥)
       → (branches : Branches) (left : List ℕ) → WritesBranches levels text branches left → ⊥

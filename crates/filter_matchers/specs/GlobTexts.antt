@@ -41,7 +41,7 @@ reach_in start [] = None
 reach_in start (byte ∷ text) =
     if nat_lt byte 128 && nat_le start byte then Some (Reach byte, text) else None
 
--- the item behind a range with this start, where no closing bracket stands
+-- the item behind a range with this start, if there is no closing bracket
 abbrev pub item_in : ℕ → List ℕ → Leading ClassItem
 item_in start [] = None
 item_in start (byte ∷ text) =

@@ -21,7 +21,7 @@ mutual
     only : Row → Branches
     also : Row → Branches → Branches
 
--- whether the byte stands for itself only behind a backslash: `?`, `*`, `[`, `\`, `{` and `}`
+-- whether the byte is literal only behind a backslash: `?`, `*`, `[`, `\`, `{` and `}`
 abbrev pub is_special : ℕ → Bool
 is_special byte = byte == 63 || byte == 42 || byte == 91 || byte == 92 || byte == 123 || byte == 125
 

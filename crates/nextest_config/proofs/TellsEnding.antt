@@ -1,4 +1,4 @@
--- How a refusal of a load tells its ending.
+-- The ending of a load, by its refusal.
 use Rattle.std.proofs.Common.{◌≡◌, true, false, not, is_some, Option, None, Some, refl, option_map}
 use Rattle.nextest_sources.specs.Causes.{LoadCause}
 use Rattle.nextest_sources.specs.Endings.{ending_at, ending_with}

@@ -1,4 +1,4 @@
--- What one profile of a configuration answers for tests, before it is held against what was asked.
+-- The result of one profile of a configuration for tests, before it is compared with the request.
 use Rattle.std.specs.Prelude.{◌≡◌, ◌++◌, ℕ, List, Bool, Option, Result, IfOk}
 use Rattle.std.specs.List.{AllZip, flat_map}
 use Rattle.nextest_elements.specs.declared.run_mode.NextestRunMode.{NextestRunMode}
@@ -11,7 +11,7 @@ use Rattle.nextest_tables.specs.FileTexts.{names_in, IsIn}
 use Rattle.nextest_tables.specs.Written.{Name}
 use Rattle.nextest_config.specs.Headline.{Row, Refusal, IfBadConfig, IfNoProfile, IfRefused, IsMissing, IsTestRow, numbers_for}
 
--- what is asked of a configuration
+-- a request to a configuration
 pub record Question (P : Type 0) : Type 0 where
   pub profile : Name
   pub platforms : BuildPlatforms P

@@ -29,7 +29,7 @@ use Rattle.nextest_settings.specs.Profile.{Configured, EvaluatableModel, profile
 use Rattle.nextest_settings.specs.Queries.{query_in, filters_of, setting_value, Origin, setting_origin, evaluated_for_test, IsEvaluatedForTest}
 use Rattle.nextest_settings.specs.Settings.{ValueOf}
 
--- What is asked: files, features, a profile, the platforms of a build, a mode and tests.
+-- A request: files, features, a profile, the platforms of a build, a mode and tests.
 pub record Request (P : Type 0) : Type 0 where
   pub root : List ℕ
   pub files : LoadInputs
@@ -44,14 +44,14 @@ pub record Row : Type 0 where
   pub value : (s : Setting) → Option (ValueOf s)
   pub source : Setting → Option Origin
 
--- Why no rows are answered: the configuration is refused, it has no profile of the name, or memory
+-- Why no rows are returned: the configuration is refused, it has no profile of the name, or memory
 -- ran out.
 pub data Refusal : Type 0 where
   bad_config : Option LoadFault → Refusal
   no_profile : (name : Name) → (profiles : List Name) → Refusal
   out_of_memory : Refusal
 
--- What a run did: its answer, and the warnings and the evaluations before and after it.
+-- What a run did: its result, and the warnings and the evaluations before and after it.
 pub record Run : Type 0 where
   pub answer : Result (List Row) Refusal
   pub warnings_old : List Warning
@@ -85,7 +85,7 @@ abbrev pub IsFollowed : {X : Type 0} → Result (List Row) Refusal → List X �
 IsFollowed (Err out_of_memory) old new more = IsFollowedInPart old new more
 IsFollowed _ old new more = new ≡ old ++ more
 
--- every written rule holds of the files that are asked about
+-- the files of the request satisfy every written rule
 abbrev pub RulesHold : {M K P : Type 0} → Readings M K P → Request P → Type 0
 RulesHold engines request = IsAccepted engines request.features request.files
 
@@ -106,7 +106,7 @@ pub record IsRefused {M K P : Type 0} (engines : Readings M K P) (request : Requ
   pub is_fault : IsSome fault
 
 -- A profile is missing: its name is the one that was requested, it is none of these names, and they
--- are all told, in the order of their bytes.
+-- are all reported, in the order of their bytes.
 pub record IsMissing (names : List Name) (asked : Name) (name : Name) (profiles : List Name)
     : Type 0 where
   pub same : name ≡ asked
@@ -149,7 +149,7 @@ abbrev pub numbers_for : {M : Type 0} → (M → Test → M → Bool) → Evalua
 numbers_for matches profile mode test =
     evaluated_for_test (query_in matches profile test) mode profile
 
--- Rows are those of the tests that are asked about, and these numbers of rules were evaluated.
+-- Rows are those of the requested tests, and these numbers of rules were evaluated.
 pub record AreRows {M K P : Type 0} (engines : Readings M K P) (request : Request P)
     (rows : List Row) (numbers : List ℕ) : Type 0 where
   -- The configuration has a profile of the name.
@@ -192,7 +192,7 @@ pub record Resolves {M K P : Type 0} (engines : Readings M K P) (request : Reque
   -- A configuration is refused only if some rule does not hold, and for the first fault of the
   -- load.
   pub refusal : IfBadConfig run.answer (IsRefused engines request)
-  -- An element that is refused is the least fault of its tree, and refused parents tell exactly its
+  -- An element that is refused is the least fault of its tree, and refused parents name exactly its
   -- cycles.
   pub exact : IfBadConfig run.answer (λ fault. IfSome fault (IsExact request.files))
   -- A profile is missing only if every rule holds and the configuration has none of that name.

@@ -1,4 +1,4 @@
--- A map whose entries were laid upon others, beside the members that it stands for.
+-- A map whose entries were laid upon others, beside the members that it means.
 use Rattle.std.proofs.Common.{rules, ◌≡◌, ℕ, List, [], ◌∷◌, ◌++◌, cond, Option, Some, None, String, Global, Ordering, Less, Equal, Greater, string_bytes, is_eq, refl, sym, ap, ◌∙◌, subst}
 use Rattle.std.specs.List.Sorted.{IsStrictlySortedBy}
 use Rattle.std.specs.Map.{keys_of, remove_entry}

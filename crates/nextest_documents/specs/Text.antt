@@ -1,4 +1,4 @@
--- The node that a text stands for.
+-- The node that a text means.
 use Rattle.std.specs.Prelude.{ℕ, ◌≤◌, List, length, Option, option_map}
 use Rattle.toml.specs.Parse.{parse_document}
 use Rattle.nextest_tree.specs.Node.{Node, table}

@@ -49,7 +49,7 @@ final_status_level_text final_levels.Leak = codes "leak"
 final_status_level_text final_levels.Pass = codes "pass"
 final_status_level_text final_levels.All = codes "all"
 
--- the names of the levels at the end of a run; `retry` stands for `flaky` too
+-- the names of the levels at the end of a run; `retry` means `flaky` too
 unfoldable pub final_status_level_names : List (List ℕ × FinalStatusLevel)
 final_status_level_names = spellings final_status_level_text
     (final_levels.None ∷ final_levels.Fail ∷ final_levels.Flaky ∷ final_levels.Slow

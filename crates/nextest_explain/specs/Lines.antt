@@ -23,13 +23,13 @@ provided path the_organisation = path ++ codes " provided by organisation"
 abbrev pub where_text : Source → List ℕ
 where_text source = provided source.path (owner_of_source source.kind)
 
--- An override is reported by the profile under which it stands, its position there, and its source.
+-- An override is reported by the profile under which it is, its position there, and its source.
 abbrev pub override_text : RuleId → List ℕ
 override_text rule =
     codes "override profile." ++ rule.profile ++ codes ".overrides." ++ decimal rule.index
     ++ codes " in " ++ where_text rule.source
 
--- An override, as lines are to tell it: in one word, or whole.
+-- An override, as lines show it: in one word, or whole.
 abbrev pub told_override : Places → RuleId → List ℕ
 told_override Words rule = codes "override"
 told_override Whole rule = override_text rule
@@ -46,7 +46,7 @@ told_place places (Some by_script) = codes "script"
 abbrev pub line_end : List ℕ
 line_end = 10 ∷ []
 
--- A line tells the name of a setting, its value in a row, and the place of that value.
+-- A line has the name of a setting, its value in a row, and the place of that value.
 abbrev pub line_of : Places → Row → Setting → List ℕ
 line_of places row s =
     setting_name s ++ codes ": " ++ value_text s (row.value s)

@@ -1,4 +1,4 @@
--- The schema that a `Place` stands for.
+-- The schema that a `Place` means.
 use Rattle.std.specs.Prelude.{ℕ, Bool, true, false, List, [], ◌∷◌, map, Option, None}
 use Rattle.nextest_tree.specs.Leaf.{cause_of, text_at, a_text, bool_at, a_bool, any_key}
 use Rattle.nextest_tree.specs.Node.{Node, Nodes, Entries}
@@ -121,7 +121,7 @@ need_test needs.May = λ es. false
 need_test needs.Must = λ es. true
 need_test needs.Growing = grows_in
 
--- what becomes of other keys
+-- how other keys are treated
 abbrev pub others_view : Others → schemas.Others
 others_view others.Noted = are_noted
 others_view others.Refused = are_refused
@@ -141,7 +141,7 @@ place_step (Place-F.Map names values) = map_of (names_test names) values.value
 place_step (Place-F.List other items across) =
     items_of other.value items.value (items_test across)
 
--- the schema that a place stands for
+-- the schema that a place means
 abbrev pub place_view : Place → Schema
 place_view = fold-Place Schema place_step
 
@@ -149,6 +149,6 @@ place_view = fold-Place Schema place_step
 abbrev pub field_view : Field Place → Field Schema
 field_view f = record { key = f.key; need = f.need; place = place_view f.place }
 
--- the fields that some fields with their places stand for
+-- the fields that some fields with their places mean
 abbrev pub fields_view : List (Field Place) → Fields
 fields_view fs = fields_of (map field_view fs)

@@ -40,7 +40,7 @@ whole_some [] n is = (kind_of n, refl)
 whole_some (k ∷ ks) (table es) is = whole_at ks (get k es) is (λ n. whole_some ks n)
 whole_some (k ∷ ks) n is = cc
 
--- no leaf stands along a way that is lost
+-- no leaf is along a way that is lost
 lost_along_at : (ks rest : Path) (v : Node) (o : Option Node) → option_map_or (way_along (ks ++ rest)) o lost ≡ lost
     → ((n : Node) → way_along (ks ++ rest) n ≡ lost → node_at ks n ≡ Some (a_leaf v) → ⊥)
     → option_and_then (node_at ks) o ≡ Some (a_leaf v) → ⊥
@@ -65,7 +65,7 @@ lost_hides p n k is (by_leaf l) =
     lost_along l.front l.rest n l.value way l.leaf
 lost_hides p n (a_leaf v) is (by_table there) = let bad : None ≡ Some a_table = sym (lost_none p n is) ∙ there in cc
 
--- a leaf stands along a way that is blocked
+-- a leaf is along a way that is blocked
 up : (k : List ℕ) (ks : Path) (es : Entries) (n : Node) → get k es ≡ Some n → HasLeafAlong n ks
     → HasLeafAlong (table es) (k ∷ ks)
 up k ks es n at l = record

@@ -75,7 +75,7 @@ IsWanted with_hidden leaf = leaf.hidden ≡ true → with_hidden ≡ true
 abbrev pub path_cmp : Path → Path → Ordering
 path_cmp = slice_cmp (slice_cmp nat_cmp)
 
--- leaves stand by their paths, those of one path by their regions, those of one region by their
+-- leaves are ordered by their paths, those of one path by their regions, those of one region by their
 -- layers, the highest first
 abbrev pub leaf_cmp : Leaf → Leaf → Ordering
 leaf_cmp a b = ordering_then (path_cmp a.path b.path)

@@ -35,7 +35,7 @@ IsCycle parents [] = ⊥
 IsCycle parents (name ∷ names) = IsCycleFrom parents name names
 
 -- The cycles of parents: each of these is one, each one is among these, and they ascend by their
--- bytes, so that each stands once.
+-- bytes, so that each is there once.
 pub record AreCycles (parents : Parents) (cycles : List (List Name)) : Type 0 where
   pub sound : AllByRecursion (IsCycle parents) cycles
   pub complete : (cycle : List Name) → IsCycle parents cycle → Contains cycles cycle

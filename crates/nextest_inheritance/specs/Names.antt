@@ -1,4 +1,4 @@
--- The names of profiles, and which of them stand apart.
+-- The names of profiles, and which of them are special.
 use Rattle.std.specs.Prelude.{◌≡◌, ◌++◌, ◌&&◌, ◌||◌, ℕ, List, Bool, true, not, filter, codes, nat_eq}
 use Rattle.std.specs.Cmp.Lexicographic.{slice_cmp}
 use Rattle.std.specs.List.{starts_with}

@@ -1,4 +1,4 @@
--- What a load tells of a tree is exact.
+-- What a load reports of a tree is exact.
 use Rattle.std.proofs.Common.{◌≡◌, ℕ, arith, List, [], ◌∷◌, ◌++◌, map, flat_map, filter, length, Contains, Bool, true, false, Option, None, Some, option_map, refl, sym, ap, subst, ◌∙◌, if◌then◌else◌}
 use Rattle.std.specs.Option.{option_or}
 use Rattle.std.proofs.lemmas.Bool.{false≢true}
@@ -39,7 +39,7 @@ is_apart (bad_element fault) = false
 is_apart (bad_parents faults) = false
 is_apart cause = true
 
--- a check tells nothing of a tree
+-- a check reports nothing of a tree
 abbrev StaysApart : Option LoadCause → Type 0
 StaysApart None = Unit {0}
 StaysApart (Some cause) = is_apart cause ≡ true

@@ -35,13 +35,13 @@ pub record IsLeastFault (n : Node) (fault : Fault) : Type 0 where
 abbrev pub RefusesLeast : Node → Type 0
 RefusesLeast n = (fault : Fault) → element_cause n ≡ Some (bad_element fault) → IsLeastFault n fault
 
--- Faults of parents tell the cycles of a file: they name exactly these, and so tell which of its
+-- Faults of parents name exactly the cycles of a file, and so decide which of its
 -- profiles have no chain.
 pub record TellCycles (file : FileText) (faults : List ParentFault) : Type 0 where
   pub cycles : NameCycles (parents_in (written_parents file.profiles)) faults
   pub stranded : TellStranded (parents_in (written_parents file.profiles)) faults
 
--- what the parents in a file are refused for tells its cycles
+-- the refusal of the parents in a file names its cycles
 abbrev pub RefusesCycles : (lower : NameSet) → FileText → Type 0
 RefusesCycles lower file =
     TellCycles file (inheritance_faults lower (written_parents file.profiles))
@@ -54,7 +54,7 @@ AnswerDefaultFilters {M} engines = (text : Text) (m : M)
     → (binary : Binary) (default : M) → IsSome (engines.matches_binary m binary default)
 
 -- accepted files are closed: the configuration that they mean, with their scripts, if the engines
--- answer default filters
+-- decide default filters
 abbrev pub AcceptedAreClosed : {M K P : Type 0} → Readings M K P → Type 0
 AcceptedAreClosed engines = (features : Features) (files : LoadInputs) (scripts : ScriptTables)
     → AnswerDefaultFilters engines → IsAccepted engines features files

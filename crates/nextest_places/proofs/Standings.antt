@@ -68,7 +68,7 @@ seen_item (suc i) path no_items last s same = refl
 seen_item zero path (item d ds) last s same = seen_settled (is_some (value_at path d))
 seen_item (suc i) path (item d ds) last s same = seen_item i path ds last s same
 
--- something is seen where the data that a node stands for has it
+-- something is seen where the data that a node means has it
 pub state_seen : (path : List Step) (x : Node) → is_seen (state path x) ≡ is_some (value_at path (close_node x))
 state_seen [] x = refl
 state_seen (Key k ∷ path) (value d) = seen_settled (is_some (value_at (Key k ∷ path) d))

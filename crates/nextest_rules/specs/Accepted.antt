@@ -1,4 +1,4 @@
--- What is asked of one source: of what it defines, and of its rules.
+-- What is required of one source: of what it defines, and of its rules.
 use Rattle.std.specs.Prelude.{◌≡◌, ◌⊎◌, ℕ, List, [], true, Option, None, Some, Result, Ok, IsSome, IsTrue}
 use Rattle.nextest_tree.specs.Schema.{is_one_of}
 use Rattle.nextest_elements.specs.TestGroup.{custom_group_text}
@@ -60,7 +60,7 @@ IsAmong names (Some (groups.Custom group)) = is_one_of names (custom_group_text 
 IsAmong names (Some groups.Global) = Unit {0}
 IsAmong names None = Unit {0}
 
--- the scripts that a rule names are known, each of the kind that its use asks for
+-- the scripts that a rule names are known, each of the kind that its use requires
 pub record AreKnownScripts (known : KnownNames) (scripts : ScriptUse) : Type 0 where
   pub setup : Each (IsIn known.setup_scripts) scripts.setup
   pub list_wrapper : IfWritten scripts.list_wrapper (IsIn known.wrapper_scripts)
@@ -83,7 +83,7 @@ pub record IsAcceptedProfile {M K P : Type 0} (engines : Readings M K P) (known 
   pub groups : Each (λ o. IsAmong known.groups o.settings.test_group) p.overrides
   -- each script that a rule names is known and of the right kind
   pub scripts : Each (λ r. AreKnownScripts known r.scripts) p.script_rules
-  -- each rule with a list wrapper can be answered without a test
+  -- each rule with a list wrapper can be decided without a test
   pub lists : Each (ListsWithoutTests engines) p.script_rules
 
 -- All that is required of what a source defines.

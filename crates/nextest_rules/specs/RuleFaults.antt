@@ -50,7 +50,7 @@ serves known uses.RunWrapper id = known.wrapper_scripts id
 abbrev pub is_known_script : KnownSets → Name → Bool
 is_known_script known id = known.setup_scripts id || known.wrapper_scripts id
 
--- the kind that a use does not ask for
+-- the kind that a use does not require
 abbrev pub other_kind : ProfileScriptType → ScriptType
 other_kind uses.Setup = kinds.Wrapper
 other_kind uses.ListWrapper = kinds.Setup

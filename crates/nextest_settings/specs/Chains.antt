@@ -35,7 +35,7 @@ fields_of profiles names =
 abbrev pub first_of : {X Y : Type 0} → (X → Option Y) → List X → Option Y
 first_of f xs = first (filter_map f xs)
 
--- where a default filter stands: at a profile, or at the override of an index
+-- where a default filter is: at a profile, or at the override of an index
 pub data FilterSection : Type 0 where
   at_profile : FilterSection
   at_override : (index : ℕ) → FilterSection

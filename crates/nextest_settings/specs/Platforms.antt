@@ -56,7 +56,7 @@ pub record RuleText (M W : Type 0) : Type 0 where
 abbrev pub rule_text : {M W : Type 0} → EvaluatedRule M W → RuleText M W
 rule_text rule = record { filter = rule.filter; writes = rule.writes }
 
--- an answer for binaries of the host, and one for those of the target
+-- a value for binaries of the host, and one for those of the target
 abbrev pub by_platform : Bool → Bool → BuildPlatform → Bool
 by_platform for_host for_target Host = for_host
 by_platform for_host for_target Target = for_target

@@ -6,21 +6,21 @@ use Rattle.nextest_settings.specs.Queries.{Origin, unwritten, by_profile, by_ove
 use Rattle.nextest_settings.specs.declared.source.SettingSource.{SettingSource}
 use Rattle.nextest_settings.specs.declared.source.SettingSource.TheVariants.{Default, Profile, Override, Script}
 
--- the origin that a source tells
+-- the origin of a source
 abbrev pub setting_source_view : {F S E T N P : Type 0} → SettingSource F S E T N P → Origin
 setting_source_view Default = unwritten
 setting_source_view Profile = by_profile
 setting_source_view (Override rule) = by_override (override_rule_view rule.now).writes.id
 setting_source_view (Script rule) = by_script
 
--- what the script rule writes that a source tells, if it tells one
+-- what the script rule of a source writes, if it has one
 abbrev pub source_use : {F S E T N P : Type 0} → SettingSource F S E T N P → Option ScriptRuleUse
 source_use (Script rule) = Some (script_rule_view rule.now).writes
 source_use Default = None
 source_use Profile = None
 source_use (Override rule) = None
 
--- the override that a source tells, if it tells one
+-- the override of a source, if it has one
 abbrev pub source_override : {F S E T N P : Type 0} → SettingSource F S E T N P
     → Option (Compiled E N (OverrideUse E))
 source_override (Override rule) = Some (override_rule_view rule.now)

@@ -86,7 +86,7 @@ retries_form =
     (may keys.MaxDelay duration_form
     no_fields))))))
 
--- what becomes of a flaky test
+-- the result of a flaky test
 abbrev pub flaky_result_form : Form
 flaky_result_form = words (codes "pass" ∷ codes "fail" ∷ [])
 

@@ -111,7 +111,7 @@ check_at s None old new no_memory same h = ([], ([], refl), same ∙ sym (append
 check_at s (Some c) old new no_memory same h = ([], ([], refl), same ∙ sym (append-nil old))
 check_at s c old new malformed same h = absurd h
 
--- a check ran, and told nothing
+-- a check ran, and reported nothing
 pub ran_check : (s : Source) (c : Option LoadCause) (old new : List Warning) (o : Ending) → new ≡ old
     → Found (fault_at_source s c) o → Ran (check s c ∷ []) old new o
 ran_check s c old new o same found = record { is = check_at s c old new o same found }

@@ -12,7 +12,7 @@ use Rattle.nextest_sources.specs.Sources.{Source, Outcome}
 abbrev pub NameSet : Type 0
 NameSet = List ℕ → Bool
 
--- where in a profile a fault of compilation stands
+-- where in a profile a fault of compilation is
 pub data RuleSection : Type 0 where
   in_default_filter : RuleSection
   in_override : (index : ℕ) → RuleSection

@@ -1,4 +1,4 @@
--- How calls of a load end: what they tell, and which steps they went through.
+-- How calls of a load end: what they report, and which steps they went through.
 use Rattle.std.specs.Prelude.{◌≡◌, List, ◌++◌, Option, Some, None, Result, Ok, Err}
 use Rattle.nextest_sources.specs.Causes.{LoadCause, LoadFault, at_source}
 use Rattle.nextest_sources.specs.Errors.{cause_view, source_of}
@@ -10,7 +10,7 @@ use Rattle.nextest_sources.specs.declared.error.ConfigParseErrorKind.{ConfigPars
 use Rattle.nextest_sources.specs.declared.error.ConfigParseErrorKind.TheVariants as kinds
 
 -- how a call ended: with no fault, with this one, or because memory ran out; no call ends with a
--- malformed refusal, which tells no fault
+-- malformed refusal, which has no fault
 pub data Ending : Type 0 where
   passed : Ending
   refused : LoadFault → Ending
@@ -51,7 +51,7 @@ IsRefusal fault (refused f) = fault ≡ Some f
 IsRefusal fault no_memory = Unit {0}
 IsRefusal fault malformed = ⊥
 
--- a refusal tells this fault, or a refusal of memory
+-- a refusal has this fault, or a refusal of memory
 abbrev pub Refuses : ConfigParseError → Option LoadFault → Type 0
 Refuses e fault = IsRefusal fault (error_view e)
 
@@ -75,7 +75,7 @@ WentThrough steps old new (refused f) =
 WentThrough steps old new no_memory = IsFollowedInPart old new (warnings_before steps)
 WentThrough steps old new malformed = ⊥
 
--- A call ran over steps: it ended with their first fault, if there is one, and told the warnings
+-- A call ran over steps: it ended with their first fault, if there is one, and reported the warnings
 -- before it; where memory ran out, a beginning of them.
 pub record Ran (steps : List LoadStep) (old new : List Warning) (end : Ending) : Type 0 where
   pub is : WentThrough steps old new end

@@ -441,7 +441,7 @@ flaws_of_organisation_form text (Ok x) prefix verdict cause = cause
 flaws_of_organisation_form text (Err e) prefix verdict cause =
     subst (HasFlaw text) (sym cause) (prefix, λ found. false≢true (verdict ∙ (organisation_form_law text).1 found))
 
--- A refusal for one of these causes is none because memory ran out.
+-- A refusal for one of these causes is not one of memory.
 pub not_memory : {X : Type 0} (cause : InvalidIdentifier) (r : Result X InvalidIdentifier)
     → (causes.Memory ≡ cause → ⊥) → IfErr r (λ e. e ≡ cause) → r ≢ Err causes.Memory
 not_memory cause (Ok x) differs is same = cc

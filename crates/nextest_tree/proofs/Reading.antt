@@ -222,7 +222,7 @@ leaf_read read (Some n) (Some x) h = rw h
 leaf_read read None (Some x) h = absurd h
 leaf_read read (Some n) None h = absurd h
 
--- the value of a field that may be absent, or what stands for it
+-- the value of a field that may be absent, or what means it
 pub defaulted : {X : Type 0} (P : Node → X → Type 0) (d : X) (o : Option Node) (x : Option X)
     → IsOptional P o x → IsDefaulted d P o (unwrap_or x d)
 defaulted P d None None h = refl

@@ -9,14 +9,14 @@ use Rattle.platform_language.specs.declared.expression.Expression.TheOpen.{Expre
 use Rattle.platform_language.specs.declared.expression.TargetSpec as spec
 use Rattle.platform_language.specs.declared.expression.TargetSpec.TheVariants as said
 
--- What is asked of a platform: a line, a feature, or what no platform has.
+-- What is tested of a platform: a line, a feature, or what no platform has.
 pub data Leaf : Type 0 where
   Has : Line → Leaf
   Feature : List ℕ → Leaf
   Nowhere : Leaf
 
 mutual
-  -- An expression asks one thing, or says that every part holds, that some part holds, or that its
+  -- An expression tests one thing, or says that every part holds, that some part holds, or that its
   -- part does not.
   pub data Expression : Type 0 where
     Asks : Leaf → Expression

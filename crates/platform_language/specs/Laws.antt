@@ -35,7 +35,7 @@ abbrev pub LinesAreAmong : Type 0
 LinesAreAmong = (platform : PlatformData) (line : Line)
     → (has platform line ≡ true) ↔ Contains platform.lines line
 
--- whether an expression asks for a feature
+-- whether an expression tests a feature
 abbrev mutual
   pub asks_feature : Expression → Bool
   asks_feature (Asks (Feature name)) = true
@@ -49,7 +49,7 @@ abbrev mutual
   some_asks_feature no_parts = false
   some_asks_feature (part e es) = asks_feature e || some_asks_feature es
 
--- whether a spec does; a triple asks for none
+-- whether a spec does; a triple tests none
 abbrev pub spec_asks_feature : Spec → Bool
 spec_asks_feature (OfTriple triple) = false
 spec_asks_feature (OfExpression e) = asks_feature e

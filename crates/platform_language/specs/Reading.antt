@@ -29,7 +29,7 @@ pub data Before : Type 0 where
   AfterValue : Piece → Piece → Before
   AfterClose : Before
 
--- A function that is open: where its name and its `(` stand, and the parts before it.
+-- A function that is open: where its name and its `(` are, and the parts before it.
 pub record Level : Type 0 where
   pub function : Function
   pub name : Place

@@ -47,7 +47,7 @@ before_close [] = None
 before_close (c ∷ []) = if c == 41 then Some [] else None
 before_close (c ∷ d ∷ rest) = option_map (λ front. c ∷ front) (before_close (d ∷ rest))
 
--- where the first byte stands that no triple has, if any
+-- where the first byte is that no triple has, if any
 abbrev pub first_bad : List ℕ → Option ℕ
 first_bad text = position (λ c. not (is_triple_byte c)) text
 

@@ -34,7 +34,7 @@ IsNamedIn name no_nodes = ⊥
 IsNamedIn name (node item items) = (as_text item ≡ Some name) ⊎ IsNamedIn name items
 
 -- What is behind `experimental` switches a name on: it is a list that names it, or a table in
--- which the name stands for true.
+-- which the name is true.
 abbrev pub SwitchesOn : Node → List ℕ → Type 0
 SwitchesOn (array items) name = IsNamedIn name items
 SwitchesOn (table entries) name = get name entries ≡ Some (bool true)

@@ -120,7 +120,7 @@ pub refusal_told : {X : Type 0} (request : Request) (gathered : Gathered) (failu
 refusal_told request gathered failure n old new fails tells =
     inr (record { failure = failure; fails = fails; tells = tells })
 
--- an answer is reported by its own page
+-- a result is written by its own page
 pub answer_ends : {X : Type 0} (request : Request) (gathered : Gathered) (report : Report) (n m : ℕ)
     → IsAnswer request gathered report m → (n ≡ m) ⊎ (n ≡ 5) ⊎ (n ≡ 6) → (n ≡ 3) ⊎ (n ≡ 4)
     → IsAnswerStatus request.question n ⊎ X

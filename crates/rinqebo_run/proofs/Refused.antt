@@ -1,4 +1,4 @@
--- Why a run answers nothing: from loads and rows to questions, and from there to exit statuses.
+-- Why a run has no result: from loads and rows to questions, and from there to exit statuses.
 use Rattle.std.proofs.Common.{◌≡◌, ◌∙◌, ◌⊎◌, inl, inr, ℕ, Result, Ok, Err, IfErr, IfOk, IsErrAnd, arith, subst, sym}
 use Rattle.std.specs.Result.{result_map_both}
 use Rattle.nextest_tables.specs.Written.{Name}
@@ -70,7 +70,7 @@ fails_in request gathered session (Err failure) begun cause = inr (record {
   cause = cause;
 })
 
--- an answer of status 3 tells that files are refused
+-- a result of status 3 means that files are refused
 refused_in : (q : Question) (session : Session) (report : Report) (n : ℕ) → AnswersQuestion q session report n
     → n ≡ 3 → ¬ AreAccepted session
 refused_in (questions.Explain profile test asked) session report n answers three =
@@ -95,7 +95,7 @@ no_four n (inl zero) four = absurd (omega arith)
 no_four n (inr (inl one)) four = absurd (omega arith)
 no_four n (inr (inr three)) four = absurd (omega arith)
 
--- no answer has status 4
+-- no result has status 4
 lacking_in : {X : Type 0} (q : Question) (session : Session) (report : Report) (n : ℕ)
     → AnswersQuestion q session report n → n ≡ 4 → X
 lacking_in (questions.Explain profile test asked) session report n answers four =

@@ -19,7 +19,7 @@ pub record IsListOf {R : Type 0} (test : R → Bool) (first : ℕ) (rules : List
   pub rising : Rises first numbers
   pub exact : (n : ℕ) → Contains numbers n ↔ StandsAt test first rules n
 
--- each rule in some list has an answer
+-- each rule in some list has a known value
 abbrev pub HaveAnswers : {R : Type 0} → List (R → Bool) → (R → Type 0) → List R → Type 0
 HaveAnswers {R} tests has_answer rules = (k : ℕ) (r : R) → slice_get rules k ≡ Some r
     → IsTrue (list_any (λ test. test r) tests) → has_answer r

@@ -84,7 +84,7 @@ known_lists s default (terms ∷ filter) value none other is =
     (back_false others (asks_default filter) other)
     (known_or_known value (terms_value s default terms) is first)
 
--- A default filter does not ask for the default filter.
+-- A default filter does not use the default filter.
 asks_nothing : (asks : Bool) (text : List ℕ) (read filter : Filter) → asks_default read ≡ asks
     → read_for DefaultFilter text (Ok read) ≡ Ok filter → asks_default filter ≡ false
 asks_nothing true text read filter e is =
