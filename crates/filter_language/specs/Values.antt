@@ -23,7 +23,8 @@ known_or (Some false) right = right
 known_or None (Some true) = Some true
 known_or None _ = None
 
--- What a filter is evaluated at: a binary, perhaps a test of it, and the value of the default filter.
+-- What a filter is evaluated at: a binary, perhaps a test of it, and the value of the default
+-- filter.
 pub record Subject : Type 0 where
   pub binary : Binary
   pub test_name : Option (List ℕ)

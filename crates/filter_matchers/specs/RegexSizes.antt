@@ -2,8 +2,8 @@
 --
 -- The text is read byte by byte. An item is a character, an escape, a class or a group: it takes so many
 -- states, and so many more for each place from which it is entered. A repetition copies the item in front
--- of it. Blanks and comments, which flags may let are between the two, belong to the item, and so do
--- characters beyond ASCII.
+-- of it. Blanks and comments, which flags may allow between the two, belong to the item, and so
+-- do characters beyond ASCII.
 use Rattle.std.specs.Prelude.{ℕ, ◌+◌, ◌-◌, ◌*◌, ◌==◌, ◌||◌, ◌&&◌, nat_lt, Bool, List, [], ◌∷◌, if◌then◌else◌}
 use Rattle.std.specs.List.{fold}
 use Rattle.filter_matchers.specs.declared.regex_size.size.Size.{Size}

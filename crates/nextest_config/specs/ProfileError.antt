@@ -9,8 +9,8 @@ use Rattle.nextest_config.specs.declared.profile_error.ProfileError.{ProfileErro
 use Rattle.nextest_config.specs.declared.profile_error.ProfileError.TheVariants.{NotFound, Memory}
 use Rattle.nextest_config.specs.declared.profile_error.ProfileNotFound.{ProfileNotFound}
 
--- A name is reported as missing: it is none of these names, and all of them are reported, in the order of
--- their bytes.
+-- A name is reported as missing: it is none of these names, and all of them are reported, in the
+-- order of their bytes.
 pub record TellsMissing (names : List Name) (name : Name) (missing : ProfileNotFound) : Type 0 where
   pub same : string_bytes missing.name ≡ name
   pub absent : is_one_of names name ≡ false

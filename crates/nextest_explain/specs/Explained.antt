@@ -70,9 +70,9 @@ pub record AreRowsFor (command : Command) (files : LoadInputs) (rows : List Row)
   pub answered : run.answer ≡ Ok rows
   pub resolves : Resolves toy_readings request run
 
--- Rows are those that the arguments request, and the arguments request places in this form: the words give a
--- command, and the rows are those of the command over the files that it names, as a reader gives
--- them.
+-- Rows are those that the arguments request, and the arguments request places in this form: the
+-- words give a command, and the rows are those of the command over the files that it names, as a
+-- reader gives them.
 pub record AreAskedRows (gives : List ℕ → Outcome → Type 0) (words : List (List ℕ))
     (places : Places) (rows : List Row) : Type 0 where
   pub command : Command
@@ -83,7 +83,8 @@ pub record AreAskedRows (gives : List ℕ → Outcome → Type 0) (words : List 
   pub are_rows : AreRowsFor command files rows
 
 -- A writer got lines: known bytes grew, by all of them or by a prefix, as `grows` says. They are
--- the lines of the rows that the arguments request, with places in the form that the arguments request.
+-- the lines of the rows that the arguments request, with places in the form that the arguments
+-- request.
 pub record Explains (grows : Option (List ℕ) → Option (List ℕ) → List ℕ → Type 0)
     (gives : List ℕ → Outcome → Type 0) (words : List (List ℕ)) (old new : Option (List ℕ))
     : Type 0 where

@@ -13,7 +13,8 @@ use Rattle.nextest_texts.specs.Owner.{Owner, nobody, a_tool, the_organisation}
 use Rattle.nextest_explain.specs.declared.options.Places.{Places}
 use Rattle.nextest_explain.specs.declared.options.Places.TheVariants.{Words, Whole}
 
--- A file is reported by its path as it is, and by who provides it, where that is not the repository.
+-- A file is reported by its path as it is, and by who provides it, where that is not the
+-- repository.
 abbrev pub provided : List ℕ → Owner → List ℕ
 provided path nobody = path
 provided path (a_tool tool) = path ++ codes " provided by tool `" ++ tool ++ codes "`"

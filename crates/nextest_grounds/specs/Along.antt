@@ -9,8 +9,8 @@ use Rattle.nextest_documents.specs.Shown.{Path}
 use Rattle.nextest_grounds.specs.declared.along.Way.{Way}
 use Rattle.nextest_grounds.specs.declared.along.Way.TheVariants.{Lost, Blocked, Whole}
 
--- a way along a path is lost at a table that lacks the next key, blocked by what is not a table before
--- the path ends, or whole
+-- a way along a path is lost at a table that lacks the next key, blocked by what is not a table
+-- before the path ends, or whole
 pub data Ending : Type 0 where
   lost : Ending
   blocked : Ending

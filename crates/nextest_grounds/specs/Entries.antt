@@ -75,8 +75,8 @@ IsWanted with_hidden leaf = leaf.hidden ≡ true → with_hidden ≡ true
 abbrev pub path_cmp : Path → Path → Ordering
 path_cmp = slice_cmp (slice_cmp nat_cmp)
 
--- leaves are ordered by their paths, those of one path by their regions, those of one region by their
--- layers, the highest first
+-- leaves are ordered by their paths, those of one path by their regions, those of one region by
+-- their layers, the highest first
 abbrev pub leaf_cmp : Leaf → Leaf → Ordering
 leaf_cmp a b = ordering_then (path_cmp a.path b.path)
     (ordering_then (region_cmp a.region b.region) (nat_cmp b.layer a.layer))

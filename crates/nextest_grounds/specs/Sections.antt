@@ -1,4 +1,5 @@
--- The sections of layers whose leaves are reported: the tables of profiles, and the tables beside them.
+-- The sections of layers whose leaves are reported: the tables of profiles, and the tables beside
+-- them.
 use Rattle.std.specs.Prelude.{ℕ, ◌==◌, ◌&&◌, ◌||◌, List, [], ◌∷◌, ◌++◌, Bool, false, not, length, take, codes, if◌then◌else◌}
 use Rattle.std.specs.Ordering.{nat_cmp}
 use Rattle.std.specs.declared.cmp.Ordering.{Ordering}
@@ -56,8 +57,8 @@ abbrev pub is_beside : List ℕ → Bool
 is_beside key = bytes_eq key (codes "scripts") || bytes_eq key (codes "store")
     || bytes_eq key (codes "test-groups")
 
--- A leaf of a region is reported by its first key: rules are not, and the parent of a profile is reported
--- of the nearest one alone.
+-- A leaf of a region is reported by its first key: rules are not, and the parent of a profile is
+-- reported of the nearest one alone.
 abbrev pub is_told : Region → Path → Bool
 is_told region [] = false
 is_told (of_profile nearer name) (key ∷ keys) =

@@ -46,8 +46,8 @@ abbrev pub RefusesCycles : (lower : NameSet) → FileText → Type 0
 RefusesCycles lower file =
     TellCycles file (inheritance_faults lower (written_parents file.profiles))
 
--- engines decide default filters: one with no part that only a test can decide has a known value for
--- each binary, whatever the default filter means
+-- engines decide default filters: one with no part that only a test can decide has a known value
+-- for each binary, whatever the default filter means
 abbrev pub AnswerDefaultFilters : {M K P : Type 0} → Readings M K P → Type 0
 AnswerDefaultFilters {M} engines = (text : Text) (m : M)
     → engines.read_filter DefaultFilter text ≡ Ok m → engines.leaves m ≡ []

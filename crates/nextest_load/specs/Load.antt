@@ -27,7 +27,8 @@ pub record IsLoad {T M K P : Type 0} (loaded : T → Loaded M K) (engines : Read
   -- a configuration exactly if every rule holds, unless memory runs out
   pub verdict : MatchResult r (λ _. IsAccepted engines features files)
       (λ e. IsMemory e ⊎ (¬ IsAccepted engines features files))
-  -- else the first fault, with its source and all it carries; and the warnings before it are reported
+  -- else the first fault, with its source and all it carries; and the warnings before it are
+  -- reported
   pub ran : Ran (load_steps engines features files) old new (ending r)
   -- an element that is refused is the least fault, and refused parents name exactly the cycles
   pub exact : (fault : LoadFault) → ending r ≡ refused fault → IsExact files fault

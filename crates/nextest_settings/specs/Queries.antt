@@ -1,4 +1,5 @@
--- The results of queries of profiles: the settings of tests with their sources, wrappers, setup scripts, groups.
+-- The results of queries of profiles: the settings of tests with their sources, wrappers, setup
+-- scripts, groups.
 use Rattle.std.specs.Prelude.{◌≡◌, ◌⊎◌, ◌+◌, ℕ, List, [], ◌∷◌, ◌++◌, map, reverse, length, Bool, false, ◌&&◌, Option, None, Some, option_map, option_and_then, unwrap_or, is_some, IsSome, filter}
 use Rattle.std.specs.List.{list_any}
 use Rattle.std.specs.Option.{option_or}
@@ -142,8 +143,8 @@ abbrev pub HasBinaryAnswers : {M : Type 0} → BinaryMatch M → Option M → Ty
 HasBinaryAnswers {M} matches filter =
     IfWritten filter (λ m. (binary : Binary) (default : M) → IsSome (matches m binary default))
 
--- Script rules have known values for binaries: the filter of each rule with a list wrapper has a known value for
--- each binary, whatever the default filter means.
+-- Script rules have known values for binaries: the filter of each rule with a list wrapper has a
+-- known value for each binary, whatever the default filter means.
 abbrev pub AnswerForBinaries : {M : Type 0} → BinaryMatch M → List (EvaluatedRule M ScriptRuleUse)
     → Type 0
 AnswerForBinaries matches rules =

@@ -75,7 +75,7 @@ WentThrough steps old new (refused f) =
 WentThrough steps old new no_memory = IsFollowedInPart old new (warnings_before steps)
 WentThrough steps old new malformed = ⊥
 
--- A call ran over steps: it ended with their first fault, if there is one, and reported the warnings
--- before it; where memory ran out, a beginning of them.
+-- A call ran over steps: it ended with their first fault, if there is one, and reported the
+-- warnings before it; where memory ran out, a beginning of them.
 pub record Ran (steps : List LoadStep) (old new : List Warning) (end : Ending) : Type 0 where
   pub is : WentThrough steps old new end

@@ -16,7 +16,8 @@ use Rattle.rinqebo_load.specs.declared.missing.TestFault.{TestFault}
 use Rattle.rinqebo_load.specs.declared.missing.TestFault.TheVariants as faults
 use Rattle.rinqebo_load.specs.declared.session.Session.{Session}
 
--- A load failed with an error: files are refused, but not because memory ran out, or memory ran out.
+-- A load failed with an error: files are refused, but not because memory ran out, or memory ran
+-- out.
 abbrev pub IsLoadFailure : ConfigParseError → Failure → Type 0
 IsLoadFailure error (failures.Engines fault) = ⊥
 IsLoadFailure error (failures.Refused report) = ¬ IsMemory error

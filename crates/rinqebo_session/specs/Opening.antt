@@ -91,8 +91,8 @@ abbrev pub IsEmpty : Result Loaded Failure → Type 0
 IsEmpty (Ok loaded) = ⊥
 IsEmpty (Err failure) = Unit {0}
 
--- why a session gives no profile: it is empty, the name is not a text, or there is none of the name;
--- unless memory runs out
+-- why a session gives no profile: it is empty, the name is not a text, or there is none of the
+-- name; unless memory runs out
 abbrev pub IsOpenFailure : Session → Name → OpenFailure → Type 0
 IsOpenFailure session name opens.NotLoaded = IsEmpty session.outcome
 IsOpenFailure session name opens.NotText = ¬ IsUtf8 name
