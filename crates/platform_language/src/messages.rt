@@ -57,7 +57,7 @@ impl FaultKind {
             FaultKind::NotTakesOne(_) => "`not` takes one part",
             FaultKind::Empty => "expected an expression",
             FaultKind::SeveralRoots => "expected one expression, and not several",
-            FaultKind::TooDeep => "functions stand more than 128 deep",
+            FaultKind::TooDeep => "functions nest more than 128 deep",
             FaultKind::ValueWanted => "expected `= \"<value>\"` behind this key",
             FaultKind::UnknownTargetKey => "unknown key",
             FaultKind::ValueNotAllowed => "this key takes no value",

@@ -374,7 +374,7 @@ fn banned(alloc: Global, stopped: Stopped<'_>) -> Result<Option<Worded>, AllocEr
     let place = (stopped.start, stopped.end);
     let (message, expected) = match name_at(stopped.part()) {
         "default" => (
-            "`default()` cannot be in a default filter, for which it stands",
+            "`default()` is the default filter, so a default filter cannot use it",
             "a predicate other than `default`",
         ),
         "group" => (

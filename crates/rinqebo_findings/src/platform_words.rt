@@ -251,7 +251,7 @@ fn bad_whole(alloc: Global, stopped: Stopped<'_>) -> Result<Option<Worded>, Allo
         "expected an expression" => at(alloc, place, "`cfg(..)` is empty", AN_EXPRESSION)?,
         "expected one expression, and not several" => several(alloc, stopped)?,
         "`not` takes one part" => not_one(alloc, stopped)?,
-        "functions stand more than 128 deep" => at(
+        "functions nest more than 128 deep" => at(
             alloc,
             place,
             "the platform is nested too deep",
