@@ -46,7 +46,7 @@ needs_feature f WrapperScripts = is_nonempty f.wrapper_scripts
 abbrev pub all_features : List ConfigExperimental
 all_features = SetupScripts ∷ WrapperScripts ∷ []
 
--- the features that a file needs and that are not switched on, in order
+-- the features that a file needs and that are not enabled, in order
 abbrev pub features_missing : Features → FileText → List ConfigExperimental
 features_missing features f =
     filter (λ feature. needs_feature f feature && not (features feature)) all_features

@@ -48,7 +48,7 @@ abbrev pub key_cause : FileText → Option LoadCause
 key_cause file = if_true both_script_keys
     (is_nonempty file.old_setup_scripts && is_nonempty (new_ids_of file))
 
--- features that a file needs and that are not switched on
+-- features that a file needs and that are not enabled
 abbrev pub feature_cause : Features → FileText → Option LoadCause
 feature_cause features file = if_some missing_features (features_missing features file)
 

@@ -77,7 +77,7 @@ pub data LoadCause : Type 0 where
   ill_named_scripts : OwnerClass → NameSet → LoadCause
   -- scripts under `script` and under `scripts`
   both_script_keys : LoadCause
-  -- features that it needs and that are not switched on
+  -- features that it needs and that are not enabled
   missing_features : List ConfigExperimental → LoadCause
   -- scripts of both kinds
   both_script_kinds : NameSet → LoadCause

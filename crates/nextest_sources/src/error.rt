@@ -48,7 +48,7 @@ pub enum ConfigParseErrorKind {
     InvalidTestGroupsDefinedByOrganisation(BTreeSet<CustomTestGroup>),
     /// There are scripts under the old key `script` and under `scripts`.
     BothScriptAndScriptsDefined,
-    /// The file needs experimental features that are not switched on.
+    /// The file needs experimental features that are not enabled.
     ExperimentalFeaturesNotEnabled {
         /// Those features, in their order.
         missing_features: Vec<ConfigExperimental>,

@@ -170,7 +170,7 @@ fn nothing_there(alloc: Global, stopped: Stopped<'_>) -> Result<Worded, AllocErr
     if !name.is_empty() {
         return no_right_side(alloc, place, name);
     }
-    let message = String::from_str(alloc, "the filter ends where a predicate is due")?;
+    let message = String::from_str(alloc, "the filter ends where a predicate is expected")?;
     Worded::of(alloc, place, message, A_PREDICATE)
 }
 
