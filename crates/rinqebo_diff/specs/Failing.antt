@@ -23,11 +23,11 @@ pub record FailsInSession (side : DiffSide) (gathered : Gathered) (failure : Fai
   pub begun : IsSessionOf side.request gathered session
   pub cause : IsFailureOn session side.profile.now failure
 
--- A side has no result: its session fails, or the session has none.
+-- A side has no result: what all commands begin with fails, or its session has none.
 abbrev pub SideFails : DiffSide → Gathered → Failure → Type 0
 SideFails side gathered failure = IsBeginningFailure failure ⊎ FailsInSession side gathered failure
 
--- one of the sides has no result, or memory ran out
+-- a side of a name has no result, or memory ran out
 abbrev pub FailsAt : SideName → DiffSide → Gathered → DiffFailure → Type 0
 FailsAt name side gathered (failures.Side other failure) =
     (other ≡ name) × SideFails side gathered failure
@@ -45,7 +45,7 @@ DiffFails request from to (failures.Side names.To failure) =
     Loads request.from from × SideFails request.to to failure
 DiffFails request from to failures.Memory = Unit {0}
 
--- The files of a side are refused: they break some written rule.
+-- The files of a side are refused: some written rule does not hold of them.
 pub record IsRefusedSide (side : DiffSide) (gathered : Gathered) : Type 0 where
   pub session : Session
   pub begun : IsSessionOf side.request gathered session
@@ -57,8 +57,8 @@ pub record LacksItsProfile (side : DiffSide) (gathered : Gathered) : Type 0 wher
   pub begun : IsSessionOf side.request gathered session
   pub lacks : LacksProfile session side.profile.now
 
--- An exit status says something of files: it is 3 only if those of a side are refused, and 4
--- only if those of a side lack its profile.
+-- An exit status says something of files: it is 3 only where those of a side are refused, and 4
+-- only where those of a side lack its profile.
 pub record HasCause (request : DiffRequest) (from to : Gathered) (status : ℕ) : Type 0 where
   pub refused : status ≡ 3 → IsRefusedSide request.from from ⊎ IsRefusedSide request.to to
   pub lacking : status ≡ 4 → LacksItsProfile request.from from ⊎ LacksItsProfile request.to to
