@@ -3,7 +3,7 @@
 //! The cases come on standard input, as the crate `test_cases` reads them. Each line of a case that is
 //! not about its files is one of these:
 //!
-//! | Line | Meaning |
+//! | Line | What it says |
 //! |---|---|
 //! | `show WORD ..` | of standard output, only lines with one of these words are printed, with a count of the lines |
 //! | `without-details` | of standard error, lines that begin with two spaces aren't printed |
@@ -25,7 +25,7 @@ use std::io;
 use std::process::ExitCode;
 use test_cases::{Case, CaseError, read_cases};
 
-/// Reads the cases of a text, each with its lines.
+/// Reads the cases of a text, each with what its lines say.
 fn cases_of(alloc: Global, text: &str) -> Result<Vec<(Case<'_>, Setup<'_>)>, CaseError<'_>> {
     let mut cases = Vec::new(alloc);
     for case in read_cases(alloc, text)? {

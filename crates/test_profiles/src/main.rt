@@ -1,10 +1,10 @@
-//! Prints what profiles write and give to tests, by `nextest_config` and the toy engines.
+//! Prints what profiles say, and what they give to tests, by the front door and the toy engines.
 //!
 //! The cases come on standard input, as the crate `test_cases` reads them. The workspace is `/w`, and
 //! its own file `/w/.config/nextest.toml`. Each line of a case that is not about the texts of its files is
 //! one of these:
 //!
-//! | Line | Meaning |
+//! | Line | What it says |
 //! |---|---|
 //! | `organisation PATH` | the organisation's file is at this path |
 //! | `tool NAME` | this tool has a file, at `/NAME.toml` |
@@ -38,7 +38,7 @@ use std::io;
 use std::process::ExitCode;
 use test_cases::{CaseError, read_cases};
 
-/// Reads the cases of a text, each with its lines.
+/// Reads the cases of a text, each with what its lines say.
 fn setups_of(alloc: Global, text: &str) -> Result<Vec<Setup<'_>>, CaseError<'_>> {
     let mut setups = Vec::new(alloc);
     for case in read_cases(alloc, text)? {
