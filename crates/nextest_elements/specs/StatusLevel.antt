@@ -38,7 +38,7 @@ status_level_at = name_at status_level_names status_level_expected
 unfoldable pub a_status_level : Schema
 a_status_level = value status_level_at
 
--- which tests are reported of at the end of a run, as it is written
+-- which tests are shown at the end of a run, as it is written
 abbrev pub final_status_level_text : FinalStatusLevel → List ℕ
 final_status_level_text final_levels.None = codes "none"
 final_status_level_text final_levels.Fail = codes "fail"
@@ -60,7 +60,7 @@ final_status_level_names = spellings final_status_level_text
 unfoldable pub final_status_level_expected : List ℕ
 final_status_level_expected = codes "`none`, `fail`, `flaky`, `slow`, `skip`, `leak`, `pass`, `all`"
 
--- which tests are reported of at the end of a run, as a node spells it
+-- which tests are shown at the end of a run, as a node spells it
 abbrev pub final_status_level_at : Node → Result FinalStatusLevel FaultCause
 final_status_level_at = name_at final_status_level_names final_status_level_expected
 

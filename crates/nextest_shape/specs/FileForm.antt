@@ -117,7 +117,7 @@ status_level_form =
     words (codes "none" ∷ codes "fail" ∷ codes "retry" ∷ codes "slow" ∷ codes "leak"
     ∷ codes "pass" ∷ codes "skip" ∷ codes "all" ∷ [])
 
--- which tests are reported of at the end of a run
+-- which tests are shown at the end of a run
 abbrev pub final_status_level_form : Form
 final_status_level_form =
     words (codes "none" ∷ codes "fail" ∷ codes "flaky" ∷ codes "slow" ∷ codes "skip"

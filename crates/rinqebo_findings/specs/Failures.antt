@@ -61,7 +61,7 @@ IsTestFailure (faults.Input fault) (failures.Engines told) = told ≡ fault
 IsTestFailure fault failure = ⊥
 
 -- A session has no result about the test that a request names: there is none, there are several, or
--- the metadata, which would have its binary, are not understood; unless memory runs out.
+-- the metadata, which would have its binary, are not understood, unless memory runs out.
 abbrev pub IsFailureToFind : Session → RequestedTest → Failure → Type 0
 IsFailureToFind session requested (failures.Engines fault) = LacksTargets session requested fault
 IsFailureToFind session requested (failures.Refused report) = ⊥

@@ -99,7 +99,7 @@ pub record HasSeveral (session : Session) (requested : RequestedTest) : Type 0 w
   pub source : source_of session requested ≡ sources.List
   pub several : 2 ≤ length (named_in session requested)
 
--- no targets can be read from the text of metadata, for this fault; unless memory runs out
+-- no targets can be read from the text of metadata, for this fault, unless memory runs out
 abbrev pub AreNoTargets : List ℕ → EngineFault → Type 0
 AreNoTargets metadata (refused.Metadata fault) = targets_of_text metadata ≡ Err fault
 AreNoTargets metadata (refused.Platform triple fault) = ⊥
@@ -116,7 +116,7 @@ pub record LacksTargets (session : Session) (requested : RequestedTest) (fault :
   pub source : source_of session requested ≡ sources.Metadata
   pub cause : OfEngine (IsTargetsFault session.gathered.now.metadata) fault
 
--- a session does not find the test that a request names; unless memory runs out
+-- a session does not find the test that a request names, unless memory runs out
 abbrev pub IsNotFound : Session → RequestedTest → TestFault → Type 0
 IsNotFound session requested (faults.NoTest missing) = LacksTest session requested
 IsNotFound session requested (faults.SeveralTests tests) = HasSeveral session requested
@@ -132,7 +132,7 @@ pub record IsOnlyOne (named : List ListTest) (requested : RequestedTest) (found 
   pub mode : found.mode ≡ requested.mode
   pub only : named ≡ found_view found ∷ []
 
--- not exactly one test of a list is named; unless memory runs out
+-- not exactly one test of a list is named, unless memory runs out
 abbrev pub IsNotOne : List ListTest → TestFault → Type 0
 IsNotOne named (faults.NoTest missing) = named ≡ []
 IsNotOne named (faults.SeveralTests tests) = 2 ≤ length named
@@ -146,7 +146,7 @@ pub record IsOfMetadata (metadata binary : List ℕ) (requested : RequestedTest)
   pub mode : found.mode ≡ requested.mode
   pub test : IsTestOfTargets metadata binary requested (found_view found)
 
--- metadata have no binary of an id, or no targets; unless memory runs out
+-- metadata have no binary of an id, or no targets, unless memory runs out
 abbrev pub IsNotOfMetadata : List ℕ → List ℕ → TestFault → Type 0
 IsNotOfMetadata metadata binary (faults.NoTest missing) = LacksBinary metadata binary
 IsNotOfMetadata metadata binary (faults.SeveralTests tests) = ⊥

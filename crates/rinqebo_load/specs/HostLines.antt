@@ -22,7 +22,7 @@ host_in printed = host_in_lines (lines printed)
 abbrev pub printed_host : Option (String Global) → Option (List ℕ)
 printed_host printed = option_and_then (λ text. host_in (string_bytes text)) printed
 
--- there is an output of `rustc -vV`, and it has no line with the host; unless memory runs out
+-- there is an output of `rustc -vV`, and it has no line with the host, unless memory runs out
 abbrev pub IsHostFault : Option (String Global) → InputFault → Type 0
 IsHostFault (Some text) (faults.NoHost file) = host_in (string_bytes text) ≡ None
 IsHostFault printed faults.Memory = Unit {0}

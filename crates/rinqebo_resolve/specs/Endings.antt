@@ -83,7 +83,7 @@ EndsUnderstood request ending =
     (run : RunText) × (run_of request ≡ Some run) × IsEndingOf run ending
 
 -- how the run of the bytes of a request ends: as the run that they describe does, or they are not
--- understood, or are not UTF-8; unless memory runs out
+-- understood, or are not UTF-8, unless memory runs out
 abbrev pub IsEndingFor : List ℕ → Ending → Type 0
 IsEndingFor request (ends.Answered text) = EndsUnderstood request (ends.Answered text)
 IsEndingFor request (ends.Refused text) = EndsUnderstood request (ends.Refused text)
