@@ -25,7 +25,7 @@ fault_behind ds es r met is =
 pub fault_before : (ds es : List Demand) (f : Fault) → first_fault ds ≡ Some f → first_fault (ds ++ es) ≡ Some f
 fault_before ds es f is = first_fault-append ds es ∙ ap (λ r. option_or r (first_fault es)) is
 
-if_some_weaker : {X : Type 0} (o : Option X) (P Q : X → Type 0) → ((x : X) → P x → Q x) → IfSome o P → IfSome o Q
+pub if_some_weaker : {X : Type 0} (o : Option X) (P Q : X → Type 0) → ((x : X) → P x → Q x) → IfSome o P → IfSome o Q
 if_some_weaker None P Q step is = is
 if_some_weaker (Some x) P Q step is = step x is
 

@@ -1,12 +1,16 @@
 //! The tests of a workspace, as `cargo nextest list --message-format json` prints them.
 #![tactic(auto)]
 
+mod case_reader;
 mod fault;
 mod list;
+mod list_reader;
 mod place;
 mod platforms;
+mod suite_reader;
 mod suites;
 mod text;
+mod tokens;
 mod values;
 
 pub use fault::ListFault;

@@ -22,7 +22,7 @@ use std::alloc::{AllocError, Global};
 
 /// The properties of a suite.
 #[derive(Clone, Copy)]
-struct Suite<'v> {
+pub struct Suite<'v> {
     package_name: &'v str,
     package_id: &'v str,
     binary_id: &'v str,
@@ -86,7 +86,7 @@ fn platform_in(alloc: Global, id: &str, suite: &Value) -> Result<BuildPlatform, 
 }
 
 /// Reads the suite with an id.
-fn suite_of<'v>(alloc: Global, id: &str, suite: &'v Value) -> Result<Suite<'v>, ListFault>
+pub fn suite_of<'v>(alloc: Global, id: &str, suite: &'v Value) -> Result<Suite<'v>, ListFault>
     ensures ok { IfOk result (λ found. IsSuiteOf (view suite.now) (suite_view found)) }
     ensures met { IfOk result (λ _. first_fault (suite_demands (id.now, view suite.now)) ≡ None) }
     ensures err { IfErr result (TellsFirst (suite_demands (id.now, view suite.now))) }
@@ -111,7 +111,7 @@ fn suite_of<'v>(alloc: Global, id: &str, suite: &'v Value) -> Result<Suite<'v>, 
 }
 
 /// Returns whether a test case says that its test is ignored.
-fn is_ignored(case: &Value) -> bool
+pub fn is_ignored(case: &Value) -> bool
     ensures { result ≡ is_ignored (view case.now) }
 {
     match case.get("ignored") {
@@ -136,7 +136,7 @@ fn cases_of(alloc: Global, cases: &Map<String, Value>) -> Result<Vec<TestCase>, 
 }
 
 /// Returns the binary of a suite.
-fn binary_of(alloc: Global, suite: &Suite<'_>) -> Result<ListedBinary, AllocError>
+pub fn binary_of(alloc: Global, suite: &Suite<'_>) -> Result<ListedBinary, AllocError>
     ensures { IfOk result (λ binary. listed_view binary ≡ suite_view suite.now) }
 {
     Ok(ListedBinary {

@@ -10,13 +10,15 @@ ghost use Rattle.nextest_lists.specs.Reading.{IsListIn, IsFaultIn};
 
 use crate::fault::ListFault;
 use crate::list::ListedTests;
+use crate::list_reader::list_in;
 use crate::platforms::triples_of;
 use crate::suites::binaries_of;
+use crate::tokens::Stop;
 use serde_json::{Error, Value};
 use std::alloc::{AllocError, Global};
 
 /// Returns a copy of a string, if there is one.
-fn copied(alloc: Global, text: Option<&str>) -> Result<Option<String>, AllocError>
+pub fn copied(alloc: Global, text: Option<&str>) -> Result<Option<String>, AllocError>
     ensures { IfOk result (λ copy. option_map string_bytes copy
         ≡ option_map (λ text. text.now) text.entry) }
 {
@@ -27,7 +29,7 @@ fn copied(alloc: Global, text: Option<&str>) -> Result<Option<String>, AllocErro
 }
 
 /// Returns the target directory of the build, if a document has it.
-fn target_directory_in(document: &Value) -> Option<&str>
+pub fn target_directory_in(document: &Value) -> Option<&str>
     ensures { option_map (λ text. text.now) result ≡ target_directory_in (view document.now) }
 {
     let meta = document.get("rust-build-meta")?;
@@ -63,11 +65,24 @@ fn fault_of(error: &Error) -> ListFault
     }
 }
 
+/// Reads the tests that a text lists, from the value of the text.
+fn tests_by_value(alloc: Global, text: &str) -> Result<ListedTests, ListFault>
+    ensures tests { IfOk result (λ list. IsListIn text.now (list_view list)) }
+    ensures fault { IfErr result (λ fault. IfSome (fault_view fault) (IsFaultIn text.now)) }
+{
+    match Value::from_str(alloc, text) {
+        Ok(document) => tests_in(alloc, &document),
+        Err(error) => Err(fault_of(&error)),
+    }
+}
+
 /// Reads the tests from the JSON that `cargo nextest list --message-format json` prints.
 ///
 /// Suites and test cases are in the order of the bytes of their keys. If there are several targets,
 /// the first one counts. A test is ignored if the member `ignored` of its case is `true`. Members
 /// that a list of tests doesn't need have no effect.
+///
+/// A list takes no value of the whole text. Only a text with a fault is read into one.
 ///
 /// # Errors
 ///
@@ -80,8 +95,9 @@ pub fn tests_of(alloc: Global, text: &str) -> Result<ListedTests, ListFault>
     ensures tests { IfOk result (λ list. IsListIn text.now (list_view list)) }
     ensures fault { IfErr result (λ fault. IfSome (fault_view fault) (IsFaultIn text.now)) }
 {
-    match Value::from_str(alloc, text) {
-        Ok(document) => tests_in(alloc, &document),
-        Err(error) => Err(fault_of(&error)),
+    match list_in(alloc, text) {
+        Ok(list) => Ok(list),
+        Err(Stop::Memory) => Err(ListFault::Memory),
+        Err(Stop::Refused) => tests_by_value(alloc, text),
     }
 }

@@ -1,4 +1,5 @@
 pub mod Failing
+pub mod Causes
 pub mod Elements
 pub mod Ids
 pub mod Filters

@@ -1,13 +1,13 @@
--- What all commands begin with may fail.
-use Rattle.std.specs.Prelude.{◌≡◌}
+-- Why a request has no session, which all commands begin with.
 use Rattle.rinqebo_files.specs.declared.files.Gathered.{Gathered}
 use Rattle.rinqebo_request.specs.declared.request.Request.{Request}
 use Rattle.rinqebo_load.specs.InputFaults.{IsInputFault}
 use Rattle.rinqebo_load.specs.declared.failure.Failure.{Failure}
 use Rattle.rinqebo_load.specs.declared.failure.Failure.TheVariants as failures
 use Rattle.rinqebo_load.specs.declared.fault.InputFault.{InputFault}
+use Rattle.rinqebo_load.specs.declared.fault.InputFault.TheVariants as faults
 
--- A failure of what all commands begin with: the engines, or a refusal of memory.
+-- A failure of what all commands begin with: the engines, or want of memory.
 abbrev pub IsBeginningFailure : Failure → Type 0
 IsBeginningFailure (failures.Engines fault) = Unit {0}
 IsBeginningFailure (failures.Refused report) = ⊥
@@ -16,17 +16,13 @@ IsBeginningFailure (failures.NoTest report) = ⊥
 IsBeginningFailure (failures.SeveralTests report) = ⊥
 IsBeginningFailure failures.Memory = Unit {0}
 
--- a failure is that of a fault, or a refusal of memory
-abbrev pub IsFailureOf : InputFault → Failure → Type 0
-IsFailureOf fault (failures.Engines told) = told ≡ fault
-IsFailureOf fault (failures.Refused report) = ⊥
-IsFailureOf fault (failures.NoProfile report) = ⊥
-IsFailureOf fault (failures.NoTest report) = ⊥
-IsFailureOf fault (failures.SeveralTests report) = ⊥
-IsFailureOf fault failures.Memory = Unit {0}
+-- the failure of a fault: want of memory is one of its own
+abbrev pub failure_of : InputFault → Failure
+failure_of faults.Memory = failures.Memory
+failure_of fault = failures.Engines fault
 
--- A request has no session: the fault says which of the things that it names is not understood;
--- unless memory runs out.
+-- A request has no session: a fault is that of the first of the things that it names which is not
+-- understood, or memory ran out.
 abbrev pub IsUnusable : Request → Gathered → Failure → Type 0
 IsUnusable request gathered (failures.Engines fault) = IsInputFault request gathered fault
 IsUnusable request gathered (failures.Refused report) = ⊥

@@ -8,8 +8,9 @@ use Rattle.rinqebo_forms.specs.declared.machines.EngineFault.{EngineFault}
 use Rattle.rinqebo_forms.specs.declared.machines.EngineFault.TheVariants as refused
 use Rattle.rinqebo_request.specs.declared.request.RequestedTest.{RequestedTest}
 use Rattle.rinqebo_load.specs.FoundTests.{IsTestOfId, found_view, named_tests, test_of_target}
-use Rattle.rinqebo_load.specs.InputFaults.{OfEngine}
+use Rattle.rinqebo_load.specs.InputFaults.{IsAnySubject, OfEngine}
 use Rattle.rinqebo_load.specs.declared.fault.InputFault.{InputFault}
+use Rattle.rinqebo_load.specs.declared.fault.InputFault.TheVariants as inputs
 use Rattle.rinqebo_load.specs.declared.found_test.FoundTest.{FoundTest}
 use Rattle.rinqebo_load.specs.declared.found_test.TestSource.{TestSource}
 use Rattle.rinqebo_load.specs.declared.found_test.TestSource.TheVariants as sources
@@ -99,11 +100,11 @@ pub record HasSeveral (session : Session) (requested : RequestedTest) : Type 0 w
   pub source : source_of session requested ≡ sources.List
   pub several : 2 ≤ length (named_in session requested)
 
--- no targets can be read from the text of metadata, for this fault, unless memory runs out
+-- no targets can be read from the text of metadata, for exactly this fault
 abbrev pub AreNoTargets : List ℕ → EngineFault → Type 0
 AreNoTargets metadata (refused.Metadata fault) = targets_of_text metadata ≡ Err fault
 AreNoTargets metadata (refused.Platform triple fault) = ⊥
-AreNoTargets metadata refused.Memory = Unit {0}
+AreNoTargets metadata refused.Memory = ⊥
 
 -- the same of metadata, if there are any
 abbrev pub IsTargetsFault : Option (String Global) → EngineFault → Type 0
@@ -114,9 +115,9 @@ IsTargetsFault None fault = ⊥
 pub record LacksTargets (session : Session) (requested : RequestedTest) (fault : InputFault)
     : Type 0 where
   pub source : source_of session requested ≡ sources.Metadata
-  pub cause : OfEngine (IsTargetsFault session.gathered.now.metadata) fault
+  pub cause : OfEngine IsAnySubject (IsTargetsFault session.gathered.now.metadata) fault
 
--- a session does not find the test that a request names, unless memory runs out
+-- a session does not find the test that a request names; want of memory aside
 abbrev pub IsNotFound : Session → RequestedTest → TestFault → Type 0
 IsNotFound session requested (faults.NoTest missing) = LacksTest session requested
 IsNotFound session requested (faults.SeveralTests tests) = HasSeveral session requested
@@ -132,7 +133,7 @@ pub record IsOnlyOne (named : List ListTest) (requested : RequestedTest) (found 
   pub mode : found.mode ≡ requested.mode
   pub only : named ≡ found_view found ∷ []
 
--- not exactly one test of a list is named, unless memory runs out
+-- not exactly one test of a list is named; want of memory aside
 abbrev pub IsNotOne : List ListTest → TestFault → Type 0
 IsNotOne named (faults.NoTest missing) = named ≡ []
 IsNotOne named (faults.SeveralTests tests) = 2 ≤ length named
@@ -146,16 +147,15 @@ pub record IsOfMetadata (metadata binary : List ℕ) (requested : RequestedTest)
   pub mode : found.mode ≡ requested.mode
   pub test : IsTestOfTargets metadata binary requested (found_view found)
 
--- metadata have no binary of an id, or no targets, unless memory runs out
+-- metadata have no binary of an id, or no targets; want of memory aside
 abbrev pub IsNotOfMetadata : List ℕ → List ℕ → TestFault → Type 0
 IsNotOfMetadata metadata binary (faults.NoTest missing) = LacksBinary metadata binary
 IsNotOfMetadata metadata binary (faults.SeveralTests tests) = ⊥
-IsNotOfMetadata metadata binary (faults.Input fault) = OfEngine (AreNoTargets metadata) fault
+IsNotOfMetadata metadata binary (faults.Input fault) =
+    OfEngine IsAnySubject (AreNoTargets metadata) fault
 IsNotOfMetadata metadata binary faults.Memory = Unit {0}
 
--- a fault is that of what a request names, or a refusal of memory
-abbrev pub IsFaultOf : InputFault → TestFault → Type 0
-IsFaultOf fault (faults.NoTest missing) = ⊥
-IsFaultOf fault (faults.SeveralTests tests) = ⊥
-IsFaultOf fault (faults.Input told) = told ≡ fault
-IsFaultOf fault faults.Memory = Unit {0}
+-- a fault of what a request names is why a test is not found: want of memory is a reason of its own
+abbrev pub test_fault : InputFault → TestFault
+test_fault inputs.Memory = faults.Memory
+test_fault fault = faults.Input fault

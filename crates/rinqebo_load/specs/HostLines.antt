@@ -1,10 +1,8 @@
 -- The host in what the compiler prints of itself.
-use Rattle.std.specs.Prelude.{◌≡◌, ℕ, List, Option, None, Some, String, codes, filter_map, option_and_then, slice_get, string_bytes}
+use Rattle.std.specs.Prelude.{ℕ, List, Option, None, Some, IsTrue, String, codes, filter_map, is_some, option_and_then, slice_get, string_bytes}
 use Rattle.std.specs.Str.Lines.{lines}
 use Rattle.std.specs.declared.alloc.Global.{Global}
 use Rattle.rinqebo_report.specs.OriginText.{after_prefix}
-use Rattle.rinqebo_load.specs.declared.fault.InputFault.{InputFault}
-use Rattle.rinqebo_load.specs.declared.fault.InputFault.TheVariants as faults
 
 -- the triple in a line that has the host
 abbrev pub host_of_line : List ℕ → Option (List ℕ)
@@ -22,8 +20,7 @@ host_in printed = host_in_lines (lines printed)
 abbrev pub printed_host : Option (String Global) → Option (List ℕ)
 printed_host printed = option_and_then (λ text. host_in (string_bytes text)) printed
 
--- there is an output of `rustc -vV`, and it has no line with the host, unless memory runs out
-abbrev pub IsHostFault : Option (String Global) → InputFault → Type 0
-IsHostFault (Some text) (faults.NoHost file) = host_in (string_bytes text) ≡ None
-IsHostFault printed faults.Memory = Unit {0}
-IsHostFault printed fault = ⊥
+-- what the compiler prints of itself has the host, if there is such a text
+abbrev pub NamesHost : Option (String Global) → Type 0
+NamesHost (Some text) = IsTrue (is_some (host_in (string_bytes text)))
+NamesHost None = Unit {0}

@@ -1,4 +1,5 @@
 pub mod HostLines
+pub mod ListPath
 pub mod Triples
 pub mod Machines
 pub mod InputFaults

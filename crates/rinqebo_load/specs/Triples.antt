@@ -10,6 +10,7 @@ use Rattle.nextest_lists.specs.Reading.{IsListIn}
 use Rattle.nextest_lists.specs.declared.list.ListedTests.{ListedTests}
 use Rattle.rinqebo_load.specs.declared.fault.TripleSource.{TripleSource}
 use Rattle.rinqebo_load.specs.declared.fault.TripleSource.TheVariants as sources
+use Rattle.rinqebo_load.specs.declared.triples.Triples.{Triples}
 
 -- a list without tests, triples and target directory
 abbrev pub no_list : TestList
@@ -53,3 +54,11 @@ target_source options list =
     if is_some options.target then sources.Target
     else (if is_some list.triples.host then sources.List
     else (if is_some options.build_target then sources.Variable else sources.Fallback))
+
+-- Triples are those of a build: that of the host and of the target, and what gives them.
+pub record AreTriplesFor (options : EngineOptions) (printed : Option (List ℕ)) (list : TestList)
+    (triples : Triples) : Type 0 where
+  pub host : string_bytes triples.host ≡ host_for options printed list
+  pub target : option_map string_bytes triples.target ≡ target_for options list
+  pub host_source : triples.host_source ≡ host_source options printed list
+  pub target_source : triples.target_source ≡ target_source options list

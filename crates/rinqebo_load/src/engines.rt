@@ -1,17 +1,20 @@
 //! The languages of filters and platforms, as a request has them.
 ghost use Rattle.std.specs.Prelude.{◌≡◌, IfErr, IfOk, option_map, string_bytes};
-ghost use Rattle.rinqebo_forms.specs.Machines.{AreOpenFiltersFor, ArePlatformsFor, IsMachineRefused, IsMetadataFault, IsPlatformBy, IsTargetFor};
-ghost use Rattle.rinqebo_load.specs.InputFaults.{IsBuildFault, IsEngineFault, IsTargetFault, OfEngine};
+ghost use Rattle.rinqebo_forms.specs.Machines.{AreOpenFiltersFor, ArePlatformsFor, IsPlatformBy, IsTargetFor};
+ghost use Rattle.rinqebo_request.specs.declared.named.FileOption.TheVariants.{HostCfg, TargetCfg};
+ghost use Rattle.rinqebo_load.specs.InputFaults.{IsAboutNamed, IsAboutTriple, IsBuildFault, IsEngineFault, IsGraphFault, IsMachineFault, IsTargetFault, IsTargetKnown, OrMemory};
+ghost use Rattle.rinqebo_load.specs.ListPath.{list_path, path_of};
 ghost use Rattle.rinqebo_load.specs.Machines.{machine_of};
 
 use crate::fault::{InputFault, Subject, TripleSource};
+use crate::list_path::list_path;
 use crate::triples::Triples;
 use filter_engine::NextestFilters;
 use nextest_config::BuildPlatforms;
 use platform_table::Platform;
 use rinqebo_files::Gathered;
-use rinqebo_forms::{EngineFault, open_filters_of, platform_of};
-use rinqebo_request::{FileOption, ListFile, NamedFile, Question, Request};
+use rinqebo_forms::{open_filters_of, platform_of};
+use rinqebo_request::{FileOption, NamedFile, Question, Request};
 use std::alloc::{AllocError, Global};
 
 /// The language of filters, and the platforms of a build.
@@ -37,42 +40,64 @@ struct MachineNames<'a> {
     option: FileOption,
 }
 
-impl MachineNames<'_> {
-    /// The option that a fault of the machine's platform is about: the one with what the compiler
-    /// prints for it, if a user names that, else the one with its triple.
-    fn subject(self, alloc: Global) -> Result<Subject, AllocError> {
-        if self.cfg.is_some() {
-            return Ok(Subject::File(NamedFile::new(alloc, self.cfg, self.option)?));
+/// What a fault of a triple is about: the list of tests, if that gives the triple, else what does.
+fn triple_subject(
+    alloc: Global,
+    source: TripleSource,
+    list: Option<&str>,
+) -> Result<Subject, AllocError>
+    ensures { IfOk result (IsAboutTriple source (path_of list.entry)) }
+{
+    match source {
+        TripleSource::List => {
+            let file = NamedFile::new(alloc, list, FileOption::List)?;
+            Ok(Subject::File(file))
         }
-        match self.source {
-            TripleSource::List => {
-                let file = NamedFile::new(alloc, self.list, FileOption::List)?;
+        source => Ok(Subject::Triple(source)),
+    }
+}
+
+impl MachineNames<'_> {
+    /// What a fault of the machine's platform is about: what the compiler prints for it, if a user
+    /// names that, else its triple.
+    fn subject(self, alloc: Global) -> Result<Subject, AllocError>
+        ensures { IfOk result (IsAboutNamed self.entry) }
+    {
+        match self.cfg {
+            Some(cfg) => {
+                let file = NamedFile::new(alloc, Some(cfg), self.option)?;
                 Ok(Subject::File(file))
             }
-            TripleSource::Host
-            | TripleSource::RustcVersion
-            | TripleSource::Target
-            | TripleSource::Variable
-            | TripleSource::Fallback => Ok(Subject::Triple(self.source)),
+            None => triple_subject(alloc, self.source, self.list),
         }
     }
 }
 
 /// How a request names its host.
-fn host_names<'a>(request: &Request<'a>, triples: &Triples) -> MachineNames<'a> {
+fn host_names<'a>(request: &Request<'a>, triples: &Triples) -> MachineNames<'a>
+    ensures source { result.source ≡ triples.now.host_source }
+    ensures list { path_of result.list ≡ list_path request.now.question }
+    ensures cfg { result.cfg ≡ request.now.engines.host_cfg }
+    ensures option { result.option ≡ HostCfg }
+{
     MachineNames {
         source: triples.host_source,
-        list: request.list().map(ListFile::path),
+        list: list_path(request),
         cfg: request.engines.host_cfg,
         option: FileOption::HostCfg,
     }
 }
 
 /// How a request names its target.
-fn target_names<'a>(request: &Request<'a>, triples: &Triples) -> MachineNames<'a> {
+fn target_names<'a>(request: &Request<'a>, triples: &Triples) -> MachineNames<'a>
+    ensures source { result.source ≡ triples.now.target_source }
+    ensures list { path_of result.list ≡ list_path request.now.question }
+    ensures cfg { result.cfg ≡ request.now.engines.target_cfg }
+    ensures option { result.option ≡ TargetCfg }
+{
     MachineNames {
         source: triples.target_source,
-        list: request.list().map(ListFile::path),
+        list: list_path(request),
         cfg: request.engines.target_cfg,
         option: FileOption::TargetCfg,
     }
@@ -86,15 +111,13 @@ fn filters_at(
     metadata: &Option<String>,
 ) -> Result<NextestFilters, InputFault>
     ensures ok { IfOk result (AreOpenFiltersFor (option_map string_bytes metadata.now)) }
-    ensures err { IfErr result
-        (OfEngine (IsMetadataFault (option_map string_bytes metadata.now))) }
+    ensures err { IfErr result (OrMemory (IsGraphFault (path_of path.entry) metadata.now)) }
 {
     match open_filters_of(alloc, metadata) {
         Ok(filters) => Ok(filters),
-        Err(EngineFault::Memory) => Err(InputFault::Memory),
         Err(fault) => {
             let file = NamedFile::new(alloc, path, FileOption::Metadata)?;
-            Err(InputFault::Engine(Subject::File(file), fault))
+            Err(InputFault::of_engine(Subject::File(file), fault))
         }
     }
 }
@@ -108,12 +131,11 @@ fn named_platform(
 ) -> Result<Platform, InputFault>
     ensures ok { IfOk result (IsPlatformBy triple.now (option_map string_bytes cfg.now)) }
     ensures err { IfErr result
-        (OfEngine (IsMachineRefused (machine_of cfg.now triple.now))) }
+        (OrMemory (IsMachineFault (IsAboutNamed names.entry) (machine_of cfg.now triple.now))) }
 {
     match platform_of(alloc, triple, cfg) {
         Ok(platform) => Ok(platform),
-        Err(EngineFault::Memory) => Err(InputFault::Memory),
-        Err(fault) => Err(InputFault::Engine(names.subject(alloc)?, fault)),
+        Err(fault) => Err(InputFault::of_engine(names.subject(alloc)?, fault)),
     }
 }
 
@@ -126,13 +148,17 @@ fn target_of(
 ) -> Result<Option<Platform>, InputFault>
     ensures ok { IfOk result
         (IsTargetFor (option_map (machine_of cfg.now) (option_map string_bytes triple.now))) }
-    ensures err { IfErr result
-        (IsTargetFault cfg.now (option_map string_bytes triple.now)) }
+    ensures known { IfOk result
+        (λ _. IsTargetKnown cfg.now (option_map string_bytes triple.now)) }
+    ensures err { IfErr result (OrMemory (IsTargetFault (IsAboutNamed names.entry) cfg.now
+        (option_map string_bytes triple.now))) }
 {
     match triple {
         Some(triple) => Ok(Some(named_platform(alloc, triple.as_str(), cfg, names)?)),
-        None if cfg.is_some() => Err(InputFault::NoTarget),
-        None => Ok(None),
+        None => match cfg {
+            Some(_) => Err(InputFault::NoTarget),
+            None => Ok(None),
+        },
     }
 }
 
@@ -147,8 +173,8 @@ fn platforms_of(
         (ArePlatformsFor (machine_of gathered.now.host_cfg (string_bytes triples.now.host))
         (option_map (machine_of gathered.now.target_cfg)
         (option_map string_bytes triples.now.target))) }
-    ensures err { IfErr result (IsBuildFault (string_bytes triples.now.host)
-        (option_map string_bytes triples.now.target) gathered.now) }
+    ensures err { IfErr result
+        (OrMemory (IsBuildFault request.now triples.now gathered.now)) }
 {
     let names = target_names(request, triples);
     let target = target_of(alloc, &triples.target, &gathered.target_cfg, names)?;
@@ -184,8 +210,8 @@ impl Engines {
             (machine_of gathered.now.host_cfg (string_bytes triples.now.host))
             (option_map (machine_of gathered.now.target_cfg)
             (option_map string_bytes triples.now.target)) engines.platforms) }
-        ensures err { IfErr result (IsEngineFault (string_bytes triples.now.host)
-            (option_map string_bytes triples.now.target) gathered.now) }
+        ensures err { IfErr result
+            (OrMemory (IsEngineFault request.now triples.now gathered.now)) }
     {
         let filters = filters_at(alloc, request.engines.metadata, &gathered.metadata)?;
         Ok(Engines {

@@ -32,9 +32,10 @@ impl From<AllocError> for Failure {
 }
 
 impl From<InputFault> for Failure {
-    ghost use Rattle.rinqebo_load.specs.Beginning.{IsFailureOf};
+    ghost use Rattle.std.specs.Prelude.{◌≡◌};
+    ghost use Rattle.rinqebo_load.specs.Beginning.{failure_of};
 
-    ghost from_gives = { λ fault failure. IsFailureOf fault failure };
+    ghost from_gives = { λ fault failure. failure ≡ failure_of fault };
 
     fn from(fault: InputFault) -> Failure {
         match fault {

@@ -1,6 +1,11 @@
 //! What is wrong with the list of tests, the metadata or the platforms that a request names.
+ghost use Rattle.std.specs.Prelude.{◌≡◌};
+ghost use Rattle.rinqebo_forms.specs.declared.machines.EngineFault.TheVariants.{Platform};
+ghost use Rattle.rinqebo_load.specs.InputFaults.{engine_fault};
+
 use filter_engine::Field;
 use nextest_lists::ListFault;
+use platform_table::PlatformFault;
 use rinqebo_forms::EngineFault;
 use rinqebo_request::NamedFile;
 use std::alloc::AllocError;
@@ -99,6 +104,31 @@ pub enum InputFault {
     /// Memory was refused.
     #[error("out of memory")]
     Memory,
+}
+
+impl InputFault {
+    /// The fault of an engine about a subject. Want of memory is about none.
+    pub fn of_engine(subject: Subject, fault: EngineFault) -> InputFault
+        ensures { result ≡ engine_fault subject fault }
+    {
+        match fault {
+            EngineFault::Metadata(fault) => {
+                InputFault::Engine(subject, EngineFault::Metadata(fault))
+            }
+            EngineFault::Platform(triple, fault) => of_platform(subject, triple, fault),
+            EngineFault::Memory => InputFault::Memory,
+        }
+    }
+}
+
+/// The fault of the platform of a triple, about a subject.
+fn of_platform(subject: Subject, triple: String, fault: PlatformFault) -> InputFault
+    ensures { result ≡ engine_fault subject (Platform triple fault) }
+{
+    match fault {
+        PlatformFault::Memory => InputFault::Memory,
+        fault => InputFault::Engine(subject, EngineFault::Platform(triple, fault)),
+    }
 }
 
 impl From<AllocError> for InputFault {

@@ -6,7 +6,7 @@ ghost use Rattle.filter_packages.specs.TargetView.{target_view, targets_view};
 ghost use Rattle.nextest_lists.specs.ListView.{list_test_view};
 ghost use Rattle.rinqebo_load.specs.FindTests.{AreNoTargets, IsFoundFor, IsNotFound, IsNotOfMetadata, IsNotOne, IsOfMetadata, IsOnlyOne, named_in};
 ghost use Rattle.rinqebo_load.specs.FoundTests.{is_end_of, is_named, named_tests};
-ghost use Rattle.rinqebo_load.specs.InputFaults.{OfEngine};
+ghost use Rattle.rinqebo_load.specs.InputFaults.{IsAnySubject, OfEngine, OrMemory};
 
 use crate::fault::{InputFault, Subject};
 use crate::found_test::FoundTest;
@@ -76,7 +76,8 @@ fn metadata_targets(
 ) -> Result<Vec<PackageTarget>, InputFault>
     ensures ok { IfOk result (λ targets.
         targets_of_text metadata.now ≡ Ok (targets_view targets.items)) }
-    ensures err { IfErr result (OfEngine (AreNoTargets metadata.now)) }
+    ensures err { IfErr result
+        (OrMemory (OfEngine IsAnySubject (AreNoTargets metadata.now))) }
 {
     match targets_of(alloc, metadata) {
         Ok(targets) => Ok(targets),

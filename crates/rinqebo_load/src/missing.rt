@@ -40,9 +40,10 @@ impl From<AllocError> for TestFault {
 }
 
 impl From<InputFault> for TestFault {
-    ghost use Rattle.rinqebo_load.specs.FindTests.{IsFaultOf};
+    ghost use Rattle.std.specs.Prelude.{◌≡◌};
+    ghost use Rattle.rinqebo_load.specs.FindTests.{test_fault};
 
-    ghost from_gives = { λ fault told. IsFaultOf fault told };
+    ghost from_gives = { λ fault told. told ≡ test_fault fault };
 
     fn from(fault: InputFault) -> TestFault {
         match fault {

@@ -1,7 +1,9 @@
 //! The host in what the compiler prints of itself.
 ghost use Rattle.std.specs.Prelude.{◌≡◌, IfErr, IfOk, MatchOption, None, Some, filter_map, map, option_map, slice_get, string_bytes};
 ghost use Rattle.std.specs.Str.Lines.{lines};
-ghost use Rattle.rinqebo_load.specs.HostLines.{IsHostFault, host_in_lines, host_of_line, printed_host};
+ghost use Rattle.rinqebo_load.specs.HostLines.{NamesHost, host_in_lines, host_of_line, printed_host};
+ghost use Rattle.rinqebo_load.specs.InputFaults.{LacksHost, OrMemory};
+ghost use Rattle.rinqebo_load.specs.ListPath.{path_of};
 
 use crate::fault::InputFault;
 use rinqebo_files::Gathered;
@@ -44,7 +46,9 @@ pub fn printed_host<'g>(
 ) -> Result<Option<&'g str>, InputFault>
     ensures ok { IfOk result (λ host. option_map (λ host. host.now) host
         ≡ printed_host gathered.now.rustc_version) }
-    ensures err { IfErr result (IsHostFault gathered.now.rustc_version) }
+    ensures named { IfOk result (λ _. NamesHost gathered.now.rustc_version) }
+    ensures err { IfErr result
+        (OrMemory (LacksHost (path_of path.entry) gathered.now.rustc_version)) }
 {
     let Some(text) = &gathered.rustc_version else {
         return Ok(None);

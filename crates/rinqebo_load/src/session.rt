@@ -11,6 +11,7 @@ ghost use Rattle.rinqebo_load.specs.Warned.{warnings_met};
 
 use crate::engines::Engines;
 use crate::failure::Failure;
+use crate::list_path::list_path;
 use crate::printed_host::printed_host;
 use crate::triples::{Triples, listed_tests, triples_for};
 use filter_engine::NextestFilters;
@@ -24,7 +25,7 @@ use nextest_sources::ConfigInputs;
 use platform_language::TargetSpecs;
 use rinqebo_files::{Gathered, Layer, features_of, layers_of};
 use rinqebo_report::SourceKind;
-use rinqebo_request::{ListFile, ProfileSource, Request};
+use rinqebo_request::{ProfileSource, Request};
 use std::alloc::{AllocError, Global};
 use std::collections::BTreeSet;
 
@@ -61,8 +62,7 @@ impl<'g> Session<'g> {
         ensures err { IfErr result IsBeginningFailure }
         ensures cause { IfErr result (IsUnusable request.now gathered.now) }
     {
-        let path = request.list().map_or("", ListFile::path);
-        let tests = listed_tests(alloc, path, gathered)?;
+        let tests = listed_tests(alloc, list_path(request), gathered)?;
         let host = printed_host(alloc, request.engines.rustc_version, gathered)?;
         let triples = triples_for(alloc, &request.engines, host, &tests)?;
         let engines = Engines::new(alloc, request, &triples, gathered)?;

@@ -1,7 +1,11 @@
 //! The list of tests that a run is about, and the triples of its build.
-ghost use Rattle.std.specs.Prelude.{◌≡◌, IfErr, IfOk, option_map, string_bytes};
+ghost use Rattle.std.specs.Prelude.{◌≡◌, [], IfErr, IfOk, IfSome, IsTrue, option_map, string_bytes, unwrap_or};
+ghost use Rattle.nextest_lists.specs.Demands.{not_json};
+ghost use Rattle.nextest_lists.specs.Faults.{fault_view};
 ghost use Rattle.nextest_lists.specs.ListView.{list_view};
-ghost use Rattle.rinqebo_load.specs.InputFaults.{IsListFault, NamesList};
+ghost use Rattle.nextest_lists.specs.Reading.{IsFaultIn};
+ghost use Rattle.rinqebo_load.specs.InputFaults.{IsBlank, IsFaultOfList, IsListFault, OrMemory};
+ghost use Rattle.rinqebo_load.specs.ListPath.{path_of};
 ghost use Rattle.rinqebo_load.specs.Triples.{host_for, host_source, target_for, target_source, IsListFor};
 
 use crate::fault::{InputFault, TripleSource};
@@ -23,15 +27,69 @@ pub struct Triples {
     pub target_source: TripleSource,
 }
 
+/// Whether a text is white space alone.
+fn is_blank(text: &str) -> bool
+    ensures { IsTrue result → IsBlank text.now }
+{
+    text.trim().is_empty()
+}
+
+/// The text of a path. Without a path it is empty.
+fn text_of(alloc: Global, path: Option<&str>) -> Result<String, AllocError>
+    ensures { IfOk result (λ text. string_bytes text ≡ unwrap_or (path_of path.entry) []) }
+{
+    match path {
+        Some(path) => String::from_str(alloc, path),
+        None => Ok(String::new(alloc)),
+    }
+}
+
+/// The fault of a list that was read from a path, whose text is not JSON from this place on. A text
+/// of white space alone is an empty list.
+fn fault_of_text(
+    alloc: Global,
+    path: Option<&str>,
+    text: &str,
+    line: usize,
+    column: usize,
+) -> Result<InputFault, AllocError>
+    requires { IsFaultIn text.now not_json }
+    ensures { IfOk result (OrMemory (IsFaultOfList (path_of path.entry) text.now)) }
+{
+    if is_blank(text) {
+        let file = NamedFile::new(alloc, path, FileOption::List)?;
+        return Ok(InputFault::EmptyList(file));
+    }
+    let named = text_of(alloc, path)?;
+    Ok(InputFault::List(named, ListFault::NotJson { line, column }))
+}
+
+/// The fault of a list that was read from a path, for why its text is none.
+fn fault_of_list(
+    alloc: Global,
+    path: Option<&str>,
+    text: &str,
+    fault: ListFault,
+) -> Result<InputFault, AllocError>
+    requires { IfSome (fault_view fault) (IsFaultIn text.now) }
+    ensures { IfOk result (OrMemory (IsFaultOfList (path_of path.entry) text.now)) }
+{
+    match fault {
+        ListFault::Memory => Ok(InputFault::Memory),
+        ListFault::NotJson { line, column } => fault_of_text(alloc, path, text, line, column),
+        fault => Ok(InputFault::List(text_of(alloc, path)?, fault)),
+    }
+}
+
 /// The tests of the list that was read from a path: without a list there are none.
 pub fn listed_tests(
     alloc: Global,
-    path: &str,
+    path: Option<&str>,
     gathered: &Gathered,
 ) -> Result<ListedTests, InputFault>
     ensures ok { IfOk result (IsListFor gathered.now.list) }
-    ensures err { IfErr result (NamesList path.now) }
-    ensures cause { IfErr result (IsListFault gathered.now.list) }
+    ensures err { IfErr result
+        (OrMemory (IsListFault (path_of path.entry) gathered.now.list)) }
 {
     let Some(text) = &gathered.list else {
         return Ok(ListedTests {
@@ -41,14 +99,10 @@ pub fn listed_tests(
             binaries: Vec::new(alloc),
         });
     };
-    match tests_of(alloc, text.as_str()) {
+    let text = text.as_str();
+    match tests_of(alloc, text) {
         Ok(tests) => Ok(tests),
-        Err(ListFault::Memory) => Err(InputFault::Memory),
-        Err(ListFault::NotJson { .. }) if text.as_str().trim().is_empty() => {
-            let file = NamedFile::new(alloc, Some(path), FileOption::List)?;
-            Err(InputFault::EmptyList(file))
-        }
-        Err(fault) => Err(InputFault::List(String::from_str(alloc, path)?, fault)),
+        Err(fault) => Err(fault_of_list(alloc, path, text, fault)?),
     }
 }
 

@@ -1,5 +1,5 @@
 -- The objects of a profile nest little, and have no number that is a float.
-use Rattle.std.proofs.Common.{◌≡◌, ◌≤◌, ◌+◌, ℕ, ℤ, pos, negsuc, false, List, [], ◌∷◌, Option, None, Some, string_bytes, codes, map, refl, subst, sym, arith}
+use Rattle.std.proofs.Common.{◌≡◌, ◌≤◌, ◌+◌, ℕ, ℤ, pos, negsuc, false, List, [], Option, None, Some, string_bytes, codes, map, refl, subst, sym, arith}
 use Rattle.nextest_elements.specs.declared.global_timeout.GlobalTimeout.{GlobalTimeout}
 use Rattle.nextest_elements.specs.declared.junit.JunitConfig.{JunitConfig}
 use Rattle.nextest_elements.specs.declared.leak_timeout.LeakTimeout.{LeakTimeout}
@@ -20,7 +20,7 @@ use Rattle.rinqebo_objects.specs.Enabling.{Enabling, enabling_data, test_data}
 use Rattle.rinqebo_objects.specs.Objects.{objects_data, run_data, with_bounds, with_names, with_output}
 use Rattle.rinqebo_objects.specs.Scripts.{Directories, command_data, group_data, setup_script_data, wrapper_script_data, variables_data}
 use Rattle.rinqebo_objects.specs.Values.{global_timeout_data, leak_data, max_fail_data, optional_data, report_data, slow_data, threads_data}
-use Rattle.rinqebo_objects.specs.WarningObjects.{warning_data, warning_of, warnings_data}
+use Rattle.rinqebo_objects.specs.WarningObjects.{warning_data, warning_of}
 use Rattle.rinqebo_objects.specs.declared.run.RunSettings.{RunSettings}
 use Rattle.rinqebo_report.proofs.Exact.{IsExact, AreExact, exact_text, exact_null, exact_truth, exact_list, no_more, and_member, exact_object, exact_put, exact_puts}
 use Rattle.rinqebo_report.specs.Documents.{count_data, list_data}

@@ -1,4 +1,4 @@
-use Rattle.std.proofs.Common.{◌≡◌, [], ◌∷◌, ◌++◌, String, Global, refl, sym, ap, ◌∙◌, subst, append_assoc, map, List}
+use Rattle.std.proofs.Common.{◌≡◌, [], ◌∷◌, ◌++◌, length, String, Global, refl, sym, ap, ◌∙◌, subst, append_assoc, map, List}
 use Rattle.std.proofs.lemmas.List.{append-nil, map-append}
 use Rattle.std.specs.List.Sorted.{IsStrictlySortedBy}
 use Rattle.std.specs.Map.{keys_of}
@@ -64,8 +64,13 @@ take_members-returns-clause-sorted t c =
     c.into_iter-key-iterator.ensures.into_iter_gives.5 in
     table_sorted done _ sorted l.invariant.0.2 l.invariant.1
 
+no_items : {A : Type 0} (xs : List A) → length xs ≡ 0 → xs ≡ []
+no_items [] h = refl
+no_items (x ∷ xs) h = cc
+
 pub take_items-returns-clause-is : goal.take_items-returns-clause-is
 take_items-returns-clause-is t c =
     let l = c.loop-item in
-    let is = rw c.in-None.ensures.steps.0 at l.invariant.0 in
+    let none : l.item-iterator.rest.items ≡ [] = no_items _ (sym l.item-iterator.rest.ok.0 ∙ c.in-None.ensures.steps.0) in
+    let is = rw none at l.invariant.0 in
     ap nodes_of (sym (append-nil (map tree_view l.trees.items)) ∙ is) ∙ sym (from_items-view c.args.items.items)

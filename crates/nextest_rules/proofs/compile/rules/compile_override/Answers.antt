@@ -1,4 +1,4 @@
-use Rattle.std.proofs.Common.{◌≡◌, ◌∙◌, ap, option_map, string_bytes}
+use Rattle.std.proofs.Common.{◌≡◌, ◌∙◌, ap, option_map}
 use Rattle.nextest_engines.specs.Readings.{readings_view}
 use Rattle.nextest_tables.specs.View.{override_view}
 use Rattle.nextest_rules.specs.Meaning.{written_meaning}
