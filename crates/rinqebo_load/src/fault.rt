@@ -107,7 +107,7 @@ pub enum InputFault {
 }
 
 impl InputFault {
-    /// The fault of an engine about a subject. Want of memory is about none.
+    /// The fault of an engine about a subject. A refusal of memory is about none.
     pub fn of_engine(subject: Subject, fault: EngineFault) -> InputFault
         ensures { result ≡ engine_fault subject fault }
     {
