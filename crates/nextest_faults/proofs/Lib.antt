@@ -5,3 +5,4 @@ pub mod Paths
 pub mod Listed
 pub mod Views
 pub mod Trees
+pub mod UnknownKeys

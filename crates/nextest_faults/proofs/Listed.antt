@@ -5,8 +5,8 @@ use Rattle.std.specs.Fmt.{decimal}
 use Rattle.nextest_tree.specs.declared.key.Key.{Key}
 use Rattle.nextest_tree.specs.declared.tree.Tree.{Tree}
 use Rattle.nextest_tree.specs.Key.{key_text}
-use Rattle.nextest_tree.specs.Node.{Node, Entries, get}
-use Rattle.nextest_tree.specs.Schema.{Fault, FaultCause, Schema, unknown_field, missing, at, below, each_item, faults, field_faults, fields_faults, is_one_of}
+use Rattle.nextest_tree.specs.Node.{Node}
+use Rattle.nextest_tree.specs.Schema.{Fault, FaultCause, Schema, field, unknown_field, missing, at, below, each_item, faults, field_faults, is_one_of}
 use Rattle.nextest_tree.specs.View.{tree_view, nodes_view}
 use Rattle.nextest_faults.specs.declared.place.Field.{Field}
 use Rattle.nextest_faults.specs.declared.place.Place.{Place}
@@ -28,7 +28,7 @@ abbrev pub entry_faults : (List ℕ → Option FaultCause) → Schema → List �
 entry_faults test s p k n = at (below p k) (test k) ++ faults s (below p k) n
 
 -- one item, and those after it
-pub items_next : (f : List ℕ → Node → List Fault) (p : List ℕ) (items : List Tree) (i : ℕ) (item : Tree)
+pub items_next : {A : Type 0} (f : List ℕ → Node → List A) (p : List ℕ) (items : List Tree) (i : ℕ) (item : Tree)
     → i < length items → item ≡ get_or items i item
     → each_item f p i (nodes_view (drop i items))
     ≡ f (below p (decimal i)) (tree_view item) ++ each_item f p (i + 1) (nodes_view (drop (i + 1) items))
@@ -38,24 +38,18 @@ items_next f p items i item within is =
     ap (λ ts. each_item f p i (nodes_view ts)) here
 
 -- one field, and those after it
-pub fields_next : (fields : List (Field Place)) (i : ℕ) (field : Field Place) (p : List ℕ) (es : Entries)
-    → i < length fields → field ≡ get_or fields i field
-    → fields_faults (fields_view (drop i fields)) p es
-    ≡ field_faults field.key (need_test field.need es) (faults (place_view field.place)) p (get (key_text field.key) es)
-    ++ fields_faults (fields_view (drop (i + 1) fields)) p es
-fields_next fields i field p es within is =
-    let here : drop i fields ≡ field ∷ drop (i + 1) fields =
-    drop_more fields i field within ∙ ap (λ f. f ∷ drop (i + 1) fields) (sym is) in
-    ap (λ fs. fields_faults (fields_view fs) p es) here
+pub fields_next : (fs : List (Field Place)) (i : ℕ) (f : Field Place) → i < length fs → f ≡ get_or fs i f
+    → fields_view (drop i fs) ≡ field f.key (need_test f.need) (place_view f.place) (fields_view (drop (i + 1) fs))
+fields_next fs i f within is = ap fields_view (drop_more fs i f within ∙ ap (λ g. g ∷ drop (i + 1) fs) (sym is))
 
--- what is at a field that is there
+-- the faults at a field that is there
 pub field_there : (k : Key) (must : Bool) (f : List ℕ → Node → List Fault) (p q : List ℕ) (n : Node) (o : Option Node)
     → o ≡ Some n → q ≡ below p (key_text k) → f q n ≡ field_faults k must f p o
 unfolding field_faults
 field_there k must f p q n o is longer =
     ap (λ path. f path n) longer ∙ sym (ap (field_faults k must f p) is)
 
--- a field that is missing
+-- the faults at a field that is missing
 pub field_without : (k : Key) (must : Bool) (f : List ℕ → Node → List Fault) (p : List ℕ) (o : Option Node)
     → None ≡ o → cond must (at p (Some (missing (key_text k)))) [] ≡ field_faults k must f p o
 unfolding field_faults

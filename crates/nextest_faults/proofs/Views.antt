@@ -1,7 +1,7 @@
 -- Places as the schemas that they mean, and their faults.
 use Rattle.std.proofs.Common.{◌≡◌, ℕ, List, [], ◌∷◌, ◌++◌, Vec, Box, Global, Option, Some, None, rules, refl, sym, ap, ◌∙◌}
 use Rattle.nextest_tree.specs.Node.{Node, table, array, text, int, bool, opaque, Nodes, Entries, as_table, as_array}
-use Rattle.nextest_tree.specs.Schema.{FaultCause, Schema, any, leaf, fields, map_of, items_of, Fields, field, append_fields, at, each_entry, each_item, faults, fields_faults, names_of, others_faults, wrong_kind}
+use Rattle.nextest_tree.specs.Schema.{FaultCause, Schema, any, leaf, fields, map_of, items_of, Fields, field, append_fields, at, faults, wrong_kind}
 use Rattle.nextest_tree.specs.Schema as schemas
 use Rattle.nextest_tree.specs.Leaf.{a_text, a_bool}
 use Rattle.nextest_texts.specs.IdentifierReader.{an_identifier}
@@ -32,7 +32,6 @@ use Rattle.nextest_faults.specs.declared.place.Others.{Others}
 use Rattle.nextest_faults.specs.declared.place.Place as places
 use Rattle.nextest_faults.specs.declared.place.Place.{Place}
 use Rattle.nextest_faults.specs.Places.{across_test, fields_view, items_test, leaf_schema, leaf_test, names_test, need_test, others_view, place_view}
-use Rattle.nextest_faults.proofs.Listed.{entry_faults}
 
 -- some fields, and then others
 pub fields_view-append : (xs ys : List (Field Place))
@@ -109,39 +108,52 @@ array_of (int z) ns is = absurd (cc)
 array_of (bool b) ns is = absurd (cc)
 array_of opaque ns is = absurd (cc)
 
-module _ (place : Place) (p : List ℕ) where
-  pub of_anything : (n : Node) → place ≡ places.Anything → [] ≡ faults (place_view place) p n
-  of_anything n is = sym (ap (λ s. faults s p n) (ap place_view is ∙ view-Anything))
+-- what a function of a schema, a path and a node gives at a place
+module _ {A : Type 0} (f : Schema → List ℕ → Node → A) (place : Place) (p : List ℕ) where
+  pub of_anything : (n : Node) → place ≡ places.Anything → f any p n ≡ f (place_view place) p n
+  of_anything n is = sym (ap (λ s. f s p n) (ap place_view is ∙ view-Anything))
 
-  pub of_leaf : (l : Leaf) (n : Node) → place ≡ places.Leaf l → at p (leaf_test l n) ≡ faults (place_view place) p n
-  of_leaf l n is = sym (ap (λ s. faults s p n) (ap place_view is ∙ view-Leaf l ∙ schema-test l))
+  pub of_leaf : (l : Leaf) (n : Node) → place ≡ places.Leaf l → f (leaf (leaf_test l)) p n ≡ f (place_view place) p n
+  of_leaf l n is = sym (ap (λ s. f s p n) (ap place_view is ∙ view-Leaf l ∙ schema-test l))
+
+  pub at_table : (how : Others) (other : Box Place Global) (fs : Vec (Field Place) Global) (across : Across)
+      (n : Node) → place ≡ places.Table how other fs across
+      → f (fields (others_view how) (place_view other.value) (fields_view fs.items) (across_test across)) p n
+      ≡ f (place_view place) p n
+  at_table how other fs across n is =
+      sym (ap (λ s. f s p n) (ap place_view is ∙ view-Table how other fs across))
+
+  pub at_map : (names : Names) (values : Box Place Global) (n : Node) → place ≡ places.Map names values
+      → f (map_of (names_test names) (place_view values.value)) p n ≡ f (place_view place) p n
+  at_map names values n is = sym (ap (λ s. f s p n) (ap place_view is ∙ view-Map names values))
+
+  pub at_list : (other items : Box Place Global) (across : AcrossItems) (n : Node)
+      → place ≡ places.List other items across
+      → f (items_of (place_view other.value) (place_view items.value) (items_test across)) p n
+      ≡ f (place_view place) p n
+  at_list other items across n is = sym (ap (λ s. f s p n) (ap place_view is ∙ view-List other items across))
 
   pub of_table : (how : Others) (other : Box Place Global) (fs : Vec (Field Place) Global) (across : Across)
       (n : Node) (es : Entries) → place ≡ places.Table how other fs across → Some es ≡ as_table n
-      → others_faults (others_view how) (names_of (fields_view fs.items)) p es
-      ++ (fields_faults (fields_view fs.items) p es ++ at p (across_test across es))
-      ≡ faults (place_view place) p n
+      → f (fields (others_view how) (place_view other.value) (fields_view fs.items) (across_test across)) p (table es)
+      ≡ f (place_view place) p n
   of_table how other fs across n es is there =
-      sym (ap (λ s. faults s p n) (ap place_view is ∙ view-Table how other fs across)
-      ∙ ap (faults (fields (others_view how) (place_view other.value) (fields_view fs.items) (across_test across)) p)
-      (table_of n es there))
+      at_table how other fs across (table es) is ∙ ap (f (place_view place) p) (sym (table_of n es there))
 
   pub of_map : (names : Names) (values : Box Place Global) (n : Node) (es : Entries)
       → place ≡ places.Map names values → Some es ≡ as_table n
-      → each_entry (entry_faults (names_test names) (place_view values.value) p) es ≡ faults (place_view place) p n
+      → f (map_of (names_test names) (place_view values.value)) p (table es) ≡ f (place_view place) p n
   of_map names values n es is there =
-      sym (ap (λ s. faults s p n) (ap place_view is ∙ view-Map names values)
-      ∙ ap (faults (map_of (names_test names) (place_view values.value)) p) (table_of n es there))
+      at_map names values (table es) is ∙ ap (f (place_view place) p) (sym (table_of n es there))
 
   pub of_list : (other items : Box Place Global) (across : AcrossItems) (n : Node) (ns : Nodes)
       → place ≡ places.List other items across → Some ns ≡ as_array n
-      → each_item (faults (place_view items.value)) p 0 ns ++ at p (items_test across ns)
-      ≡ faults (place_view place) p n
+      → f (items_of (place_view other.value) (place_view items.value) (items_test across)) p (array ns)
+      ≡ f (place_view place) p n
   of_list other items across n ns is there =
-      sym (ap (λ s. faults s p n) (ap place_view is ∙ view-List other items across)
-      ∙ ap (faults (items_of (place_view other.value) (place_view items.value) (items_test across)) p)
-      (array_of n ns there))
+      at_list other items across (array ns) is ∙ ap (f (place_view place) p) (sym (array_of n ns there))
 
+module _ (place : Place) (p : List ℕ) where
   other_table : (how : schemas.Others) (s : Schema) (fs : Fields) (across : Entries → Option FaultCause) (n : Node)
       → as_table n ≡ None → faults s p n ≡ faults (fields how s fs across) p n
   other_table how s fs across (table es) none = absurd (cc)
@@ -156,7 +168,7 @@ module _ (place : Place) (p : List ℕ) where
       → faults (place_view other.value) p n ≡ faults (place_view place) p n
   of_no_table how other fs across n is none =
       other_table (others_view how) (place_view other.value) (fields_view fs.items) (across_test across) n none
-      ∙ sym (ap (λ s. faults s p n) (ap place_view is ∙ view-Table how other fs across))
+      ∙ at_table faults place p how other fs across n is
 
   other_map : (test : List ℕ → Option FaultCause) (s : Schema) (n : Node) → as_table n ≡ None
       → at p (Some wrong_kind) ≡ faults (map_of test s) p n
@@ -170,8 +182,7 @@ module _ (place : Place) (p : List ℕ) where
   pub of_no_map : (names : Names) (values : Box Place Global) (n : Node) → place ≡ places.Map names values
       → as_table n ≡ None → at p (Some wrong_kind) ≡ faults (place_view place) p n
   of_no_map names values n is none =
-      other_map (names_test names) (place_view values.value) n none
-      ∙ sym (ap (λ s. faults s p n) (ap place_view is ∙ view-Map names values))
+      other_map (names_test names) (place_view values.value) n none ∙ at_map faults place p names values n is
 
   other_list : (s items : Schema) (across : Nodes → Option FaultCause) (n : Node) → as_array n ≡ None
       → faults s p n ≡ faults (items_of s items across) p n
@@ -187,4 +198,4 @@ module _ (place : Place) (p : List ℕ) where
       → faults (place_view other.value) p n ≡ faults (place_view place) p n
   of_no_list other items across n is none =
       other_list (place_view other.value) (place_view items.value) (items_test across) n none
-      ∙ sym (ap (λ s. faults s p n) (ap place_view is ∙ view-List other items across))
+      ∙ at_list faults place p other items across n is

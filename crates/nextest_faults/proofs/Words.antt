@@ -85,7 +85,7 @@ backoff_words cause (int z) is = is
 backoff_words cause (bool b) is = is
 backoff_words cause opaque is = is
 
--- what becomes of a setup script
+-- the result of a setup script that runs into its timeout
 fail_word : (s : List ℕ)
     → words_cause (codes "fail" ∷ []) setup_result_expected (text s) ≡ cause_of (setup_result_at (text s))
 unfolding setup_result_names

@@ -53,3 +53,7 @@ found_view f =
 -- exactly these faults of the definitions were added
 abbrev pub Adds : List FoundFault → List FoundFault → List Fault → Type 0
 Adds old new faults = map found_view new ≡ map found_view old ++ map (λ f. Some f) faults
+
+-- unknown keys at paths, each as the fault of a table that refuses it
+abbrev pub refused_at : List (List ℕ) → List Fault
+refused_at paths = map (λ p. let fault : Fault = record { path = p; cause = unknown_field } in fault) paths

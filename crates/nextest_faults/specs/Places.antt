@@ -121,7 +121,7 @@ need_test needs.May = λ es. false
 need_test needs.Must = λ es. true
 need_test needs.Growing = grows_in
 
--- how other keys are treated
+-- whether other keys are noted or refused
 abbrev pub others_view : Others → schemas.Others
 others_view others.Noted = are_noted
 others_view others.Refused = are_refused

@@ -57,7 +57,7 @@ pub(crate) enum Need {
     Growing,
 }
 
-/// What is at a key of a table.
+/// The value of a key of a table, if the table has the key.
 pub(crate) fn member<'t>(members: &'t BTreeMap<String, Tree>, key: Key) -> Option<&'t Tree>
     ensures { option_map (λ tree. tree_view tree.now) result
         ≡ get (key_text key) (entries_view members.entry.now.entries) }

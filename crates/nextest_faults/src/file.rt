@@ -1,9 +1,9 @@
 //! The faults of a file.
 ghost use Rattle.std.specs.Prelude.{◌≡◌, [], IfOk};
 ghost use Rattle.nextest_tables.specs.Tables.{a_file, a_scripts_table, a_store};
-ghost use Rattle.nextest_tree.specs.Schema.{faults};
+ghost use Rattle.nextest_tree.specs.Schema.{faults, unknown};
 ghost use Rattle.nextest_tree.specs.View.{tree_view};
-ghost use Rattle.nextest_faults.specs.Found.{Adds};
+ghost use Rattle.nextest_faults.specs.Found.{Adds, refused_at};
 ghost use Rattle.nextest_faults.specs.Places.{place_view};
 
 use crate::across::Names;
@@ -15,6 +15,7 @@ use crate::parts::{map_by, may, must, table, value};
 use crate::place::Place;
 use crate::profile_places::profile;
 use crate::script_places::{setup_script, wrapper_script};
+use crate::unknown::add_unknown_keys;
 use nextest_tree::{Key, Tree};
 use std::alloc::{AllocError, Global};
 
@@ -73,5 +74,21 @@ pub fn file_faults<'t>(alloc: Global, tree: &'t Tree) -> Result<Vec<FoundFault<'
     let place = file(alloc)?;
     let mut found = Vec::new(alloc);
     add_faults(alloc, &place, &[], tree, &mut found)?;
+    Ok(found)
+}
+
+/// Returns all unknown keys of a file, each as the fault of a table that refuses it: the keys of
+/// tables of fields that are none of these. The file is the tree of its text laid over the table of
+/// defaults, as a load reads it.
+///
+/// # Errors
+/// Memory was refused.
+pub fn unknown_keys<'t>(alloc: Global, tree: &'t Tree) -> Result<Vec<FoundFault<'t>>, AllocError>
+    ensures { IfOk result (λ found.
+        Adds [] found.items (refused_at (unknown a_file [] (tree_view tree.entry.now)))) }
+{
+    let place = file(alloc)?;
+    let mut found = Vec::new(alloc);
+    add_unknown_keys(alloc, &place, &[], tree, &mut found)?;
     Ok(found)
 }

@@ -28,7 +28,7 @@ pub(crate) enum Leaf {
     Identifier,
     /// The group of a test.
     TestGroup,
-    /// The result of a flaky test.
+    /// Whether a flaky test passes or fails.
     FlakyResult,
     /// Which tests are shown during a run.
     StatusLevel,
@@ -50,11 +50,11 @@ pub(crate) enum Leaf {
     Count,
     /// How delays grow.
     Backoff,
-    /// The result of a test that leaks.
+    /// Whether a test that leaks passes or fails.
     LeakResult,
-    /// The result of a test that is terminated.
+    /// Whether a test that runs into its timeout passes or fails.
     SlowResult,
-    /// The result of a setup script that is terminated.
+    /// The result of a setup script that runs into its timeout: only `fail`.
     SetupResult,
     /// Which skipped tests a report lists.
     ReportSkipped,

@@ -1,5 +1,5 @@
-//! All faults of the elements of a file, each with the steps that lead to it. A load refuses a file
-//! for the first of them.
+//! All faults of the elements of a file, each with the steps that lead to it, and its unknown keys.
+//! A load refuses a file for the first of the faults.
 #![tactic(auto)]
 
 mod across;
@@ -13,7 +13,8 @@ mod place;
 mod profile_places;
 mod rule_places;
 mod script_places;
+mod unknown;
 mod values;
 
-pub use file::file_faults;
+pub use file::{file_faults, unknown_keys};
 pub use found::FoundFault;

@@ -1,11 +1,10 @@
 //! The list of the faults of a tree.
 ghost use Rattle.std.specs.Prelude.{◌≡◌, ◌++◌, [], Some, OnOk, map, if◌then◌else◌};
-ghost use Rattle.std.specs.Fmt.{decimal};
 ghost use Rattle.nextest_tree.specs.Key.{key_text};
 ghost use Rattle.nextest_tree.specs.Node.{get};
 ghost use Rattle.nextest_tree.specs.Schema.{each_entry, each_item, faults, field_faults, fields_faults, others_faults, are_refused, at, below, is_one_of, missing, names_of, unknown_field};
 ghost use Rattle.nextest_tree.specs.View.{tree_view, nodes_view, entries_view};
-ghost use Rattle.nextest_faults.specs.Found.{Adds, path_text};
+ghost use Rattle.nextest_faults.specs.Found.{Adds, path_text, step_text};
 ghost use Rattle.nextest_faults.specs.Places.{across_test, items_test, names_test, need_test, others_view, place_view, fields_view};
 
 use crate::across::{Across, AcrossItems, Names, Need, member};
@@ -44,7 +43,7 @@ fn add_unknown_key<'t>(
 }
 
 /// Adds each key of a table that is none of its fields.
-fn add_unknown<'t>(
+pub(crate) fn add_unknown<'t>(
     alloc: Global,
     fields: &[Field<Place>],
     path: &[Step<'t>],
@@ -155,6 +154,25 @@ pub(crate) fn add_faults<'t>(
     }
 }
 
+/// Adds the faults of a tree at a place, one step below a path.
+#[cycle(listing)]
+fn add_below<'t>(
+    alloc: Global,
+    place: &Place,
+    path: &[Step<'t>],
+    step: Step<'t>,
+    tree: &'t Tree,
+    found: &mut Vec<FoundFault<'t>>,
+) -> Result<(), AllocError>
+    ensures { OnOk result (Adds found.old.items found.new.items
+        (faults (place_view place.now) (below (path_text path.now) (step_text step.entry))
+        (tree_view tree.entry.now))) }
+{
+    let path = longer(alloc, path, step)?;
+    add_faults(alloc, place, &path, tree, found)?;
+    Ok(())
+}
+
 /// Adds the faults of a table of fields: of its other keys, of its fields, and of several of these
 /// together.
 #[cycle(listing)]
@@ -215,11 +233,7 @@ fn add_field<'t>(
         (path_text path.now) (get (key_text key) es))) }
 {
     match member(members, key) {
-        Some(tree) => {
-            let path = longer(alloc, path, Step::Key(key.text()))?;
-            add_faults(alloc, place, &path, tree, found)?;
-            Ok(())
-        }
+        Some(tree) => add_below(alloc, place, path, Step::Key(key.text()), tree, found),
         None => add_absent(alloc, key, need.holds_in(members), path, found),
     }
 }
@@ -294,25 +308,6 @@ fn add_entries<'t>(
     Ok(())
 }
 
-/// Adds the faults of an item of an array.
-#[cycle(listing)]
-fn add_item<'t>(
-    alloc: Global,
-    items: &Place,
-    path: &[Step<'t>],
-    position: usize,
-    tree: &'t Tree,
-    found: &mut Vec<FoundFault<'t>>,
-) -> Result<(), AllocError>
-    ensures { OnOk result (Adds found.old.items found.new.items
-        (faults (place_view items.now) (below (path_text path.now) (decimal position))
-        (tree_view tree.entry.now))) }
-{
-    let path = longer(alloc, path, Step::Position(position))?;
-    add_faults(alloc, items, &path, tree, found)?;
-    Ok(())
-}
-
 /// Adds the faults of the items of an array, each in turn.
 #[cycle(listing)]
 fn add_items<'t>(
@@ -327,7 +322,7 @@ fn add_items<'t>(
         (nodes_view values.entry.now))) }
 {
     for (position, tree) in values.iter().enumerate() {
-        add_item(alloc, items, path, position, tree, found)?;
+        add_below(alloc, items, path, Step::Position(position), tree, found)?;
     }
     Ok(())
 }

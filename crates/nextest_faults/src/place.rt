@@ -32,7 +32,7 @@ pub(crate) enum Place {
     Leaf(Leaf),
     /// A table of fields.
     Table {
-        /// How its other keys are treated.
+        /// Whether its other keys are refused.
         others: Others,
         /// What may be there that is not a table.
         other: Box<Place>,

@@ -130,10 +130,20 @@ fn parts_of(
     Ok(parts)
 }
 
+/// Returns the last line that is shown of some parts of a file.
+fn last_line(marks: &[Mark]) -> u64 {
+    let mut last = 0u64;
+    for mark in marks {
+        last = last.max(last_shown(mark.range));
+    }
+    last
+}
+
 /// Returns the lines of a text that show marks, three at most. Marks come in the order of their
 /// starts.
 pub fn lines_of(alloc: Global, text: &str, marks: &[Mark]) -> Result<Vec<SourceLine>, AllocError> {
     let mut shown = Vec::new(alloc);
+    let last = last_line(marks);
     let mut number = 0u64;
     for line in text.lines() {
         number = number.saturating_add(1);
@@ -146,7 +156,7 @@ pub fn lines_of(alloc: Global, text: &str, marks: &[Mark]) -> Result<Vec<SourceL
                 parts,
             })?;
         }
-        if shown.len() == MOST_LINES {
+        if shown.len() == MOST_LINES || number >= last {
             break;
         }
     }

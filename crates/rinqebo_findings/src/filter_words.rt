@@ -127,9 +127,9 @@ fn predicate_meant(alloc: Global, name: &str) -> Result<Option<String>, AllocErr
 /// A name is not a predicate: it may be that of a test.
 fn no_predicate(
     alloc: Global,
-    place: (usize, usize),
     name: &str,
     behind: &str,
+    place: (usize, usize),
 ) -> Result<Worded, AllocError> {
     let message = format!(in alloc; "`{name}` is not a predicate")?;
     let help = if behind_blanks(behind).starts_with('(') {
@@ -162,16 +162,15 @@ fn no_right_side(
 fn nothing_there(alloc: Global, stopped: Stopped<'_>) -> Result<Worded, AllocError> {
     let place = (stopped.start, stopped.start);
     if stopped.text.trim().is_empty() {
-        let message = String::from_str(alloc, "the filter is empty")?;
-        return Worded::of(alloc, place, message, A_PREDICATE);
+        return Worded::plain(alloc, place, "the filter is empty", A_PREDICATE);
     }
     let before = stopped.before().trim_end();
     let name = last_name(before);
     if !name.is_empty() {
         return no_right_side(alloc, place, name);
     }
-    let message = String::from_str(alloc, "the filter ends where a predicate is expected")?;
-    Worded::of(alloc, place, message, A_PREDICATE)
+    let message = "the filter ends where a predicate is expected";
+    Worded::plain(alloc, place, message, A_PREDICATE)
 }
 
 /// There is no operand where one is due.
@@ -191,7 +190,7 @@ fn no_operand(alloc: Global, stopped: Stopped<'_>) -> Result<Worded, AllocError>
         return not_alone(alloc, place, name);
     }
     let behind = rest.get(name.len()..).unwrap_or("");
-    no_predicate(alloc, place, name, behind)
+    no_predicate(alloc, name, behind, place)
 }
 
 /// What to do about a mark between a predicate and what may be its argument.
@@ -216,7 +215,7 @@ fn no_argument(alloc: Global, stopped: Stopped<'_>) -> Result<Worded, AllocError
         let start = stopped.start.saturating_sub(predicate.len());
         let place = (start, stopped.start.saturating_add(tail.len()));
         let behind = stopped.rest().get(tail.len()..).unwrap_or("");
-        return no_predicate(alloc, place, name.as_str(), behind);
+        return no_predicate(alloc, name.as_str(), behind, place);
     }
     let rest = behind_blanks(stopped.rest());
     let next = word_at(rest);
@@ -264,12 +263,11 @@ fn more_text(alloc: Global, stopped: Stopped<'_>) -> Result<Worded, AllocError> 
     let rest = behind_blanks(stopped.rest());
     let place = stopped.place_of(rest, first_of(rest).len());
     if rest.starts_with('\t') {
-        let message = String::from_str(alloc, "a tab is no blank of a filter")?;
-        return Worded::of(alloc, place, message, "a space or a line break");
+        let message = "a tab is no blank of a filter";
+        return Worded::plain(alloc, place, message, "a space or a line break");
     }
     if rest.starts_with(')') {
-        let message = String::from_str(alloc, "`)` closes nothing")?;
-        return Worded::of(alloc, place, message, AN_OPERATOR);
+        return Worded::plain(alloc, place, "`)` closes nothing", AN_OPERATOR);
     }
     no_operator(alloc, stopped, rest)
 }
@@ -359,9 +357,9 @@ fn undue_argument(alloc: Global, stopped: Stopped<'_>) -> Result<Worded, AllocEr
 /// A further argument.
 fn second_argument(alloc: Global, stopped: Stopped<'_>) -> Result<Worded, AllocError> {
     let rest = behind_blanks(stopped.rest());
-    let message = String::from_str(alloc, "`,` begins a second argument")?;
     let place = stopped.place_of(rest, first_of(rest).len());
-    Worded::of(
+    let message = "`,` begins a second argument";
+    Worded::plain(
         alloc,
         place,
         message,
@@ -383,8 +381,7 @@ fn banned(alloc: Global, stopped: Stopped<'_>) -> Result<Option<Worded>, AllocEr
         ),
         _ => return Ok(None),
     };
-    let message = String::from_str(alloc, message)?;
-    Ok(Some(Worded::of(alloc, place, message, expected)?))
+    Ok(Some(Worded::plain(alloc, place, message, expected)?))
 }
 
 /// What a text lacks at the place where its reader stopped.
@@ -394,8 +391,7 @@ fn lacking(
     message: &str,
     expected: &str,
 ) -> Result<Worded, AllocError> {
-    let message = String::from_str(alloc, message)?;
-    Worded::of(alloc, (stopped.start, stopped.end), message, expected)
+    Worded::plain(alloc, (stopped.start, stopped.end), message, expected)
 }
 
 /// What is wrong with a filter of which a reader says so, in words. There are none for what the

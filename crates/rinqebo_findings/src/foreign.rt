@@ -108,36 +108,46 @@ fn script_path<'p>(
     Ok(path)
 }
 
+/// Adds that scripts of both kinds have one name.
+fn add_twice(
+    refused: &mut Refused<'_, '_>,
+    path: &[Step<'_>],
+    name: &str,
+) -> Result<(), AllocError> {
+    let alloc = refused.alloc;
+    let wrong = format!(in alloc; "`{name}` is a setup script and a wrapper script")?;
+    let code = Code::DuplicateScript;
+    let mut found = refused.part_at(code, path, SpanPart::Key, wrong.as_str())?;
+    found.expected = Some(String::from_str(alloc, "a name of its own for each script")?);
+    refused.add_finding(found)
+}
+
+/// Why a source may not define scripts.
+#[derive(Clone, Copy)]
+pub enum ScriptFault {
+    /// Their names do not begin as those of the source do.
+    Foreign,
+    /// Scripts of both kinds have one name.
+    Twice,
+}
+
 /// Adds the scripts that a source may not define.
 pub fn add_scripts(
     refused: &mut Refused<'_, '_>,
     scripts: &BTreeSet<ScriptId>,
+    fault: ScriptFault,
 ) -> Result<(), AllocError> {
     let alloc = refused.alloc;
     for script in scripts.iter() {
         let name = script.to_string(alloc)?;
         let name = name.as_str();
         let path = script_path(alloc, refused.source.tree(), name)?;
-        add_foreign(refused, Code::ForeignScript, &path, "script", name)?;
-    }
-    Ok(())
-}
-
-/// Adds the scripts of both kinds that have one name.
-pub fn add_twice(
-    refused: &mut Refused<'_, '_>,
-    scripts: &BTreeSet<ScriptId>,
-) -> Result<(), AllocError> {
-    let alloc = refused.alloc;
-    for script in scripts.iter() {
-        let name = script.to_string(alloc)?;
-        let name = name.as_str();
-        let path = script_path(alloc, refused.source.tree(), name)?;
-        let wrong = format!(in alloc; "`{name}` is a setup script and a wrapper script")?;
-        let code = Code::DuplicateScript;
-        let mut found = refused.part_at(code, &path, SpanPart::Key, wrong.as_str())?;
-        found.expected = Some(String::from_str(alloc, "a name of its own for each script")?);
-        refused.add_finding(found)?;
+        match fault {
+            ScriptFault::Foreign => {
+                add_foreign(refused, Code::ForeignScript, &path, "script", name)?
+            }
+            ScriptFault::Twice => add_twice(refused, &path, name)?,
+        }
     }
     Ok(())
 }

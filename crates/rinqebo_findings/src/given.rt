@@ -2,6 +2,7 @@
 use crate::findings::SourceAt;
 use nextest_config::Tree;
 use nextest_places::Step;
+use std::collections::BTreeMap;
 
 /// What is at a key, a name or a position below a tree.
 fn below<'t>(tree: &'t Tree, step: Step<'_>) -> Option<&'t Tree> {
@@ -18,6 +19,11 @@ pub fn tree_at<'t>(tree: &'t Tree, path: &[Step<'_>]) -> Option<&'t Tree> {
         found = below(found, *step)?;
     }
     Some(found)
+}
+
+/// The profiles of a file.
+pub fn profiles_of(tree: Option<&Tree>) -> Option<&BTreeMap<String, Tree>> {
+    tree?.get("profile")?.as_table()
 }
 
 /// The kind of a value, in words.

@@ -26,6 +26,7 @@ mod hints;
 mod left_out;
 mod loading;
 mod meant;
+mod namings;
 mod nextest_forms;
 mod not_toml;
 mod order;

@@ -215,7 +215,7 @@ fn add_listed_features(refused: &mut Refused<'_, '_>, items: &[Tree]) -> Result<
     Ok(())
 }
 
-/// Adds that what switches a feature on or off is not a boolean, if it is none.
+/// Reports the value of a feature, unless it is a boolean.
 fn add_switch(
     refused: &mut Refused<'_, '_>,
     path: &[Step<'_>],
@@ -227,7 +227,7 @@ fn add_switch(
     }
 }
 
-/// Adds the keys of a table of features that name none, and the values that are not booleans.
+/// Reports the keys of a table that are no names of features, and the values that are not booleans.
 fn add_switched_features(
     refused: &mut Refused<'_, '_>,
     members: &BTreeMap<String, Tree>,

@@ -1,5 +1,6 @@
 //! Findings of parents that profiles may not have.
 use crate::cycles::{add_cycle, parent_path};
+use crate::given::profiles_of;
 use crate::hints::near_hint;
 use crate::refused::Refused;
 use crate::words::quoted;
@@ -7,31 +8,21 @@ use nextest_config::InheritsError;
 use rinqebo_codes::Code;
 use rinqebo_files::Layer;
 use std::alloc::{AllocError, Global};
-
-/// Adds the names of the profiles of a layer that are not among others.
-fn add_names<'l>(layer: &'l Layer<'_>, names: &mut Vec<&'l str>) -> Result<(), AllocError> {
-    let Some(tree) = layer.tree() else {
-        return Ok(());
-    };
-    let Some(profiles) = tree.get("profile") else {
-        return Ok(());
-    };
-    let Some(members) = profiles.as_table() else {
-        return Ok(());
-    };
-    for name in members.keys() {
-        if !names.iter().any(|other| *other == name.as_str()) {
-            names.push(name.as_str())?;
-        }
-    }
-    Ok(())
-}
+use std::collections::BTreeSet;
 
 /// The names of the profiles of all layers, each once.
 fn profile_names<'l>(alloc: Global, layers: &'l [Layer]) -> Result<Vec<&'l str>, AllocError> {
     let mut names = Vec::new(alloc);
+    let mut seen = BTreeSet::new(alloc);
     for layer in layers {
-        add_names(layer, &mut names)?;
+        let Some(profiles) = profiles_of(layer.tree()) else {
+            continue;
+        };
+        for name in profiles.keys() {
+            if seen.insert(name.as_str())? {
+                names.push(name.as_str())?;
+            }
+        }
     }
     Ok(names)
 }
@@ -60,23 +51,27 @@ fn add_no_parent(
     refused.add_finding(found)
 }
 
-/// Adds that the parent of a profile is not known.
+/// Adds that the parent of a profile is none of the profiles with some names.
 fn add_unknown_parent(
     refused: &mut Refused<'_, '_>,
+    names: &[&str],
     profile: &str,
     parent: &str,
     wrong: &str,
 ) -> Result<(), AllocError> {
     let alloc = refused.alloc;
-    let names = profile_names(alloc, refused.source.layers)?;
     let mut found = refused.at(Code::UnknownParent, &parent_path(profile), wrong)?;
-    found.expected = Some(quoted(alloc, &names, " or ")?);
-    found.help = near_hint(alloc, parent, &names)?;
+    found.expected = Some(quoted(alloc, names, " or ")?);
+    found.help = near_hint(alloc, parent, names)?;
     refused.add_finding(found)
 }
 
-/// What is wrong with a parent.
-fn add_parent(refused: &mut Refused<'_, '_>, error: &InheritsError) -> Result<(), AllocError> {
+/// What is wrong with a parent, where profiles have some names.
+fn add_parent(
+    refused: &mut Refused<'_, '_>,
+    names: &[&str],
+    error: &InheritsError,
+) -> Result<(), AllocError> {
     let alloc = refused.alloc;
     let code = parent_code(error);
     match error {
@@ -105,7 +100,13 @@ fn add_parent(refused: &mut Refused<'_, '_>, error: &InheritsError) -> Result<()
         }
         InheritsError::UnknownInheritance(profile, parent) => {
             let wrong = error.to_string(alloc)?;
-            add_unknown_parent(refused, profile.as_str(), parent.as_str(), wrong.as_str())
+            add_unknown_parent(
+                refused,
+                names,
+                profile.as_str(),
+                parent.as_str(),
+                wrong.as_str(),
+            )
         }
         InheritsError::InheritanceCycle(cycles) => {
             for cycle in cycles {
@@ -121,8 +122,9 @@ pub fn add_parents(
     refused: &mut Refused<'_, '_>,
     errors: &[InheritsError],
 ) -> Result<(), AllocError> {
+    let names = profile_names(refused.alloc, refused.source.layers)?;
     for error in errors {
-        add_parent(refused, error)?;
+        add_parent(refused, &names, error)?;
     }
     Ok(())
 }

@@ -44,16 +44,25 @@ struct Parts {
     commas: usize,
 }
 
+/// How many parentheses are open behind a character.
+fn depth_behind(depth: usize, c: char) -> usize {
+    match c {
+        '(' => depth.saturating_add(1),
+        ')' => depth.saturating_sub(1),
+        _ => depth,
+    }
+}
+
 /// Reads a character of a function.
 fn with_character(parts: Parts, c: char) -> Parts {
     let mut next = parts;
-    match c {
-        '"' => next.in_quotes = !parts.in_quotes,
-        _ if parts.in_quotes => {}
-        '(' => next.depth = parts.depth.saturating_add(1),
-        ')' => next.depth = parts.depth.saturating_sub(1),
-        ',' if parts.depth == 1 => next.commas = parts.commas.saturating_add(1),
-        _ => {}
+    if c == '"' {
+        next.in_quotes = !parts.in_quotes;
+    } else if !parts.in_quotes {
+        next.depth = depth_behind(parts.depth, c);
+        if c == ',' && parts.depth == 1 {
+            next.commas = parts.commas.saturating_add(1);
+        }
     }
     next
 }
@@ -78,16 +87,6 @@ fn count_parts(function: &str) -> usize {
     parts.commas.saturating_add(1)
 }
 
-/// What is wrong with the part of a platform at a place.
-fn at(
-    alloc: Global,
-    place: (usize, usize),
-    message: &str,
-    expected: &str,
-) -> Result<Worded, AllocError> {
-    Worded::of(alloc, place, String::from_str(alloc, message)?, expected)
-}
-
 /// The place of the first character of the part at fault, which has one byte.
 fn first_byte(stopped: Stopped<'_>) -> (usize, usize) {
     (stopped.start, stopped.start.saturating_add(1))
@@ -109,7 +108,7 @@ fn several(alloc: Global, stopped: Stopped<'_>) -> Result<Worded, AllocError> {
     let help = format!(in alloc; "write `all({parts})` or `any({parts})`")?;
     let place = (stopped.start, stopped.end);
     let message = "`cfg(..)` has several expressions";
-    Ok(at(alloc, place, message, "one expression")?.advised(Some(help)))
+    Ok(Worded::plain(alloc, place, message, "one expression")?.advised(Some(help)))
 }
 
 /// A function of one part has several, or none.
@@ -157,7 +156,7 @@ fn no_value(alloc: Global, stopped: Stopped<'_>) -> Result<Worded, AllocError> {
     let part = stopped.part();
     let place = (stopped.start, stopped.end);
     if !is_name(part) {
-        return at(alloc, place, "the value is missing", A_VALUE);
+        return Worded::plain(alloc, place, "the value is missing", A_VALUE);
     }
     let message = format!(in alloc; "the value `{part}` has no quotes")?;
     let help = format!(in alloc; "write `\"{part}\"`")?;
@@ -185,12 +184,17 @@ fn unexpected(alloc: Global, stopped: Stopped<'_>) -> Result<Option<Worded>, All
 fn unpaired(alloc: Global, stopped: Stopped<'_>) -> Result<Option<Worded>, AllocError> {
     let place = first_byte(stopped);
     if stopped.text.starts_with("cfg(") && !stopped.text.ends_with(')') {
-        return Ok(Some(at(alloc, place, "`(` is not closed", "a closing `)`")?));
+        return Ok(Some(Worded::plain(alloc, place, "`(` is not closed", "a closing `)`")?));
     }
     let worded = match stopped.label {
-        "unclosed quotes" => at(alloc, place, "`\"` is not closed", "a closing `\"`")?,
-        "unclosed parentheses" => at(alloc, place, "`(` is not closed", "a closing `)`")?,
-        "unopened parentheses" => at(
+        "unclosed quotes" => Worded::plain(alloc, place, "`\"` is not closed", "a closing `\"`")?,
+        "unclosed parentheses" => Worded::plain(
+            alloc,
+            place,
+            "`(` is not closed",
+            "a closing `)`",
+        )?,
+        "unopened parentheses" => Worded::plain(
             alloc,
             place,
             "`)` closes nothing",
@@ -235,7 +239,7 @@ fn bad_leaf(alloc: Global, stopped: Stopped<'_>) -> Result<Option<Worded>, Alloc
 fn bad_whole(alloc: Global, stopped: Stopped<'_>) -> Result<Option<Worded>, AllocError> {
     let place = (stopped.start, stopped.end);
     let worded = match stopped.label {
-        "expected a triple or `cfg(`" => at(
+        "expected a triple or `cfg(`" => Worded::plain(
             alloc,
             place,
             "the platform is empty",
@@ -248,10 +252,15 @@ fn bad_whole(alloc: Global, stopped: Stopped<'_>) -> Result<Option<Worded>, Allo
             "a triple of letters, digits, `_`, `-` and `.`, or `cfg(..)`",
         )?,
         "foreign character" => bad_character(alloc, stopped, "`cfg(..)`", AN_EXPRESSION)?,
-        "expected an expression" => at(alloc, place, "`cfg(..)` is empty", AN_EXPRESSION)?,
+        "expected an expression" => Worded::plain(
+            alloc,
+            place,
+            "`cfg(..)` is empty",
+            AN_EXPRESSION,
+        )?,
         "expected one expression, and not several" => several(alloc, stopped)?,
         "`not` takes one part" => not_one(alloc, stopped)?,
-        "functions nest more than 128 deep" => at(
+        "functions nest more than 128 deep" => Worded::plain(
             alloc,
             place,
             "the platform is nested too deep",

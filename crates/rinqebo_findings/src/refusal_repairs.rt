@@ -1,6 +1,8 @@
 //! What files are read without where a later check refuses them.
 use crate::cycles::parent_path;
 use crate::edits::Edits;
+use crate::given::profiles_of;
+use crate::namings::naming_mark;
 use crate::paths::path_with;
 use crate::refusals::section_path;
 use nextest_config::{
@@ -8,7 +10,6 @@ use nextest_config::{
     InheritsError, ProfileScriptErrors, ScriptId, Tree, UnknownTestGroupError,
 };
 use nextest_places::Step;
-use rinqebo_files::profile_table;
 use std::alloc::{AllocError, Global};
 use std::collections::{BTreeMap, BTreeSet};
 
@@ -20,6 +21,9 @@ const PLATFORM: &str = "\"cfg(unix)\"";
 
 /// Any platform, for a rule that has no condition.
 const CONDITION: &str = "platform = \"cfg(unix)\"";
+
+/// The key at which an override sets a group.
+const GROUP_KEY: &str = "test-group";
 
 /// Leaves out groups of a source.
 pub fn leave_out_foreign_groups(
@@ -162,35 +166,40 @@ pub fn leave_out_sections(
     Ok(())
 }
 
-/// The overrides of a profile of a file.
-fn overrides_of<'t>(tree: Option<&'t Tree>, profile: &str) -> Option<&'t [Tree]> {
-    profile_table(tree?, profile)?.get("overrides")?.as_array()
-}
-
 /// The group that an override sets.
 fn group_of(rule: &Tree) -> Option<&str> {
-    rule.get("test-group")?.as_str()
+    rule.get(GROUP_KEY)?.as_str()
 }
 
-/// Leaves out a group that overrides of a profile set.
-fn leave_out_group(
+/// The overrides of a profile.
+fn overrides_of(profile: &Tree) -> Option<&[Tree]> {
+    profile.get("overrides")?.as_array()
+}
+
+/// Leaves out the groups that overrides of a profile set and that are among those with some marks.
+fn leave_out_groups_of(
+    alloc: Global,
     edits: &mut Edits,
     place: usize,
-    tree: Option<&Tree>,
-    profile: &str,
-    name: &str,
+    profile: (&str, &Tree),
+    marks: &BTreeSet<String>,
 ) -> Result<(), AllocError> {
-    let Some(overrides) = overrides_of(tree, profile) else {
+    let (name, table) = profile;
+    let Some(overrides) = overrides_of(table) else {
         return Ok(());
     };
     for (index, rule) in overrides.iter().enumerate() {
-        if group_of(rule) == Some(name) {
+        let Some(group) = group_of(rule) else {
+            continue;
+        };
+        let mark = naming_mark(alloc, name, GROUP_KEY, group)?;
+        if marks.contains(mark.as_str()) {
             let path = [
                 Step::Key("profile"),
-                Step::Key(profile),
+                Step::Key(name),
                 Step::Key("overrides"),
                 Step::Position(index),
-                Step::Key("test-group"),
+                Step::Key(GROUP_KEY),
             ];
             edits.remove(place, &path)?;
         }
@@ -206,15 +215,16 @@ pub fn leave_out_groups(
     tree: Option<&Tree>,
     errors: &[UnknownTestGroupError],
 ) -> Result<(), AllocError> {
+    let mut marks = BTreeSet::new(alloc);
     for error in errors {
         let name = error.name.to_string(alloc)?;
-        leave_out_group(
-            edits,
-            place,
-            tree,
-            error.profile_name.as_str(),
-            name.as_str(),
-        )?;
+        let profile = error.profile_name.as_str();
+        marks.insert(naming_mark(alloc, profile, GROUP_KEY, name.as_str())?)?;
+    }
+    if let Some(profiles) = profiles_of(tree) {
+        for (name, table) in profiles.iter() {
+            leave_out_groups_of(alloc, edits, place, (name.as_str(), table), &marks)?;
+        }
     }
     Ok(())
 }

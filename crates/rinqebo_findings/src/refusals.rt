@@ -4,16 +4,15 @@ use crate::excerpts::text_of;
 use crate::expressions::add_refused_texts;
 use crate::features::add_features;
 use crate::findings::SourceAt;
-use crate::foreign::{add_groups, add_scripts, add_twice};
+use crate::foreign::{ScriptFault, add_groups, add_scripts};
 use crate::left_out::LeftOut;
 use crate::not_toml::add_no_document;
 use crate::parents::add_parents;
 use crate::refused::Refused;
-use crate::unknown_names::{add_script_errors, add_unknown_group};
+use crate::unknown_names::{add_script_errors, add_unknown_groups};
 use nextest_config::{
     ConfigCompileError, ConfigCompileErrorKind, ConfigCompileSection, ConfigParseError,
     ConfigParseErrorKind, ConfigPath, IdentifierOwner, ReadOutcome, ToolName,
-    UnknownTestGroupError,
 };
 use nextest_places::Step;
 use rinqebo_codes::Code;
@@ -21,7 +20,6 @@ use rinqebo_files::{Layer, place_at};
 use rinqebo_load::Session;
 use rinqebo_report::Finding;
 use std::alloc::{AllocError, Global};
-use std::collections::BTreeSet;
 
 /// The result of reading a file.
 fn add_outcome(refused: &mut Refused<'_, '_>, outcome: &ReadOutcome) -> Result<(), AllocError> {
@@ -119,21 +117,6 @@ fn add_compiles(
     Ok(())
 }
 
-/// Groups that rules set and no file defines, but those whose definitions are refused.
-fn add_unknown_groups(
-    refused: &mut Refused<'_, '_>,
-    errors: &[UnknownTestGroupError],
-    known_groups: &BTreeSet<String>,
-) -> Result<(), AllocError> {
-    for error in errors {
-        let name = error.name.to_string(refused.alloc)?;
-        if !refused.left_out.groups.has(name.as_str()) {
-            add_unknown_group(refused, error, known_groups)?;
-        }
-    }
-    Ok(())
-}
-
 /// Adds the findings of a refusal of this kind.
 ///
 /// # Errors
@@ -156,11 +139,13 @@ fn add_kind(refused: &mut Refused<'_, '_>, kind: &ConfigParseErrorKind) -> Resul
         | ConfigParseErrorKind::InvalidTestGroupsDefinedByOrganisation(groups) => {
             add_groups(refused, groups)
         }
-        ConfigParseErrorKind::DuplicateConfigScriptNames(ids) => add_twice(refused, ids),
+        ConfigParseErrorKind::DuplicateConfigScriptNames(ids) => {
+            add_scripts(refused, ids, ScriptFault::Twice)
+        }
         ConfigParseErrorKind::InvalidConfigScriptsDefined(ids)
         | ConfigParseErrorKind::InvalidConfigScriptsDefinedByTool(ids)
         | ConfigParseErrorKind::InvalidConfigScriptsDefinedByOrganisation(ids) => {
-            add_scripts(refused, ids)
+            add_scripts(refused, ids, ScriptFault::Foreign)
         }
         ConfigParseErrorKind::InheritanceErrors(errors) => add_parents(refused, errors),
         ConfigParseErrorKind::CompileErrors(errors) => add_compiles(refused, errors),

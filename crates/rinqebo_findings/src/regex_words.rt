@@ -33,33 +33,34 @@ impl Scan {
     /// Reads a character of a class.
     fn within(self, c: char) -> Result<Scan, Flaw> {
         let mut next = self;
+        if c == '-' {
+            next.from = self.last;
+            next.last = None;
+            return Ok(next);
+        }
+        next.in_class = c != ']';
         next.last = Some(c);
         next.from = None;
-        match (c, self.from) {
-            (']', _) => next.in_class = false,
-            ('-', _) => {
-                next.from = self.last;
-                next.last = None;
-            }
-            (_, Some(from)) if from > c => return Err(Flaw::Range(from, c)),
-            _ => {}
+        match self.from {
+            Some(from) if next.in_class && from > c => Err(Flaw::Range(from, c)),
+            _ => Ok(next),
         }
-        Ok(next)
     }
 
     /// Reads a character outside classes.
     fn without(self, c: char) -> Result<Scan, Flaw> {
         let mut next = self;
-        match c {
-            '[' => {
-                next.in_class = true;
-                next.last = None;
-                next.from = None;
+        if c == '[' {
+            next.in_class = true;
+            next.last = None;
+            next.from = None;
+        } else if c == '(' {
+            next.depth = self.depth.saturating_add(1);
+        } else if c == ')' {
+            if self.depth == 0 {
+                return Err(Flaw::StrayClose);
             }
-            '(' => next.depth = self.depth.saturating_add(1),
-            ')' if self.depth == 0 => return Err(Flaw::StrayClose),
-            ')' => next.depth = self.depth.saturating_sub(1),
-            _ => {}
+            next.depth = self.depth.saturating_sub(1);
         }
         Ok(next)
     }

@@ -1,96 +1,22 @@
 //! Findings of rules that name groups and scripts which they may not.
 use crate::hints::{names_of, near_hint};
+use crate::namings::Namings;
 use crate::refused::Refused;
 use crate::words::quoted;
-use nextest_config::{ProfileScriptErrors, Tree, UnknownTestGroupError};
+use nextest_config::{ProfileScriptErrors, UnknownTestGroupError};
 use nextest_places::Step;
 use rinqebo_codes::Code;
-use rinqebo_files::profile_table;
 use std::alloc::{AllocError, Global};
 use std::collections::BTreeSet;
+
+/// The keys at which overrides name groups.
+const GROUP_USES: [&str; 1] = ["test-group"];
 
 /// The keys at which script rules name scripts.
 const SCRIPT_USES: [&str; 3] = ["setup", "list-wrapper", "run-wrapper"];
 
 /// The group of tests that no rule sets one of.
 const GLOBAL_GROUP: &str = "@global";
-
-/// Whether a rule has a name at a key, alone or in a list.
-fn has_name(rule: &Tree, key: &str, name: &str) -> bool {
-    let Some(written) = rule.get(key) else {
-        return false;
-    };
-    match written.as_array() {
-        Some(items) => items.iter().any(|item| item.as_str() == Some(name)),
-        None => written.as_str() == Some(name),
-    }
-}
-
-/// The position of a name in an array of names.
-fn place_in(written: &Tree, name: &str) -> Option<usize> {
-    written
-        .as_array()?
-        .iter()
-        .position(|item| item.as_str() == Some(name))
-}
-
-/// The position of the first rule of a list of a profile that has a name at one of some keys, and
-/// that key.
-fn first_naming<'k>(
-    tree: Option<&Tree>,
-    profile: &str,
-    list: &str,
-    keys: &[&'k str],
-    name: &str,
-) -> Option<(usize, &'k str)> {
-    let rules = profile_table(tree?, profile)?.get(list)?.as_array()?;
-    for (index, rule) in rules.iter().enumerate() {
-        for key in keys {
-            if has_name(rule, *key, name) {
-                return Some((index, *key));
-            }
-        }
-    }
-    None
-}
-
-/// The place of a name in the array at a key of a rule of a list of a profile, if it is in one.
-fn place_in_rule(
-    tree: Option<&Tree>,
-    profile: &str,
-    list: &str,
-    rule: (usize, &str),
-    name: &str,
-) -> Option<usize> {
-    let (index, key) = rule;
-    let rules = profile_table(tree?, profile)?.get(list)?.as_array()?;
-    place_in(rules.get(index)?.get(key)?, name)
-}
-
-/// The path at which the first rule of a list of a profile has a name at one of some keys. It is
-/// that of the list where none does.
-fn naming_path<'p>(
-    refused: &Refused<'_, '_>,
-    profile: &'p str,
-    list: &'p str,
-    keys: &[&'p str],
-    name: &str,
-) -> Result<Vec<Step<'p>>, AllocError> {
-    let mut path = Vec::new(refused.alloc);
-    path.push(Step::Key("profile"))?;
-    path.push(Step::Key(profile))?;
-    path.push(Step::Key(list))?;
-    let tree = refused.source.tree();
-    let Some((index, key)) = first_naming(tree, profile, list, keys, name) else {
-        return Ok(path);
-    };
-    path.push(Step::Position(index))?;
-    path.push(Step::Key(key))?;
-    if let Some(place) = place_in_rule(tree, profile, list, (index, key), name) {
-        path.push(Step::Position(place))?;
-    }
-    Ok(path)
-}
 
 /// The names of groups that a rule may set.
 fn group_names<'k>(alloc: Global, known: &'k BTreeSet<String>) -> Result<Vec<&'k str>, AllocError> {
@@ -119,9 +45,10 @@ fn add_unknown(
     refused.add_finding(found)
 }
 
-/// Adds that a group is not known.
-pub fn add_unknown_group(
+/// Adds that a group is not known, which rules name.
+fn add_unknown_group(
     refused: &mut Refused<'_, '_>,
+    namings: &Namings,
     error: &UnknownTestGroupError,
     known: &BTreeSet<String>,
 ) -> Result<(), AllocError> {
@@ -129,7 +56,7 @@ pub fn add_unknown_group(
     let profile = error.profile_name.as_str();
     let name = error.name.as_str();
     let wrong = format!(in alloc; "unknown group `{name}`")?;
-    let path = naming_path(refused, profile, "overrides", &["test-group"], name)?;
+    let path = namings.path_of(profile, &GROUP_USES, name)?;
     let names = group_names(alloc, known)?;
     add_unknown(
         refused,
@@ -141,9 +68,27 @@ pub fn add_unknown_group(
     )
 }
 
-/// Adds the scripts that are not known, but those whose definitions are refused.
+/// Adds the groups that rules set and no file defines, but those whose definitions are refused.
+pub fn add_unknown_groups(
+    refused: &mut Refused<'_, '_>,
+    errors: &[UnknownTestGroupError],
+    known: &BTreeSet<String>,
+) -> Result<(), AllocError> {
+    let alloc = refused.alloc;
+    let namings = Namings::of(alloc, refused.source.tree(), "overrides", &GROUP_USES)?;
+    for error in errors {
+        let name = error.name.to_string(alloc)?;
+        if !refused.left_out.groups.has(name.as_str()) {
+            add_unknown_group(refused, &namings, error, known)?;
+        }
+    }
+    Ok(())
+}
+
+/// Adds the scripts that are not known, which rules name, but those whose definitions are refused.
 fn add_unknown_scripts(
     refused: &mut Refused<'_, '_>,
+    namings: &Namings,
     errors: &ProfileScriptErrors,
     known: &BTreeSet<String>,
 ) -> Result<(), AllocError> {
@@ -156,7 +101,7 @@ fn add_unknown_scripts(
             continue;
         }
         let profile = error.profile_name.as_str();
-        let path = naming_path(refused, profile, "scripts", &SCRIPT_USES, name)?;
+        let path = namings.path_of(profile, &SCRIPT_USES, name)?;
         let wrong = format!(in alloc; "unknown script `{name}`")?;
         add_unknown(
             refused,
@@ -184,6 +129,7 @@ fn other_use(alloc: Global, key: &str, name: &str) -> Result<(&'static str, Stri
 /// Adds that a rule names scripts of the wrong kind, but those whose definitions are refused.
 fn add_wrong_kinds(
     refused: &mut Refused<'_, '_>,
+    namings: &Namings,
     errors: &ProfileScriptErrors,
 ) -> Result<(), AllocError> {
     let alloc = refused.alloc;
@@ -196,13 +142,7 @@ fn add_wrong_kinds(
         let key = error.attempted.to_string(alloc)?;
         let key = key.as_str();
         let wrong = format!(in alloc; "`{name}` is a {} script", error.actual)?;
-        let path = naming_path(
-            refused,
-            error.profile_name.as_str(),
-            "scripts",
-            &[key],
-            name,
-        )?;
+        let path = namings.path_of(error.profile_name.as_str(), &[key], name)?;
         let mut found = refused.at(Code::WrongScriptKind, &path, wrong.as_str())?;
         let (expected, help) = other_use(alloc, key, name)?;
         found.expected = Some(String::from_str(alloc, expected)?);
@@ -215,6 +155,7 @@ fn add_wrong_kinds(
 /// Adds that rules with filters on tests name wrappers of lists.
 fn add_list_wrappers(
     refused: &mut Refused<'_, '_>,
+    namings: &Namings,
     errors: &ProfileScriptErrors,
 ) -> Result<(), AllocError> {
     let alloc = refused.alloc;
@@ -225,7 +166,7 @@ fn add_list_wrappers(
             "`{name}` is a list wrapper, and the filter of its rule has a predicate such as `test(..)`"
         )?;
         let profile = error.profile_name.as_str();
-        let path = naming_path(refused, profile, "scripts", &["list-wrapper"], name)?;
+        let path = namings.path_of(profile, &["list-wrapper"], name)?;
         let mut found = refused.at(Code::ListWrapperFilter, &path, wrong.as_str())?;
         let expected = "a filter on packages and binaries, whose tests are not known yet";
         found.expected = Some(String::from_str(alloc, expected)?);
@@ -240,7 +181,9 @@ pub fn add_script_errors(
     errors: &ProfileScriptErrors,
     known: &BTreeSet<String>,
 ) -> Result<(), AllocError> {
-    add_unknown_scripts(refused, errors, known)?;
-    add_wrong_kinds(refused, errors)?;
-    add_list_wrappers(refused, errors)
+    let tree = refused.source.tree();
+    let namings = Namings::of(refused.alloc, tree, "scripts", &SCRIPT_USES)?;
+    add_unknown_scripts(refused, &namings, errors, known)?;
+    add_wrong_kinds(refused, &namings, errors)?;
+    add_list_wrappers(refused, &namings, errors)
 }

@@ -34,28 +34,38 @@ impl<'t> Way<'t> {
     }
 }
 
-/// What is left of a text behind a key that it begins with: nothing, if the key ends it.
-fn behind<'p>(text: &'p str, key: &str) -> Option<&'p str> {
-    let rest = text.strip_prefix(key)?;
-    if rest.is_empty() {
-        return Some(rest);
+/// Adds the way that goes on by a key, if a table has it.
+fn add_key<'t>(
+    alloc: Global,
+    way: &Way<'t>,
+    members: &'t BTreeMap<String, Tree>,
+    key: &'t str,
+    rest: &'t str,
+    ways: &mut Vec<Way<'t>>,
+) -> Result<(), AllocError> {
+    if let Some(tree) = members.get(key) {
+        ways.push(way.longer(alloc, Step::Key(key), tree, rest)?)?;
     }
-    rest.strip_prefix('.')
+    Ok(())
 }
 
-/// Adds the ways that go on by a key of a table.
+/// Adds the ways that go on by a key of a table: by each front of the text that ends before a dot,
+/// and by the whole text.
 fn add_keys<'t>(
     alloc: Global,
     way: &Way<'t>,
     members: &'t BTreeMap<String, Tree>,
     ways: &mut Vec<Way<'t>>,
 ) -> Result<(), AllocError> {
-    for (key, tree) in members.iter() {
-        if let Some(rest) = behind(way.rest, key.as_str()) {
-            ways.push(way.longer(alloc, Step::Key(key.as_str()), tree, rest)?)?;
+    let text: &'t str = way.rest;
+    for (at, c) in text.char_indices() {
+        if c == '.' {
+            let key = text.get(..at).unwrap_or("");
+            let rest = text.get(at.saturating_add(1)..).unwrap_or("");
+            add_key(alloc, way, members, key, rest, ways)?;
         }
     }
-    Ok(())
+    add_key(alloc, way, members, text, "", ways)
 }
 
 /// Adds the way that goes on by a position of an array.

@@ -82,6 +82,16 @@ impl Worded {
         })
     }
 
+    /// What is wrong with a part, where that needs no text of its own.
+    pub fn plain(
+        alloc: Global,
+        place: (usize, usize),
+        message: &str,
+        expected: &str,
+    ) -> Result<Worded, AllocError> {
+        Worded::of(alloc, place, String::from_str(alloc, message)?, expected)
+    }
+
     /// The same with something to do.
     pub fn advised(self, help: Option<String>) -> Worded {
         let mut worded = self;

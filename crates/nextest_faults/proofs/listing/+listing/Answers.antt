@@ -3,11 +3,11 @@ use Rattle.std.proofs.lemmas.List.{drop_all}
 use Rattle.nextest_places.specs.declared.step.Step.TheVariants as steps
 use Rattle.nextest_tree.specs.Key.{key_text}
 use Rattle.nextest_tree.specs.Node.{get}
-use Rattle.nextest_tree.specs.Schema.{at, below, each_entry, each_item, faults, fields_faults, names_of, missing, others_faults, wrong_kind}
+use Rattle.nextest_tree.specs.Schema.{at, below, each_entry, each_item, faults, field_faults, fields_faults, names_of, missing, others_faults, wrong_kind}
 use Rattle.nextest_tree.specs.View.{tree_view, entries_view, nodes_view}
-use Rattle.nextest_faults.specs.Found.{Adds, path_text}
+use Rattle.nextest_faults.specs.Found.{Adds, path_text, step_text}
 use Rattle.nextest_faults.specs.Places.{across_test, fields_view, items_test, leaf_test, names_test, need_test, others_view, place_view}
-use Rattle.nextest_faults.proofs.Adding.{added_below, adds_more, adds_none, left_more, left_none}
+use Rattle.nextest_faults.proofs.Adding.{adds_more, adds_none, left_more, left_none}
 use Rattle.nextest_faults.proofs.Listed.{entry_faults, field_there, field_without, fields_next, items_next}
 use Rattle.nextest_faults.proofs.Views.{of_anything, of_leaf, of_list, of_map, of_no_list, of_no_map, of_no_table, of_table}
 use Rattle.nextest_faults.proofs.listing.+listing.Goals as goal
@@ -16,11 +16,14 @@ pub add_fields-loop-field-preserved : goal.add_fields-loop-field-preserved
 add_fields-loop-field-preserved t c =
     let l = c.loop-field in
     let fields = c.deref-field-items.result.now in
+    let field = c.field-item.result in
     let p = path_text c.args.path.now in
     let es = entries_view c.args.members.now.entries in
-    left_more _ l.found.items c.add_field.new.found.items _
+    left_more _ l.found.items c.add_field.new.found.items
+    (field_faults field.key (need_test field.need es) (faults (place_view field.place)) p (get (key_text field.key) es))
     (fields_faults (fields_view (drop (l.field-index + 1) fields)) p es) _ _ l.invariant
-    (fields_next fields l.field-index c.field-item.result p es c.loop-field-test.true c.field-item.is)
+    (ap (λ fs. fields_faults fs p es)
+    (fields_next fields l.field-index field c.loop-field-test.true c.field-item.is))
     c.in_ok-add_field.ensures
 
 pub add_fields-returns : goal.add_fields-returns
@@ -59,11 +62,11 @@ add_items-loop-position-preserved t c =
     let values = c.args.values.now in
     let each = faults (place_view c.args.items.now) in
     let p = path_text c.args.path.now in
-    left_more _ l.found.items c.add_item.new.found.items _
+    left_more _ l.found.items c.add_below.new.found.items _
     (each_item each p (l.position + 1) (nodes_view (drop (l.position + 1) values))) _ _ l.invariant
     (items_next each p values l.position c.index-values-position.result c.loop-position-test.true
     c.index-values-position.is)
-    c.in_ok-add_item.ensures
+    c.in_ok-add_below.ensures
 
 pub add_items-returns : goal.add_items-returns
 add_items-returns t c =
@@ -100,14 +103,14 @@ pub add_faults-returns-in-Anything : goal.add_faults-returns-in-Anything
 add_faults-returns-in-Anything t c =
     let p = path_text c.args.path.now in
     subst (Adds c.args.found.now.items c.args.found.now.items)
-    (of_anything c.args.place.now p (tree_view c.args.tree.now) c.in-Anything.is) (adds_none c.args.found.now.items)
+    (of_anything faults c.args.place.now p (tree_view c.args.tree.now) c.in-Anything.is) (adds_none c.args.found.now.items)
 
 pub add_faults-returns-in_ok-cause-in-Leaf : goal.add_faults-returns-in_ok-cause-in-Leaf
 add_faults-returns-in_ok-cause-in-Leaf t c =
     let p = path_text c.args.path.now in
     let n = tree_view c.args.tree.now in
     subst (λ fs. OnOk c.add_at.result (Adds c.args.found.now.items c.add_at.new.found.items fs))
-    (of_leaf c.args.place.now p c.in-Leaf.leaf n c.in-Leaf.is)
+    (of_leaf faults c.args.place.now p c.in-Leaf.leaf n c.in-Leaf.is)
     (c.add_at.ensures (leaf_test c.in-Leaf.leaf n) c.in_ok-cause-in-Leaf.ensures)
 
 pub add_faults-returns-in-Some : goal.add_faults-returns-in-Some
@@ -115,7 +118,7 @@ add_faults-returns-in-Some t c =
     let p = path_text c.args.path.now in
     let n = tree_view c.args.tree.now in
     subst (λ fs. OnOk c.add_table.result (Adds c.args.found.now.items c.add_table.new.found.items fs))
-    (of_table c.args.place.now p c.in-Table.others c.in-Table.other c.in-Table.fields c.in-Table.across n
+    (of_table faults c.args.place.now p c.in-Table.others c.in-Table.other c.in-Table.fields c.in-Table.across n
     (entries_view c.in-Some.members.now.entries) c.in-Table.is c.in-Some.ensures)
     c.add_table.ensures
 
@@ -137,7 +140,7 @@ add_faults-returns-in-Some-as_table t c =
     subst (λ fs. OnOk c.add_entries.result (Adds c.args.found.now.items c.add_entries.new.found.items fs))
     (ap (λ s. each_entry (entry_faults (names_test c.in-Map.names) (place_view s) p) es)
     c.deref-in-Some-as_table.ensures
-    ∙ of_map c.args.place.now p c.in-Map.names c.in-Map.values n es c.in-Map.is c.in-Some-as_table.ensures)
+    ∙ of_map faults c.args.place.now p c.in-Map.names c.in-Map.values n es c.in-Map.is c.in-Some-as_table.ensures)
     c.add_entries.ensures
 
 pub add_faults-returns-in-None-as_table : goal.add_faults-returns-in-None-as_table
@@ -158,7 +161,7 @@ add_faults-returns-in-Some-as_array t c =
     subst (λ fs. OnOk c.add_list.result (Adds c.args.found.now.items c.add_list.new.found.items fs))
     (ap (λ s. each_item (faults (place_view s)) p 0 ns ++ at p (items_test c.in-List.across ns))
     c.deref-in-Some-as_array.ensures
-    ∙ of_list c.args.place.now p c.in-List.other c.in-List.items c.in-List.across n ns c.in-List.is
+    ∙ of_list faults c.args.place.now p c.in-List.other c.in-List.items c.in-List.across n ns c.in-List.is
     c.in-Some-as_array.ensures)
     c.add_list.ensures
 
@@ -173,22 +176,16 @@ add_faults-returns-in-None-as_array t c =
     (sym c.in-None-as_array.ensures))
     c.add_faults-in-None-as_array.ensures
 
-pub add_field-returns-in_ok-add_faults-in-Some : goal.add_field-returns-in_ok-add_faults-in-Some
-add_field-returns-in_ok-add_faults-in-Some t c =
+pub add_field-returns-in-Some : goal.add_field-returns-in-Some
+add_field-returns-in-Some t c =
     let p = path_text c.args.path.now in
     let es = entries_view c.args.members.now.entries in
-    let n = tree_view c.in-Some.tree.now in
-    let s = place_view c.args.place.now in
     let k = key_text c.args.key in
-    let old = c.args.found.now.items in
-    let new = c.add_faults.new.found.items in
-    let added : Adds old new (faults s (below p k) n) =
-    added_below (λ q. faults s q n) old new c.args.path.now c.deref.result.now (steps.Key c.text.result) k
-    (c.deref.ensures.value ∙ c.in_ok-path-in-Some.ensures) c.text.ensures c.in_ok-add_faults-in-Some.ensures in
-    subst (Adds old new)
-    (field_there c.args.key (need_test c.args.need es) (faults s) p (below p k) n (get k es) (sym c.in-Some.ensures)
-    refl)
-    added
+    subst (λ fs. OnOk c.add_below.result (Adds c.args.found.now.items c.add_below.new.found.items fs))
+    (field_there c.args.key (need_test c.args.need es) (faults (place_view c.args.place.now)) p
+    (below p (step_text (steps.Key c.text.result))) (tree_view c.in-Some.tree.now) (get k es) (sym c.in-Some.ensures)
+    (ap (below p) c.text.ensures))
+    c.add_below.ensures
 
 pub add_field-returns-in-None : goal.add_field-returns-in-None
 add_field-returns-in-None t c =
