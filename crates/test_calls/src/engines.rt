@@ -114,10 +114,9 @@ impl Filters for Names {
 
     ghost holds = { λ filter test _. option_map_or (λ name. bytes_eq name test.name) filter true };
 
-    ghost holds_binary = { λ filter binary _.
-        Some (option_map_or (λ name. bytes_eq name binary.binary_id) filter true) };
+    ghost holds_binary = { λ filter binary _. option_map_or (λ name. None) filter (Some true) };
 
-    ghost leaves = { λ _. [] };
+    ghost leaves = { λ filter. option_map_or (λ name. name ∷ []) filter [] };
 
     fn parse(&self, alloc: Global, text: &str, kind: FiltersetKind) -> Result<Name, FilterFault> {
         let _kind = kind;
@@ -169,18 +168,23 @@ impl Filters for Names {
         tally.record(rule, expr);
         match &expr.0 {
             None => Some(true),
-            Some(name) => Some(name.as_str() == query.binary_id),
+            Some(_) => None,
         }
     }
 
     fn runtime_only_leaves(alloc: Global, expr: &Name) -> Result<Vec<String>, AllocError> {
-        let _expr = expr;
-        Ok(Vec::new(alloc))
+        let mut leaves = Vec::new(alloc);
+        if let Some(name) = &expr.0 {
+            leaves.push(name.clone()?)?;
+        }
+        Ok(leaves)
     }
 
     ghost match_all_matches = { λ _ _. refl };
 
     ghost match_all_matches_binaries = { λ _ _. refl };
+
+    ghost binaries_speak = { λ filter test default b is. Prim.search rules };
 
     ghost default_filters_answer = { λ _ text filter read none binary default. Prim.search rules };
 }
