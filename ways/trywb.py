@@ -14,6 +14,11 @@ for e in todo:
     for o,n in pairs: s=s.replace(o,n)
     mod=f[4:-3].replace('/','::')
     path=f'{crate}::{mod}::{fn}' if mod!='lib' else f'{crate}::{fn}'
+    ls=s.split('\n'); k=[i for i,l in enumerate(ls) if re.search(r'\bfn '+fn+r'\b',l)]
+    if k and ls[k[0]].startswith('    '):
+        for i in range(k[0],-1,-1):
+            m=re.match(r'impl(?:<[^>]*>)? (?:\w+(?:<[^>]*>)? for )?(\w+)',ls[i])
+            if m: path=path.rsplit('::',1)[0]+'::'+m.group(1)+'::'+fn; break
     open(p,'w').write(s)
     t=time.time()
     r=subprocess.run([sys.executable,'@BASE@/direct.py',root,crate,'--only',path,'--jobs','2'],capture_output=True,text=True)
