@@ -33,7 +33,7 @@ enum rinqebo_status {
     RINQEBO_NOT_UNDERSTOOD = 5, // the request is not valid JSON, or not of its form
     RINQEBO_NO_ENGINES = 6,     // the metadata, a machine or the list of tests of the request is not understood
     RINQEBO_NO_PROFILE = 7,     // there is no such profile
-    RINQEBO_NOT_LOADED = 8,     // the session holds no configuration
+    RINQEBO_NOT_LOADED = 8,     // the session has no configuration
     RINQEBO_UNKNOWN_NUMBER = 9, // a number is out of range: a platform, a mode, a kind of text, an index
     RINQEBO_BAD_SIZE = 10,      // the size in a struct is not that of the library's version
     RINQEBO_NOT_KNOWN = 11      // a filter of the profile uses a part of the test that is empty

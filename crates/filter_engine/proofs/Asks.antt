@@ -67,7 +67,7 @@ regex_none text none = by_test (nests_within (read default_config (chars text)))
     by_test true e = absurd (none (is_regex text e))
     by_test false e = rw e refl
 
--- What a glob asks.
+-- The test of a glob.
 pub glob_asked : (text : List ℕ) → IsGlob text → glob_size text ≤ most_states
     → glob_question text ≡ Ok (glob text)
 glob_asked text is small = let e : writes_glob text ≡ true = (writes_glob_decides text).1 is in
@@ -133,7 +133,7 @@ regex_decides : (text name : List ℕ)
 unfolding RegexMatches
 regex_decides text name = match_decides (read default_config (chars text)) name
 
--- The engine's answers are those of the relations.
+-- The engine's values are those of the relations.
 pub regex_found : (text name : List ℕ)
     → Decides (found_in (read default_config (chars text)) name) (HasRegexMatch text name)
 regex_found text name = match_decides (read default_config (chars text)) name

@@ -80,7 +80,7 @@ question_is Glob text q e = written_is (writes_glob text) (glob_size text) (glob
 question_is Regex text q e =
     written_is (nests_within (read default_config (chars text))) (regex_size text) (regex text) q e
 
--- The names that are asked for are those that have what the text requires.
+-- The names that are requested are those that have what the text requires.
 meets_decides : (sign : Sign) (text name : List ℕ) → Decides (asks (asked sign text) name) (NameMeets sign text name)
 meets_decides Equal text name = asks_decides (equal text) name
 meets_decides Contains text name = asks_decides (contains text) name

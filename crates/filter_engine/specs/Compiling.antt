@@ -1,4 +1,4 @@
--- What predicates ask of fields, as the names that have it.
+-- What predicates test of fields, as the names that have it.
 use Rattle.std.specs.Prelude.{ℕ, Bool, true, false, List, Result}
 use Rattle.std.specs.Result.{result_map_both}
 use Rattle.filter_language.specs.declared.matchers.PatternFault.{PatternFault}
@@ -22,7 +22,7 @@ names_of (matchers.Name pattern) = asks (question_of pattern.matcher)
 names_of (matchers.Members members) = has_member members
 names_of matchers.Open = λ name. false
 
--- The names of a field of which a pattern is asked: of `deps` and `rdeps` those of the members in
+-- The names of a field that a pattern matches: of `deps` and `rdeps` those of the members in
 -- their set.
 abbrev pub sought_with : PackageGraph → Field → (List ℕ → Bool) → List ℕ → Bool
 sought_with graph TestName accepts = accepts
@@ -34,7 +34,7 @@ sought_with graph BinaryName accepts = accepts
 sought_with graph Kind accepts = accepts
 sought_with graph Group accepts = accepts
 
--- The names of a field of which a pattern is asked, where `deps` and `rdeps` are left open: of these
+-- The names of a field that a pattern matches, if `deps` and `rdeps` are left open: of these
 -- none.
 abbrev pub sought_openly : Field → (List ℕ → Bool) → List ℕ → Bool
 sought_openly TestName accepts = accepts
@@ -46,7 +46,7 @@ sought_openly BinaryName accepts = accepts
 sought_openly Kind accepts = accepts
 sought_openly Group accepts = accepts
 
--- The names of a field of which a pattern is asked, by what is known of packages.
+-- The names of a field that a pattern matches, by what is known of packages.
 abbrev pub sought : Packages → Field → (List ℕ → Bool) → List ℕ → Bool
 sought (Known graph) field accepts = sought_with graph field accepts
 sought Unknown field accepts = accepts
@@ -59,7 +59,7 @@ reads_packages (Known graph) = true
 reads_packages Unknown = false
 reads_packages Open = true
 
--- The names that a text asks for behind a sign, where a field is asked, or why it asks for none.
+-- The names that a text matches behind a sign, for a field, or why it matches none.
 abbrev pub compiled_in : NextestFilters → Field → Sign → List ℕ
     → Result (List ℕ → Bool) PatternFault
 compiled_in engine field sign text =

@@ -1,4 +1,4 @@
--- A default filter with no part that only a test can answer has an answer for each binary.
+-- A default filter with no part that only a test can decide has a known value for each binary.
 use Rattle.std.specs.Prelude.{◌≡◌, ℕ, List, [], Result, Ok, Err, IsSome}
 use Rattle.std.specs.Result.{result_map_both}
 use Rattle.nextest_engines.specs.Engines.{Binary}

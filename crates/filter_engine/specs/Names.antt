@@ -1,4 +1,4 @@
--- What is asked of names, and which names have it.
+-- What is tested of names, and which names pass.
 use Rattle.std.specs.Prelude.{ℕ, nat_le, nat_lt, Bool, false, ◌||◌, List, [], ◌∷◌, Option, None, Some, Result, Ok, Err, is_some, chars, if◌then◌else◌}
 use Rattle.std.specs.Str.{bytes_eq}
 use Rattle.regex_hir.specs.Find.{find}
@@ -25,18 +25,18 @@ nests_within (Some p) = nat_le p.0.depth 250
 abbrev pub if_small : ℕ → NameQuestion → Result NameQuestion PatternFault
 if_small states question = if nat_lt most_states states then Err TooLarge else Ok question
 
--- What a regex asks.
+-- The test of a regex.
 abbrev pub regex_question : List ℕ → Result NameQuestion PatternFault
 regex_question text =
     if nests_within (read default_config (chars text)) then if_small (regex_size text) (regex text)
     else Err Malformed
 
--- What a glob asks.
+-- The test of a glob.
 abbrev pub glob_question : List ℕ → Result NameQuestion PatternFault
 glob_question text =
     if writes_glob text then if_small (glob_size text) (glob text) else Err Malformed
 
--- What a text asks behind a sign.
+-- The test of a text behind a sign.
 abbrev pub question_in : Sign → List ℕ → Result NameQuestion PatternFault
 question_in Equal text = Ok (equal text)
 question_in Contains text = Ok (contains text)
@@ -53,7 +53,7 @@ abbrev pub found_in : Option (Nested Re × Names) → List ℕ → Bool
 found_in None name = false
 found_in (Some p) name = is_some (find p.0.value name 0)
 
--- Whether a name has what is asked.
+-- Whether a name passes a test.
 abbrev pub asks : NameQuestion → List ℕ → Bool
 asks (equal text) name = bytes_eq name text
 asks (contains text) name = has_part text name

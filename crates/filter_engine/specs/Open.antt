@@ -6,7 +6,7 @@ use Rattle.filter_engine.specs.declared.engine.Packages.{Packages}
 use Rattle.filter_engine.specs.declared.engine.Packages.TheVariants.{Known, Unknown, Open}
 use Rattle.filter_engine.specs.Engine.{Filter}
 
--- Whether a filter asks for a set of packages.
+-- Whether a filter uses a set of packages.
 abbrev pub asks_for_packages : Filter → Bool
 asks_for_packages filter = asks Deps filter || asks Rdeps filter
 

@@ -1,4 +1,4 @@
--- How a text that is no filter is refused: by its first fault.
+-- How a text that is not a filter is refused: by its first fault.
 use Rattle.std.specs.Prelude.{◌≡◌, ℕ, ◌+◌, List, Err, MatchOption, string_bytes}
 use Rattle.filter_language.specs.declared.fault.FiltersetFault.{FiltersetFault}
 use Rattle.filter_language.specs.Filters.{filter_in}

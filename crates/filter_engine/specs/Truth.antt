@@ -80,7 +80,7 @@ abbrev pub PatternMeets : {L : Type 0} → Packages → Pattern L → Test → T
 PatternMeets packages p test =
     NameHas (FieldMeets packages p.field (NameMeets p.sign p.text)) p.field test
 
--- A question is true of a test, where `default()` stands for a fact.
+-- A predicate is true of a test, where `default()` is a given fact.
 abbrev pub QuestionMeets : {L : Type 0} → Packages → Type 0 → Question L → Test → Type 0
 QuestionMeets packages Default Always test = Unit {0}
 QuestionMeets packages Default Never test = ⊥
@@ -88,7 +88,7 @@ QuestionMeets packages Default TheDefault test = Default
 QuestionMeets packages Default (OfPlatform p) test = test.binary.platform ≡ p
 QuestionMeets packages Default (OfName p) test = PatternMeets packages p test
 
--- A filter is true of a test, where `default()` stands for a fact.
+-- A filter is true of a test, where `default()` is a given fact.
 abbrev pub IsTrueOf : {L : Type 0} → Packages → Type 0 → Formula L → Test → Type 0
 IsTrueOf packages Default (Asks q) test = QuestionMeets packages Default q test
 IsTrueOf packages Default (Negated a) test = ¬ (IsTrueOf packages Default a test)

@@ -1,4 +1,4 @@
-//! What predicates ask of fields.
+//! What predicates test of fields.
 ghost use Rattle.std.specs.Prelude.{◌≡◌, List, ℕ, Bool, IfOk};
 ghost use Rattle.filter_matchers.specs.Matches.{question_of};
 ghost use Rattle.filter_packages.specs.GraphView.{graph_view};
@@ -53,7 +53,7 @@ fn dependents(
     Ok(FieldMatcher::Members(members))
 }
 
-/// What a pattern asks of a field, where there is a package graph.
+/// What a pattern tests of a field, where there is a package graph.
 fn field_matcher(
     alloc: Global,
     graph: &PackageGraph,
@@ -75,7 +75,7 @@ fn field_matcher(
     }
 }
 
-/// What a pattern asks of a field, where sets of packages are left open.
+/// What a pattern tests of a field, where sets of packages are left open.
 fn open_matcher(field: Field, pattern: NamePattern) -> FieldMatcher
     ensures { names_of result ≡ sought_openly field (asks (question_of pattern.matcher)) }
 {
@@ -91,7 +91,7 @@ fn open_matcher(field: Field, pattern: NamePattern) -> FieldMatcher
 }
 
 impl NextestFilters {
-    /// What a pattern asks of a field.
+    /// What a pattern tests of a field.
     #[tactic(auto, using(crate::proofs::Sought::sought_known, crate::proofs::Sought::sought_unknown, crate::proofs::Sought::sought_open))]
     fn matcher(
         &self,

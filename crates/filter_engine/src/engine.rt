@@ -122,7 +122,7 @@ impl NextestFilters {
     }
 }
 
-/// Whether a filter asks for a set of packages.
+/// Whether a filter uses a set of packages.
 fn asks_for_packages(filter: &Filterset<FieldMatcher>) -> bool
     ensures { result ≡ asks_for_packages (marks_view names_of filter.now) }
 {

@@ -1,4 +1,4 @@
-//! What predicates ask of names.
+//! What predicates test of names.
 ghost use Rattle.std.specs.Prelude.{◌≡◌, IfOk};
 ghost use Rattle.std.specs.Result.{result_map_both};
 ghost use Rattle.filter_matchers.specs.Matches as asked;

@@ -12,7 +12,7 @@ begins_not d c text none =
       | inr other ↦ elim (eqb_tells c d) [ inl same ↦ absurd (other.1 (sym same.1)) | inr it ↦ it.0 ]
     ]
 
--- A return that no line feed follows is no blank.
+-- A return that no line feed follows is not a blank.
 no_return : (c : ℕ) (text : List ℕ) → after_prefix (codes "\r\n") (c ∷ text) ≡ None
     → ((c == 13) && is_some (after_prefix (codes "\n") text)) ≡ false
 no_return c text none =

@@ -33,7 +33,7 @@ test_pick : (text rest whole : List ℕ) (b : Bool) → bytes_eq (drop (length t
 test_pick text rest whole true is cut same = rw is (cut refl)
 test_pick text rest whole false is cut same = rw is (same refl)
 
--- What stands in a text before a rest.
+-- What is in a text before a rest.
 pub front_is : (text rest : List ℕ) (found : Option (Bor (List ℕ))) (d : Bor (List ℕ)) → d.now ≡ text
     → MatchOption found (FindsTextSuffix rest text None) (λ x. StripsSuffix (FindsTextSuffix rest) text x.now)
     → (unwrap_or found d).now ≡ before_rest text rest

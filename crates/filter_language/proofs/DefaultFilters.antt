@@ -17,7 +17,7 @@ use Rattle.filter_language.specs.Formula.{question_view}
 use Rattle.filter_language.specs.Grammar.{mark_view}
 use Rattle.filter_language.specs.Values.{field_answer, answer}
 
--- What stands for the default filter is no matter of a field.
+-- What means the default filter is no matter of a field.
 field_same : (accepts : List ℕ → Bool) (binary : Binary) (name : Option (List ℕ)) (d e : Option Bool) (field : Field)
     → field_answer accepts (subject_of binary name d) field ≡ field_answer accepts (subject_of binary name e) field
 field_same accepts binary name d e TestName = refl

@@ -1,4 +1,4 @@
--- How many levels stand open behind marks.
+-- How many levels are open behind marks.
 use Rattle.std.proofs.Common.{◌≡◌, ◌==◌, suc, pred, Bool, true, false, List, [], ◌∷◌, Option, None, length, map, refl, sym, ◌∙◌, ap, arith, if◌then◌else◌}
 use Rattle.filter_language.specs.declared.mark.Mark as mark
 use Rattle.filter_language.specs.declared.mark.Mark.TheVariants.{Predicate, Not, Open, Close, And, Or, Minus}
@@ -18,7 +18,7 @@ closed_depth : (inner : Known) (outer : List Known) → length (closed_by inner 
 closed_depth inner [] = refl
 closed_depth inner (k ∷ outer) = refl
 
--- Behind a mark as many stand open as are counted, whatever questions answer.
+-- Behind a mark as many are open as are counted, whatever questions answer.
 mark_depth : {M L : Type 0} (answers : Question L → Option Bool) (meaning : M → L) (s : Stack) (m : mark.Mark M)
     → length (with_mark answers s (mark_view meaning m)).outer ≡ depth_with (length s.outer) m
 mark_depth answers meaning s (Predicate q) = refl
@@ -41,7 +41,7 @@ no_length : (outer : List Known) → length outer ≡ 0 → outer ≡ []
 no_length [] e = refl
 no_length (k ∷ outer) e = absurd (omega (arith, e))
 
--- No level stands open behind marks that leave none open.
+-- No level is open behind marks that leave none open.
 pub closed_behind : {M L : Type 0} (answers : Question L → Option Bool) (meaning : M → L)
     (marks : List (mark.Mark M)) → depth_behind 0 marks ≡ 0
     → (let start : Stack = record { inner = fresh; outer = [] } in

@@ -1,4 +1,4 @@
--- An escape is read exactly where it is spelled.
+-- An escape is read exactly if it is spelled.
 use Rattle.std.proofs.Common.{◌≡◌, ◌&&◌, ℕ, Bool, true, false, List, [], ◌∷◌, ◌++◌, Option, None, Some, length, nat_lt, option_map, codes, refl, sym, ◌∙◌, ap, inl, inr, if◌then◌else◌, append_assoc}
 use Rattle.std.proofs.lemmas.Bool.Decides.{eqb_tells}
 use Rattle.std.specs.List.{list_all}

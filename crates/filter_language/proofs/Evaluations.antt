@@ -73,7 +73,7 @@ first_operand : {L : Type 0} (answers : Question L → Option Bool) (f : Formula
     ≡ with_marks answers (at (joint either (formula_value answers f)) outer) rest
 first_operand answers f h either outer rest fits = h (behind either) outer rest fits
 
--- What stands beside `and` stands anywhere.
+-- What is beside `and` is anywhere.
 first_side : {L : Type 0} (answers : Question L → Option Bool) (f : Formula L)
     → ((either : Option Bool) (outer : List Known) (rest : List (Mark L)) → length outer + nesting f ≤ 128
     → with_marks answers (at (behind either) outer) (written f rest)
@@ -199,7 +199,7 @@ spelled_value answers marks f spells below =
     let it = (is_evaluated answers f).loose spells.1 [] (omega (arith, below)) in
     ap (marks_value answers) (sym spells.0) ∙ ap (λ (s : Stack). said s.inner) (it.3 []) ∙ it.2
 
--- Behind a filter no level stands open.
+-- Behind a filter no level is open.
 pub spelled_closed : {L : Type 0} (answers : Question L → Option Bool) (marks : List (Mark L)) (f : Formula L)
     → Spells marks f → nesting f ≤ 128
     → (with_marks answers (at fresh []) marks).outer ≡ []

@@ -198,7 +198,7 @@ module _ {L : Type 0} (compiler : Compiler L) (knows : Bool) (kind : FiltersetKi
   first_is_fault text fault (m, first, is) =
       ap (result_map_both (λ (ms : List (Mark L)). ms) (fault_in text)) (is_first text m first) ∙ ap Err (sym is)
 
-  -- What is read is written, and may stand where it does.
+  -- What is read is written, and may be where it is.
   abbrev marks_of : List (MarkRead L) → List (Mark L)
   marks_of marks = map (λ (found : MarkRead L). found.mark) marks
 

@@ -1,4 +1,4 @@
--- Marks that a text writes, and that write a filter that may stand there, are read.
+-- Marks that a text writes, and that write a filter that may be there, are read.
 use Rattle.std.proofs.Common.{◌≡◌, ◌<◌, ◌+◌, ◌==◌, ℕ, zero, suc, Bool, true, false, inl, inr, List, [], ◌∷◌, ◌++◌, Option, None, Some, Result, Ok, is_none, option_map, length, codes, refl, sym, ◌∙◌, ap, subst, arith, append_assoc, append-nil, length-append, if◌then◌else◌}
 use Rattle.std.proofs.lemmas.Bool.Decides.{eqb_tells}
 use Rattle.std.specs.Option.{option_or, option_and_then}
@@ -17,7 +17,7 @@ use Rattle.filter_language.proofs.Marks.{next_wanted, next_joining}
 use Rattle.filter_language.proofs.PredicatesRead.{IsAsked, question_read}
 use Rattle.filter_language.proofs.Spelled.{both_true, skips}
 
--- What a mark begins with is no blank.
+-- What a mark begins with is not a blank.
 pub record IsMarkFront (spelling : List ℕ) : Type 0 where
   pub first : ℕ
   pub more : List ℕ
@@ -47,7 +47,7 @@ mark_front compiler MinusMark spelling is = front_is spelling 45 [] is (λ text.
 unblank_stays : (c : ℕ) (text : List ℕ) → is_blank c text ≡ false → skipped (c ∷ text) ≡ c ∷ text
 unblank_stays c text is = rw is refl
 
--- A mark stands where the blanks before it end.
+-- A mark is where the blanks before it end.
 pub at_mark : (blanks spelling rest place : List ℕ) → AreBlanks blanks → IsMarkFront spelling
     → place ≡ blanks ++ (spelling ++ rest) → skipped place ≡ spelling ++ rest
 at_mark blanks spelling rest place are front split =
@@ -231,7 +231,7 @@ operand_clear compiler shape next AndMark spelling rest is step = absurd (cc)
 operand_clear compiler shape next OrMark spelling rest is step = absurd (cc)
 operand_clear compiler shape next MinusMark spelling rest is step = absurd (cc)
 
--- Behind a mark stand others, up to where a filter may end.
+-- Behind a mark are others, up to where a filter may end.
 abbrev pub EndsBehind : {L : Type 0} → Shape → List (Mark L) → Type 0
 EndsBehind shape marks = (final : Shape) × (shape_behind shape marks ≡ Some final) × MayEnd final
 

@@ -1,4 +1,4 @@
--- Marks that are read are written by the text, write a filter, and may stand in it.
+-- Marks that are read are written by the text, write a filter, and may be in it.
 use Rattle.std.proofs.Common.{◌≡◌, ◌<◌, ◌&&◌, ℕ, zero, suc, Bool, true, false, inl, inr, List, [], ◌∷◌, ◌++◌, Option, None, Some, Result, Ok, Err, is_none, option_map, length, codes, refl, sym, ◌∙◌, ap, subst, arith, append_assoc, append-nil, if◌then◌else◌}
 use Rattle.std.specs.Option.{option_or, option_and_then}
 use Rattle.nextest_engines.specs.declared.queries.FiltersetKind.{FiltersetKind}
@@ -19,7 +19,7 @@ use Rattle.filter_language.proofs.PartsOfTexts.{after_is}
 use Rattle.filter_language.proofs.PredicatesSpelled.{bound_ok, either_way, predicate_spelled}
 use Rattle.filter_language.proofs.Spelled.{skipped_are}
 
--- A mark is spelled in front of what follows it, may stand where it does, and is not banned unless
+-- A mark is spelled in front of what follows it, may be where it is, and is not banned unless
 -- it is objected to.
 pub record IsNext {L : Type 0} (compiler : Compiler L) (knows : Bool) (kind : FiltersetKind) (wants : Bool)
     (shape : Shape) (text : List ℕ) (found : MarkRead L) : Type 0 where
@@ -191,7 +191,7 @@ found_next compiler knows kind shape place text None found is e = absurd (no_mor
 found_next compiler knows kind shape place text (Some o) found is e =
     joined_next compiler knows kind shape place text o.1 o.0 found (operates compiler text o.1 o.0 is) e
 
--- No mark of another language stands there.
+-- No mark of another language is there.
 not_foreign : (text : List ℕ) (a b : Option (List ℕ)) (found : Option (Operator × List ℕ))
     → foreign_or text a b ≡ Ok found → operator_of text ≡ found
 not_foreign text None None found e = cc

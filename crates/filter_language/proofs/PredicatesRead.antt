@@ -30,7 +30,7 @@ word_bytes Default = codes "default"
 word_bytes Platform = codes "platform"
 word_bytes (Matches field) = field_word field
 
--- No operator stands in front of a text, and a word does.
+-- No operator is in front of a text, and a word is.
 pub record Heads (text : List ℕ) (word : Word) (behind : List ℕ) : Type 0 where
   pub first : ℕ
   pub more : List ℕ
@@ -168,7 +168,7 @@ platform_read L p blanks bytes text rest are unblank spells name =
     ∙ ap (λ l. of_platform {L = L} inside (41 ∷ rest) (41 ∷ rest, rest) (platform_named l)) name
     ∙ ap (of_platform {L = L} inside (41 ∷ rest) (41 ∷ rest, rest)) (platform_is p)
 
--- What stands behind a sign is read.
+-- What is behind a sign is read.
 record BodyIs (sign : Sign) (bytes start rest : List ℕ) : Type 0 where
   pub body : Body
   pub is_body : body_behind sign start ≡ Ok body

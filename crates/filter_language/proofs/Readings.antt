@@ -155,7 +155,7 @@ abbrev shown : {L : Type 0} → Progress L → List (Mark L) → List (Mark L)
 shown (Wanted l outer) rest = shown_outer outer (shown_left l rest)
 shown (Complete n f k outer) rest = shown_outer outer (shown_or k (written f rest))
 
--- What was read so far may stand where it stands, and nests within the bound.
+-- What was read so far may be where it is, and nests within the bound.
 abbrev or_stands : {L : Type 0} → Option (Formula L) → Bool
 or_stands None = true
 or_stands (Some a) = stands Loose a

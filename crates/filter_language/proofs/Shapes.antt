@@ -10,12 +10,12 @@ use Rattle.filter_language.specs.Reading.{Left, Progress, Wanted, Complete, begu
 use Rattle.filter_language.specs.Nesting.{Shape, start_shape, shape_step, shape_behind, MayEnd}
 use Rattle.filter_language.proofs.Readings.{read_is_spelled}
 
--- What stands open where marks were read so far.
+-- What is open where marks were read so far.
 abbrev pub shape_of : {L : Type 0} → Progress L → Shape
 shape_of (Wanted l outer) = record { around = l.around; nots = l.nots; wants = true; outer = map (λ k. k.around) outer }
 shape_of (Complete n f k outer) = record { around = n; nots = 0; wants = false; outer = map (λ k. k.around) outer }
 
--- A mark that may stand there is read.
+-- A mark that may be there is read.
 abbrev Reads : {L : Type 0} → Progress L → Mark L → Shape → Type 0
 Reads {L} p m s = (q : Progress L) × (step p m ≡ Some q) × (shape_of q ≡ s)
 

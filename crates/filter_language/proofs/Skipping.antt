@@ -56,7 +56,7 @@ inner_changes k j (around ∷ ks) l i (also ∷ ls) change (inr skipped, rest) =
 inner_changes k j [] l i (also ∷ ls) change agree = absurd (agree)
 inner_changes k j (around ∷ ks) l i [] change agree = absurd (agree)
 
--- As many levels stand around one as around the other.
+-- As many levels are around one as around the other.
 as_deep : (k : Known) (ks : List Known) (l : Known) (ls : List Known) → AgreeFrom k ks l ls → length ks ≡ length ls
 as_deep k [] l [] agree = refl
 as_deep k (around ∷ ks) l (also ∷ ls) agree = ap suc (as_deep around ks also ls agree.1)
@@ -129,7 +129,7 @@ closed_agrees s all new is agree =
     subst (λ (u : Stack). Agree u (closed_by all.inner all.outer)) (sym is)
     (closed_agree s.inner s.outer all.inner all.outer agree)
 
--- What is said at the end, where no level stands open.
+-- What is said at the end, where no level is open.
 pub said_agrees : (s all : Stack) → Agree s all → all.outer ≡ [] → said s.inner ≡ said all.inner
 said_agrees s all agree closed = said_at s.inner s.outer all.inner all.outer agree closed
   where

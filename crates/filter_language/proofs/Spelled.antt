@@ -47,7 +47,7 @@ no_line_before : (text more : List ℕ) → begins_line text ≡ false → begin
 no_line_before [] more e = refl
 no_line_before (c ∷ text) more e = some_if (10 == c) (text ++ (41 ∷ more)) text ∙ e
 
--- What stands behind blanks does not matter to them.
+-- What is behind blanks does not matter to them.
 pub blank_before : (c : ℕ) (text more : List ℕ) → is_blank c text ≡ true → is_blank c (text ++ more) ≡ true
 blank_before c text more e =
     blank_or (c == 32) (c == 10) (c == 13) (begins_line text) (begins_line (text ++ more)) (line_before text more) e
@@ -116,7 +116,7 @@ skipped_unblank (d ∷ text) c more e = first (is_blank d text) refl e (skipped_
         let tail : text ≡ more = cc in
         rw (head, tail) at is
 
--- A text is what stands before a stop, and the rest.
+-- A text is what is before a stop, and the rest.
 pub parts : (stops text : List ℕ) → text ≡ front_until stops text ++ rest_until stops text
 parts stops [] = refl
 parts stops (c ∷ text) = first (char_set_contains stops c) refl (parts stops text)
@@ -149,7 +149,7 @@ rest_of stops (d ∷ front) c rest none is =
     let it = both_true (is_none_of stops d) (list_all (is_none_of stops) front) none in
     rw (not_true (char_set_contains stops d) it.0) (rest_of stops front c rest it.1 is)
 
--- What ends a text is no blank.
+-- What ends a text is not a blank.
 stop_unblank : (c : ℕ) (text : List ℕ) → char_set_contains (codes ",)\\") c ≡ true → is_blank c text ≡ false
 stop_unblank c text is = elim (eqb_tells 44 c) [
   | inl same ↦ rw (← same.1) refl
@@ -173,7 +173,7 @@ end_stays (c ∷ text) = first (char_set_contains (codes ",)\\") c) refl (end_st
     first true is known = rw is (stays (c ∷ text) (stop_unblank c text is))
     first false is known = rw is known
 
--- What stands in a text before a rest of it.
+-- What is in a text before a rest of it.
 less_back : (a b : ℕ) → a + b - b ≡ a
 less_back a b = omega arith
 

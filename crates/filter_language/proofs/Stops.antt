@@ -64,7 +64,7 @@ are_free stops text low none i below = by_test (char_set_contains stops (get_or 
         sym is ∙ NoCharPasses-byte (char_set_contains stops) text i none below
         (stop_low stops (get_or text i 0) low is) in cc)
 
--- What `find` is told to give at some stops.
+-- What `find` is reported to give at some stops.
 abbrev pub Finds : List ℕ → List ℕ → Option (ℕ × ℕ) → Type 0
 Finds stops text r = (k : ℕ → Bool) → ((c : ℕ) → char_set_contains stops c ≡ k c) → FindsBy k text r
 

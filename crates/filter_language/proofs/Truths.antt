@@ -1,4 +1,4 @@
--- Values tell the truth, and what a binary answers its tests answer.
+-- Values are the truth, and a known value at a binary is the value at its tests.
 use Rattle.std.proofs.Common.{◌≡◌, ℕ, Bool, true, false, ◌⊎◌, inl, inr, not, List, Option, None, Some, IsSome, option_map, refl, ◌∙◌, ap}
 use Rattle.nextest_engines.specs.Engines.{Test, Binary}
 use Rattle.nextest_engines.specs.declared.queries.BuildPlatform.{BuildPlatform}
@@ -38,7 +38,7 @@ answer_tells accepts default D known TheDefault test = known
 answer_tells accepts default D known (OfPlatform p) test = platform_tells test.binary.platform p
 answer_tells accepts default D known (OfName p) test = field_tells (accepts p.meaning) p.field test default
 
--- Joining what is told.
+-- Joining what is reported.
 not_tells : (found : Option Bool) (P : Type 0) → Tells found P → Tells (option_map not found) (P → ⊥)
 not_tells found P (true, is, to, from) = (false, ap (option_map not) is, λ e. absurd (cc), λ no. absurd (no (to refl)))
 not_tells found P (false, is, to, from) =

@@ -1,4 +1,4 @@
--- A text is read to marks exactly where it is a filter of them, and it writes one list at most.
+-- A text is read to marks exactly if it is a filter of them, and it writes one list at most.
 use Rattle.std.proofs.Common.{◌≡◌, ◌+◌, ℕ, suc, nat_lt, Bool, true, false, inl, inr, List, [], ◌∷◌, ◌++◌, Option, None, Some, Result, Ok, Err, option_map, length, codes, refl, sym, ◌∙◌, ap, subst, arith, if◌then◌else◌}
 use Rattle.std.specs.Option.{option_or, option_and_then}
 use Rattle.std.specs.Result.{result_map_both}

@@ -1,4 +1,4 @@
--- A default filter with no part that only a test can answer has an answer for each binary.
+-- A default filter with no part that only a test can decide has a known value for each binary.
 use Rattle.std.specs.Prelude.{◌≡◌, ◌==◌, ℕ, zero, suc, Bool, true, false, List, [], ◌∷◌, ◌++◌, Option, None, Some, Result, Ok, Err, IsSome, length, option_map, codes, refl, if◌then◌else◌}
 use Rattle.std.proofs.Common.{◌∙◌, ap}
 use Rattle.std.specs.Option.{option_or}
@@ -71,7 +71,7 @@ closed_known inner [] is around = (is, tt)
 closed_known inner (k ∷ outer) is around =
     (operand_known k (said inner) around.0 (said_known inner is), around.1)
 
--- The question of a mark is answered.
+-- The predicate of a mark has a known value.
 abbrev IsAnswered : {L : Type 0} → (Question L → Option Bool) → Mark L → Type 0
 IsAnswered answers (Asked q) = IsSome (answers q)
 IsAnswered answers NotMark = Unit {0}
@@ -111,7 +111,7 @@ value_known answers marks also =
     said_known (with_marks answers start marks).inner
     (marks_known answers start marks ((refl, refl), tt) also).0
 
--- A question that is no part for a test alone, and that may stand in a default filter, is answered.
+-- A predicate that needs no test, and that may be in a default filter, has a known value.
 field_known : (accepts : List ℕ → Bool) (s : Subject) (field : Field) (written : List ℕ)
     → written_if_test field written ≡ []
     → IsSome (field_answer accepts s field)

@@ -15,13 +15,13 @@ abbrev pub is_default : {M : Type 0} → mark.Mark M → Bool
 is_default (Predicate q) = asks_default q
 is_default _ = false
 
--- How many parentheses stand open behind a mark, of 128 at most.
+-- How many parentheses are open behind a mark, of 128 at most.
 abbrev pub depth_with : {M : Type 0} → ℕ → mark.Mark M → ℕ
 depth_with n Open = if n == 128 then n else suc n
 depth_with n Close = pred n
 depth_with n _ = n
 
--- How many stand open behind marks.
+-- How many are open behind marks.
 abbrev pub depth_behind : {M : Type 0} → ℕ → List (mark.Mark M) → ℕ
 depth_behind n [] = n
 depth_behind n (m ∷ marks) = depth_behind (depth_with n m) marks

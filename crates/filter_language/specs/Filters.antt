@@ -22,14 +22,14 @@ use Rattle.filter_language.specs.Places.{Misreading, misreading_view}
 use Rattle.filter_language.specs.Predicates.{Compiler, PredicateRead, predicate_in, ◌>>=◌}
 use Rattle.filter_language.specs.Texts.{after_prefix, skipped}
 
--- A mark, why it may not stand in a filter of its kind, what follows it, and what stands open.
+-- A mark, why it may not be in a filter of its kind, what follows it, and what is open.
 pub record MarkRead (L : Type 0) : Type 0 where
   pub mark : Mark L
   pub objection : Option Misreading
   pub rest : List ℕ
   pub shape : Shape
 
--- The mark that one in memory is, with what stands open behind it.
+-- The mark that one in memory is, with what is open behind it.
 abbrev pub next_view : {M L : Type 0} → (M → L) → Shape → next.Next M → MarkRead L
 next_view meaning shape n = record {
   mark = mark_view meaning n.mark;
@@ -53,7 +53,7 @@ abbrev pub objection_to : {L : Type 0} → List ℕ → PredicateRead L → Faul
 objection_to start p NoPackageGraph = wrong_between NoPackageGraph p.inside p.close
 objection_to start p kind = wrong_between kind start p.rest
 
--- The predicate that a text begins with, if a word stands there.
+-- The predicate that a text begins with, if a word is there.
 abbrev pub asked_in : {L : Type 0} → Compiler L → Bool → FiltersetKind → Shape → List ℕ
     → List ℕ → Option (Word × List ℕ) → Result (MarkRead L) Misreading
 asked_in compiler knows_packages kind shape place text None =
@@ -88,7 +88,7 @@ wanted_in compiler knows_packages kind shape place =
     negated_or_not compiler knows_packages kind shape place (skipped place)
     (after_one (codes "not ") (codes "!") (skipped place))
 
--- Where no operator stands, the filter ends, or something is wrong there.
+-- Without an operator, the filter ends, or something is wrong there.
 abbrev pub ended_in : {L : Type 0} → List ℕ → List ℕ → List ℕ
     → Result (Option (MarkRead L)) Misreading
 ended_in place (around ∷ outer) text = Err (wrong_at ExpectedCloseParenthesis place)
@@ -173,7 +173,7 @@ fault_in text m = record {
   };
 }
 
--- What is told where reading stopped.
+-- The message where reading stopped.
 abbrev pub refusal_at : List ℕ → stop.Stop → parse_fault.ParseFault
 refusal_at text (Misread m) = Refused (fault_in text (misreading_view m))
 refusal_at text Memory = Memory

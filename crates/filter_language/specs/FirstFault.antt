@@ -9,7 +9,7 @@ use Rattle.filter_language.specs.Places.{Misreading}
 use Rattle.filter_language.specs.Predicates.{Compiler}
 use Rattle.filter_language.specs.Writing.{AreBlanks, SpellsMark}
 
--- From a place on, marks are read one after another, up to another place, each with what stands
+-- From a place on, marks are read one after another, up to another place, each with what is
 -- open around it.
 abbrev pub ReadsTo : {L : Type 0} → Compiler L → Bool → FiltersetKind → Shape → List ℕ
     → List (MarkRead L) → Shape → List ℕ → Type 0
@@ -18,7 +18,7 @@ ReadsTo compiler knows_packages kind shape place (found ∷ marks) last end =
     (next_in compiler knows_packages kind shape place ≡ Ok (Some found))
     × ReadsTo compiler knows_packages kind found.shape found.rest marks last end
 
--- Of some marks this is wrong with the first one that may not stand in a filter of the kind.
+-- Of some marks this is wrong with the first one that may not be in a filter of the kind.
 abbrev pub IsFirstObjection : {L : Type 0} → List (MarkRead L) → Misreading → Type 0
 IsFirstObjection {L} marks m =
     (before : List (MarkRead L)) × (found : MarkRead L) × (behind : List (MarkRead L))
@@ -26,7 +26,7 @@ IsFirstObjection {L} marks m =
     × (found.objection ≡ Some m)
 
 -- This is what is wrong first with a text: what is wrong with the first mark that is not read, or,
--- where the text is read up to its end, with the first mark that may not stand in a filter of the
+-- where the text is read up to its end, with the first mark that may not be in a filter of the
 -- kind.
 abbrev pub IsFirstWrong : {L : Type 0} → Compiler L → Bool → FiltersetKind → List ℕ → Misreading
     → Type 0

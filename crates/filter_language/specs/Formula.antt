@@ -7,7 +7,7 @@ use Rattle.filter_language.specs.declared.mark.Match as match
 use Rattle.filter_language.specs.declared.mark.Question as question
 use Rattle.filter_language.specs.declared.mark.Question.TheVariants.{All, Nothing, Default, Platform, Matches}
 
--- A pattern that a name is asked for: the field with that name, the sign and whether the field
+-- A pattern for a name: the field with that name, the sign and whether the field
 -- has it by default, the text with its escapes resolved, the predicate as it was written, and
 -- what the pattern means.
 pub record Pattern (L : Type 0) : Type 0 where
@@ -18,7 +18,7 @@ pub record Pattern (L : Type 0) : Type 0 where
   pub written : List ℕ
   pub meaning : L
 
--- What is asked of a test or a binary: always true, never true, the default filter, a platform,
+-- What is tested of a test or a binary: always true, never true, the default filter, a platform,
 -- or a field with a name that a pattern matches.
 pub data Question (L : Type 0) : Type 0 where
   Always : Question L

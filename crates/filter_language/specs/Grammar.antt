@@ -33,13 +33,13 @@ written (Either a b) rest = written a (OrMark ∷ written b rest)
 written (Without a b) rest = written a (MinusMark ∷ written b rest)
 written (Grouped a) rest = OpenMark ∷ written a (CloseMark ∷ rest)
 
--- Where a filter may stand: anywhere, beside `or`, or beside `and`, `-` and `not`.
+-- Where a filter may be: anywhere, beside `or`, or beside `and`, `-` and `not`.
 pub data Grade : Type 0 where
   Loose : Grade
   Joined : Grade
   Tight : Grade
 
--- Whether a filter may stand there: `and` and `-` bind alike and closer than `or`, from the left;
+-- Whether a filter may be there: `and` and `-` bind alike and closer than `or`, from the left;
 -- `not` binds closest. Anything else takes parentheses.
 abbrev pub stands : {L : Type 0} → Grade → Formula L → Bool
 stands g (Asks q) = true

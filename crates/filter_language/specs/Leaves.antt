@@ -1,4 +1,4 @@
--- The predicates of a filter that only a test can answer.
+-- The predicates of a filter that only a test can decide.
 use Rattle.std.specs.Prelude.{ℕ, List, [], ◌∷◌}
 use Rattle.std.specs.List.{flat_map}
 use Rattle.filter_language.specs.declared.words.Field.{Field}
@@ -17,7 +17,7 @@ written_if_test BinaryName written = []
 written_if_test Kind written = []
 written_if_test Group written = []
 
--- The predicate that a mark is, where only a test can answer it.
+-- The predicate that a mark is, where only a test can decide it.
 abbrev pub question_leaves : {L : Type 0} → Question L → List (List ℕ)
 question_leaves (OfName p) = written_if_test p.field p.written
 question_leaves _ = []

@@ -1,4 +1,4 @@
--- What stands in front of a text: words, operators and parentheses, or what is wrong there.
+-- What is in front of a text: words, operators and parentheses, or what is wrong there.
 use Rattle.std.specs.Prelude.{ℕ, List, [], ◌∷◌, Option, None, Some, Result, Ok, Err, is_some, option_map, codes, if◌then◌else◌}
 use Rattle.std.specs.Option.{option_or}
 use Rattle.std.specs.Str.{trim}
@@ -59,7 +59,7 @@ abbrev pub close_of : FaultKind → List ℕ → List ℕ → Option (List ℕ)
 close_of kind place close (Some rest) = Ok (close, rest)
 close_of kind place close None = Err (wrong_at kind place)
 
--- What is wrong where no `)` stands.
+-- What is wrong if there is no `)`.
 abbrev pub no_close : List ℕ → FaultKind
 no_close close =
     if is_some (after_prefix (codes ",") close) then UnexpectedComma else ExpectedCloseParenthesis
@@ -69,7 +69,7 @@ closed_in place =
     close_of (no_close (skipped place)) place (skipped place)
     (after_prefix (codes ")") (skipped place))
 
--- The `)` of a set without an argument, and what follows it: white space alone stands before it.
+-- The `)` of a set without an argument, and what follows it: white space alone is before it.
 abbrev pub bare_close : List ℕ → List ℕ → List ℕ → Result (List ℕ × List ℕ) Misreading
 bare_close inside [] close =
     close_of ExpectedCloseParenthesis close close (after_prefix (codes ")") close)
@@ -91,7 +91,7 @@ operator_of text =
     (option_or (option_map (λ rest. (And, rest)) (after_one (codes "and ") (codes "&") text))
     (option_or (spelled Minus (codes "-") text) (spelled Close (codes ")") text)))
 
--- The same, unless a mark stands there that other languages write.
+-- The same, unless a mark is there that other languages write.
 abbrev pub foreign_or : List ℕ → Option (List ℕ) → Option (List ℕ)
     → Result (Option (Operator × List ℕ)) Misreading
 foreign_or text (Some rest) _ = Err (wrong_between InvalidOrOperator text rest)

@@ -1,4 +1,4 @@
--- What is told of faults.
+-- The messages for faults.
 use Rattle.std.specs.Prelude.{ℕ, List, ◌++◌, codes, decimal}
 use Rattle.filter_language.specs.declared.fault.Ban.{Ban}
 use Rattle.filter_language.specs.declared.fault.Ban.TheVariants.{DefaultInDefaultFilter, GroupInDefaultFilter, GroupInOverrideFilter}
@@ -6,7 +6,7 @@ use Rattle.filter_language.specs.declared.fault.FaultKind.{FaultKind}
 use Rattle.filter_language.specs.declared.fault.FaultKind.TheVariants as kind
 use Rattle.filter_language.specs.declared.fault.FiltersetFault.{FiltersetFault}
 
--- What is wrong with a set that may not stand where it does, and why.
+-- What is wrong with a set that may not be where it does, and why.
 abbrev pub ban_summary : Ban → List ℕ
 ban_summary DefaultInDefaultFilter = codes "predicate not allowed in `default-filter` expressions"
 ban_summary GroupInDefaultFilter = codes "predicate not allowed in `default-filter` expressions"
@@ -83,7 +83,7 @@ label (kind.BannedPredicate ban) = ban_label ban
 label kind.NoTestGroups = codes "group() needs the test groups"
 label kind.NoPackageGraph = codes "this set needs the package graph"
 
--- What is told of a fault.
+-- The message for a fault.
 abbrev pub message : FiltersetFault → List ℕ
 message fault = summary fault.kind ++ codes ": " ++ label fault.kind
     ++ codes " (offset " ++ decimal fault.span.start ++ codes ", length "

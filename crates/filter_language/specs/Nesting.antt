@@ -1,4 +1,4 @@
--- What stands open around a place, and which marks may stand there.
+-- What is open around a place, and which marks may be there.
 use Rattle.std.specs.Prelude.{◌≡◌, ℕ, suc, ◌+◌, nat_lt, Bool, true, false, List, [], ◌∷◌, Option, None, Some, option_map, if◌then◌else◌}
 use Rattle.std.specs.List.{fold}
 use Rattle.std.specs.Option.{option_and_then}
@@ -9,7 +9,7 @@ use Rattle.filter_language.specs.Lexing.{operator_of}
 use Rattle.filter_language.specs.Grammar.{Mark, Asked, NotMark, OpenMark, CloseMark, AndMark, OrMark, MinusMark}
 
 -- The `not`s and parentheses around the innermost level, the `not`s that wait for an operand,
--- whether an operand is wanted, and what stands around the levels further out, the inner first.
+-- whether an operand is wanted, and what is around the levels further out, the inner first.
 pub record Shape : Type 0 where
   pub around : ℕ
   pub nots : ℕ
@@ -24,7 +24,7 @@ shape_view n = record {
   outer = fold (λ outer a. a ∷ outer) [] n.outer.items;
 }
 
--- Nothing stands open, and an operand is wanted.
+-- Nothing is open, and an operand is wanted.
 abbrev pub start_shape : Shape
 start_shape = record { around = 0; nots = 0; wants = true; outer = [] }
 
@@ -74,7 +74,7 @@ joining_step s MinusMark = Some (joined_shape s)
 joining_step s CloseMark = closed_shape s.outer
 joining_step s _ = None
 
--- One more mark, or none where it may not stand there.
+-- One more mark, or none where it may not be there.
 abbrev pub shape_step : {L : Type 0} → Shape → Mark L → Option Shape
 shape_step s m = if s.wants then wanted_step s m else joining_step s m
 
@@ -83,7 +83,7 @@ abbrev pub shape_behind : {L : Type 0} → Shape → List (Mark L) → Option Sh
 shape_behind s [] = Some s
 shape_behind s (m ∷ marks) = option_and_then (λ next. shape_behind next marks) (shape_step s m)
 
--- A filter may end: an operand is complete, and no parenthesis stands open.
+-- A filter may end: an operand is complete, and no parenthesis is open.
 abbrev pub MayEnd : Shape → Type 0
 MayEnd s = (s.wants ≡ false) × (s.outer ≡ [])
 

@@ -30,7 +30,7 @@ IsBehind place start = length place ≤ length start
 abbrev pub IsPast : List ℕ → List ℕ → Type 0
 IsPast place start = length place < length start
 
--- What is wrong stands in what is left of a text.
+-- What is wrong is in what is left of a text.
 abbrev pub StandsIn : List ℕ → Misreading → Type 0
 StandsIn start m = IsBehind m.until m.from × IsBehind m.from start
 

@@ -28,11 +28,11 @@ abbrev pub ◌>>=◌ : {A B : Type 0} → Result A Misreading → (A → Result 
 Ok x >>= step = step x
 Err m >>= step = Err m
 
--- What a text means behind a sign where a field is asked, or why it has no meaning.
+-- What a text means behind a sign for a field, or why it has no meaning.
 abbrev pub Compiler : Type 0 → Type 0
 Compiler L = Field → Sign → List ℕ → Result L PatternFault
 
--- A predicate: what it asks, and the places behind its `(`, of its `)` and behind that.
+-- A predicate: what it tests, and the places behind its `(`, of its `)` and behind that.
 pub record PredicateRead (L : Type 0) : Type 0 where
   pub question : Question L
   pub inside : List ℕ
@@ -48,7 +48,7 @@ predicate_view meaning p = record {
   rest = p.rest.now;
 }
 
--- A predicate by what it asks, behind its `(`, and where its `)` stands.
+-- A predicate by what it tests, behind its `(`, and where its `)` is.
 abbrev pub asking : {L : Type 0} → Question L → List ℕ → List ℕ × List ℕ → PredicateRead L
 asking question inside found = record {
   question = question;
@@ -122,7 +122,7 @@ abbrev pub meaning_of : {L : Type 0} → Sign → List ℕ → List ℕ → Resu
 meaning_of sign start end (Ok meaning) = Ok meaning
 meaning_of sign start end (Err fault) = Err (wrong_between (meaningless sign fault) start end)
 
--- What stands in a text before a rest with which it ends, else all of it.
+-- What is in a text before a rest with which it ends, else all of it.
 abbrev pub before_rest : List ℕ → List ℕ → List ℕ
 before_rest text rest =
     if bytes_eq (drop (length text - length rest) text) rest

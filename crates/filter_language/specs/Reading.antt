@@ -1,4 +1,4 @@
--- Reading marks from left to right, with what stands open on a stack.
+-- Reading marks from left to right, with what is open on a stack.
 use Rattle.std.specs.Prelude.{ℕ, zero, suc, ◌+◌, nat_lt, List, [], ◌∷◌, Option, None, Some, if◌then◌else◌}
 use Rattle.std.specs.Option.{option_and_then}
 use Rattle.filter_language.specs.Formula.{Formula, Asks, Negated, Both, Either, Without, Grouped}
@@ -74,7 +74,7 @@ closed f (l ∷ outer) = Some (taken l (Grouped f) outer)
 abbrev pub within : {L : Type 0} → Left L → Progress L → Option (Progress L)
 within l next = if nat_lt (l.around + l.nots) 128 then Some next else None
 
--- One more mark, or none where it may not stand there.
+-- One more mark, or none where it may not be there.
 abbrev pub step : {L : Type 0} → Progress L → Mark L → Option (Progress L)
 step (Wanted l outer) (Asked q) = Some (taken l (Asks q) outer)
 step (Wanted l outer) NotMark = within l (Wanted (once_more l) outer)
@@ -88,7 +88,7 @@ step (Complete n f alternative outer) OrMark =
 step (Complete n f alternative outer) CloseMark = closed (either alternative f) outer
 step (Complete n f alternative outer) _ = None
 
--- The filter that is complete where nothing stands open.
+-- The filter that is complete where nothing is open.
 abbrev pub finished : {L : Type 0} → Progress L → Option (Formula L)
 finished (Complete n f alternative []) = Some (either alternative f)
 finished _ = None

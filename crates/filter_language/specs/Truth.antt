@@ -17,7 +17,7 @@ NameHas P BinaryName test = P test.binary.binary_name
 NameHas P Kind test = P test.binary.kind
 NameHas P Group test = ⊥
 
--- A question is true of a test, where `default()` stands for a fact.
+-- A predicate is true of a test, where `default()` is a given fact.
 abbrev pub Answers : {L : Type 0} → (L → List ℕ → Bool) → Type 0 → Question L → Test → Type 0
 Answers accepts Default Always test = Unit {0}
 Answers accepts Default Never test = ⊥
@@ -26,7 +26,7 @@ Answers accepts Default (OfPlatform p) test = test.binary.platform ≡ p
 Answers accepts Default (OfName p) test =
     NameHas (λ name. accepts p.meaning name ≡ true) p.field test
 
--- A filter is true of a test, where `default()` stands for a fact.
+-- A filter is true of a test, where `default()` is a given fact.
 abbrev pub Holds : {L : Type 0} → (L → List ℕ → Bool) → Type 0 → Formula L → Test → Type 0
 Holds accepts Default (Asks q) test = Answers accepts Default q test
 Holds accepts Default (Negated a) test = ¬ (Holds accepts Default a test)
@@ -43,16 +43,16 @@ abbrev pub HoldsBeside : {L : Type 0} → (L → List ℕ → Bool) → Formula 
     → Type 0
 HoldsBeside accepts default f test = Holds accepts (Holds accepts (Unit {0}) default test) f test
 
--- A value is known, and tells whether something is so.
+-- A value is known, and is true exactly if something is so.
 abbrev pub Tells : Option Bool → Type 0 → Type 0
 Tells found P = (b : Bool) × (found ≡ Some b) × (b ≡ true → P) × (P → b ≡ true)
 
--- Each value at a test is known and tells the truth.
+-- Each value at a test is known and is the truth.
 abbrev pub ValuesAreTrue : {L : Type 0} → (L → List ℕ → Bool) → Type 0
 ValuesAreTrue {L} accepts = (f default : Formula L) (test : Test)
     → Tells (value_beside accepts (of_test test) default f) (HoldsBeside accepts default f test)
 
--- What a filter answers of a binary, it answers of each test of the binary.
+-- The known value of a filter at a binary is its value at each test of the binary.
 abbrev pub BinariesSpeakForTests : {L : Type 0} → (L → List ℕ → Bool) → Type 0
 BinariesSpeakForTests {L} accepts = (f default : Formula L) (test : Test) (b : Bool)
     → value_beside accepts (of_binary test.binary) default f ≡ Some b
@@ -71,7 +71,7 @@ pub data Needs (L : Type 0) : Formula L → Type 0 where
   without_left : (a b : Formula L) → Needs L a → Needs L (Without a b)
   without_right : (a b : Formula L) → Needs L b → Needs L (Without a b)
 
--- A filter that asks neither for a test nor for the default filter answers of each binary.
+-- A filter that uses neither a test nor the default filter has a known value at each binary.
 abbrev pub OnlyTestsAreUnknown : {L : Type 0} → (L → List ℕ → Bool) → Type 0
 OnlyTestsAreUnknown {L} accepts = (f default : Formula L) (binary : Binary)
     → ¬ (Needs L f) → IsSome (value_beside accepts (of_binary binary) default f)

@@ -1,4 +1,4 @@
--- The value of a filter, by cases: what a binary cannot answer is unknown.
+-- The value of a filter, by cases: what a binary cannot decide is unknown.
 use Rattle.std.specs.Prelude.{ℕ, Bool, true, false, not, List, [], ◌∷◌, Option, Some, None, is_some, option_map, codes, if◌then◌else◌}
 use Rattle.nextest_engines.specs.Engines.{Binary, Test, binary_view}
 use Rattle.nextest_engines.specs.declared.queries.BuildPlatform.{BuildPlatform}
@@ -23,7 +23,8 @@ known_or (Some false) right = right
 known_or None (Some true) = Some true
 known_or None _ = None
 
--- What a filter is asked about: a binary, perhaps a test of it, and what the default filter says.
+-- What a filter is evaluated at: a binary, perhaps a test of it, and the value of the default
+-- filter.
 pub record Subject : Type 0 where
   pub binary : Binary
   pub test_name : Option (List ℕ)
@@ -57,7 +58,7 @@ same_platform Host Host = true
 same_platform Target Target = true
 same_platform _ _ = false
 
--- What a test of names answers of a field. No test is in a group.
+-- The value of a test of names at a field. No test is in a group.
 abbrev pub field_answer : (List ℕ → Bool) → Subject → Field → Option Bool
 field_answer accepts s TestName = option_map accepts s.test_name
 field_answer accepts s Package = Some (accepts (package_name s.binary.binary_id))
@@ -68,7 +69,7 @@ field_answer accepts s BinaryName = Some (accepts s.binary.binary_name)
 field_answer accepts s Kind = Some (accepts s.binary.kind)
 field_answer accepts s Group = Some false
 
--- What a question answers, by the names that patterns accept.
+-- The value of a predicate, by the names that patterns accept.
 abbrev pub answer : {L : Type 0} → (L → List ℕ → Bool) → Subject → Question L → Option Bool
 answer accepts s Always = Some true
 answer accepts s Never = Some false

@@ -52,7 +52,7 @@ pub data SpellsText : List ℕ → List ℕ → Type 0 where
       → SpellsText bytes text → SpellsText (encode_utf8 c ++ bytes) (codes "\\" ++ (escape ++ text))
 
 -- The bytes of a regex are written so, up to its closing `/`: a `/` as `\/`, and another byte as
--- it is. No `\` stands before the closing `/`.
+-- it is. No `\` is before the closing `/`.
 pub data SpellsRegex : List ℕ → List ℕ → Type 0 where
   closing : SpellsRegex [] (codes "/")
   escaped_slash : (bytes text : List ℕ) → SpellsRegex bytes text
@@ -64,7 +64,7 @@ pub data SpellsRegex : List ℕ → List ℕ → Type 0 where
 abbrev pub SpellsFilled : List ℕ → List ℕ → Type 0
 SpellsFilled bytes text = (bytes ≢ []) × SpellsText bytes text
 
--- What stands behind a sign: a text, or a regex with blanks behind it.
+-- What is behind a sign: a text, or a regex with blanks behind it.
 abbrev pub SpellsBody : Sign → List ℕ → List ℕ → Type 0
 SpellsBody Equal bytes body = SpellsFilled bytes body
 SpellsBody Contains bytes body = SpellsFilled bytes body
@@ -110,7 +110,7 @@ abbrev pub SpellsCall : List ℕ → List ℕ → List ℕ → Type 0
 SpellsCall word inside spelling = (blanks : List ℕ) × AreBlanks blanks
     × (spelling ≡ word ++ (blanks ++ (codes "(" ++ (inside ++ codes ")"))))
 
--- A set without an argument: white space alone stands in its parentheses.
+-- A set without an argument: white space alone is in its parentheses.
 abbrev pub SpellsBare : List ℕ → List ℕ → Type 0
 SpellsBare word spelling = (white : List ℕ) × (trim white ≡ [])
     × (list_all (is_none_of (codes ")")) white ≡ true) × SpellsCall word white spelling
@@ -159,13 +159,13 @@ WritesFilter {L} compiler text f =
     (marks : List (Mark L)) × Writes compiler text marks × Spells marks f × NestsWithin f
 
 -- A text is a filter for a kind, of these marks: it writes them, they write a filter that nests
--- within the bound, and each may stand in a filter of the kind, as far as packages are known.
+-- within the bound, and each may be in a filter of the kind, as far as packages are known.
 abbrev pub IsFilter : {L : Type 0} → Compiler L → Bool → FiltersetKind → List ℕ → List (Mark L)
     → Type 0
 IsFilter compiler knows_packages kind text marks = Writes compiler text marks
     × WritesAFilter marks × (are_allowed kind knows_packages marks ≡ true)
 
--- A text is no filter for a kind.
+-- A text is not a filter for a kind.
 abbrev pub IsNoFilter : {L : Type 0} → Compiler L → Bool → FiltersetKind → List ℕ → Type 0
 IsNoFilter {L} compiler knows_packages kind text =
     (marks : List (Mark L)) → ¬ (IsFilter compiler knows_packages kind text marks)

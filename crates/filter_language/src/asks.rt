@@ -1,4 +1,4 @@
-//! What filters ask about.
+//! What filters depend on.
 ghost use Rattle.std.specs.Prelude.{◌≡◌};
 ghost use Rattle.std.specs.List.{list_any};
 ghost use Rattle.filter_language.specs.Asks.{mark_is_about, asks, asks_default_filter};

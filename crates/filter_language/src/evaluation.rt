@@ -54,7 +54,7 @@ fn negate_if(negated: bool, value: Option<bool>) -> Option<bool>
     }
 }
 
-/// What stands around the first `::` of an id.
+/// What is around the first `::` of an id.
 fn around_package(binary_id: &str) -> Option<(&str, &str)>
     ensures { MatchOption result (package_name binary_id.now ≡ binary_id.now)
         (λ parts. package_name binary_id.now ≡ parts.0.now) }
@@ -72,7 +72,7 @@ fn package_of(binary_id: &str) -> &str
     }
 }
 
-/// What a pattern answers, or `None` where that depends on the test.
+/// The value of a pattern, or `None` where that depends on the test.
 fn match_value<E: Matchers>(matching: &Match<E::Matcher>, subject: Subject<'_>) -> Option<bool>
     ensures { result ≡ field_answer (E.accepts (E.meaning matching.now.matcher))
         (subject_view subject.entry) matching.now.field }
@@ -94,7 +94,7 @@ fn match_value<E: Matchers>(matching: &Match<E::Matcher>, subject: Subject<'_>) 
     }
 }
 
-/// What a question answers, or `None` where that depends on the test.
+/// The value of a predicate, or `None` where that depends on the test.
 fn question_value<E: Matchers>(
     question: &Question<E::Matcher>,
     subject: Subject<'_>,

@@ -77,7 +77,7 @@ pub struct FiltersetFault {
 /// Why a text was not read.
 #[derive(Debug, Drop, Error)]
 pub enum ParseFault {
-    /// The text is no filter of its kind.
+    /// The text is not a filter of its kind.
     #[error("{0}")]
     Refused(FiltersetFault),
     /// A growth of memory was refused.
@@ -97,7 +97,7 @@ pub struct Misread<'a> {
 /// Why reading stopped.
 #[derive(Drop)]
 pub enum Stop<'a> {
-    /// The text is no filter.
+    /// The text is not a filter.
     Misread(Misread<'a>),
     /// A growth of memory was refused.
     Memory,

@@ -202,7 +202,7 @@ impl<M: Drop> Filterset<M> {
         value_beside::<E>(self, default, *query, None)
     }
 
-    /// The predicates that only a test can answer, as they are written.
+    /// The predicates that only a test can decide, as they are written.
     pub fn runtime_only_leaves<E: Matchers<Matcher = M>>(
         &self,
         alloc: Global,

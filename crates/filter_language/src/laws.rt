@@ -16,13 +16,13 @@ ghost use Rattle.filter_language.specs.Truth.{ValuesAreTrue, BinariesSpeakForTes
 
 use crate::matchers::Matchers;
 
-/// Marks are read to a filter exactly where they spell it and it nests within the bound.
+/// Marks are read to a filter exactly if they spell it and it nests within the bound.
 pub fn law_grammar<E: Matchers>()
     ensures { (marks : List (Mark E.Meaning)) (f : Formula E.Meaning)
         → (read marks ≡ Some f) ↔ (Spells marks f × (nesting f ≤ 128)) }
 {}
 
-/// A text is read to marks exactly where it writes them, they write a filter that nests within the
+/// A text is read to marks exactly if it writes them, they write a filter that nests within the
 /// bound, and each is allowed in a filter of the kind.
 pub fn law_texts<E: Matchers>()
     ensures { (compiler : Compiler E.Meaning) (knows_packages : Bool) (kind : FiltersetKind)
@@ -67,7 +67,7 @@ pub fn law_values<E: Matchers>()
     ensures { ValuesAreTrue E.accepts }
 {}
 
-/// What a filter answers of a binary, it answers of each test of the binary.
+/// The known value of a filter at a binary is its value at each test of the binary.
 pub fn law_binaries<E: Matchers>()
     ensures { BinariesSpeakForTests E.accepts }
 {}

@@ -8,18 +8,18 @@
 //!
 //! # The seam
 //!
-//! What names a pattern matches is no matter of this crate: an engine implements [`Matchers`]. The
-//! reader calls [`Matchers::compile`] once for each argument, at its end: with the predicate's
-//! field, the sign that is before the text or that the field has by default, and the text with
-//! its escapes resolved (of a regex `\/` alone). A fault says that the pattern is malformed or too
-//! large, and the reader reports `InvalidGlob`, `InvalidRegex` or `TooLarge` with the argument's span.
-//! [`Matchers::has_package_graph`] says whether `deps` and `rdeps` are resolved; where it is false,
-//! a text with one is refused by `NoPackageGraph` after it was read whole, so `compile` is called for
-//! their patterns too.
+//! What names a pattern matches is not decided in this crate: an engine implements [`Matchers`].
+//! The reader calls [`Matchers::compile`] once for each argument, at its end: with the predicate's
+//! field, the sign that is before the text or that the field has by default, and the text with its
+//! escapes resolved (of a regex `\/` alone). A fault says that the pattern is malformed or too
+//! large, and the reader reports `InvalidGlob`, `InvalidRegex` or `TooLarge` with the argument's
+//! span. [`Matchers::has_package_graph`] says whether `deps` and `rdeps` are resolved; where it is
+//! false, a text with one is refused by `NoPackageGraph` after it was read whole, so `compile` is
+//! called for their patterns too.
 //!
 //! A compiled matcher is called with one name: that of the test, of the binary or its id, of its kind, or
 //! of its package. For `deps` and `rdeps` that is the package's name too, and the matcher is the
-//! set of the members' names that they stand for.
+//! set of the members' names that they mean.
 #![tactic(auto)]
 
 mod asks;

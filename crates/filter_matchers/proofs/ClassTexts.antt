@@ -26,7 +26,7 @@ not_true false e = refl
 abbrev NoItem : ℕ → List ℕ → Type 0
 NoItem start text = (item : ClassItem) (rest : List ℕ) → WritesItem start text item rest → ⊥
 
--- What is found is an item, or none stands there.
+-- What is found is an item, or none is there.
 abbrev ItemIs : ℕ → List ℕ → Leading ClassItem → Type 0
 ItemIs start text found = MatchOption found (NoItem start text) (λ f. WritesItem start text f.0 f.1)
 

@@ -1,4 +1,4 @@
--- Bytes that no state tells apart.
+-- Bytes that no state distinguishes.
 use Rattle.std.proofs.Common.{◌≡◌, ℕ, suc, ◌+◌, ◌-◌, ◌<◌, ◌≤◌, Bool, true, false, cond, List, [], ◌∷◌, ◌++◌, length, get_or, set, drop, find, option_map, Some, None, slice_index, slice_index_or, slice_range, refl, sym, ap, ap₂, ◌∙◌, subst, ⊎_elim, true≢false, arith, get_or-take, get_or-drop, get_or-set_same, get_or-set_other, length-take, length-drop}
 use Rattle.std.proofs.lemmas.Bool.{cases_eq, cases_lt}
 use Rattle.std.proofs.lemmas.Bool.Decides.{nat_tests}

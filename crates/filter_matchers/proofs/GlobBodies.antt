@@ -1,4 +1,4 @@
--- The classes that a text writes are told by the text.
+-- The classes that a text writes are determined by the text.
 use Rattle.std.proofs.Common.{◌≡◌, ℕ, ◌<◌, ◌≤◌, ◌⊎◌, ◌↔◌, Bool, true, false, not, ◌||◌, List, [], ◌∷◌, ◌++◌, length, drop, refl, sym, ap, ◌∙◌, subst, ⊎_elim, inl, inr, arith}
 use Rattle.regex_class.specs.Ranges.{Range, in_range, in_ranges}
 use Rattle.regex_class.proofs.RangesLemmas.{in_ranges-nil, in_ranges-push}
@@ -32,7 +32,7 @@ same_item start text (Own a) (Reach b) r s w v = absurd (own_reach start text a 
 same_item start text (Reach a) (Own b) r s w v = absurd (own_reach start text b a s r v w)
 same_item start text (Reach a) (Reach b) r s w v = let e = w.0 in let f = v.0 in (cc, cc)
 
--- No item stands in front of a closing bracket.
+-- No item is in front of a closing bracket.
 pub no_item : (start : ℕ) (text : List ℕ) (i : ClassItem) (r : List ℕ) → EndsClass text → WritesItem start text i r → ⊥
 no_item start text (Own b) r ends w = let e = ends.1 in let f = w.0 in w.2 (cc)
 no_item start text (Reach b) r ends w = apart 45 93 (b ∷ r) ends.0 text w.0 ends.1 (omega arith)
@@ -58,7 +58,7 @@ none_done first text = (
   λ behind byte. sym (ap (λ b. b || in_items first first behind byte) (in_ranges-nil byte)),
 )
 
--- What stands behind an item that is read.
+-- What is behind an item that is read.
 pub item_behind : (start : ℕ) (text rest : List ℕ) (item : ClassItem) → WritesItem start text item rest
     → (items : List ClassItem) (left : List ℕ)
     → WritesItems start text items left
@@ -264,7 +264,7 @@ class_made negated text body rest ranges re sign (first, items, one, holds) mean
       class_means negated first items ranges re holds means,
     )
 
--- Where the body is no class, the text is none.
+-- Where the body is not a class, the text is none.
 pub no_class : (negated : Bool) (text body : List ℕ) → WritesNegation negated text body
     → ((first : ℕ) (items : List ClassItem) (rest : List ℕ) → WritesBody body first items rest → ⊥)
     → (class : GlobClass) (rest : List ℕ) → WritesClass text class rest → ⊥

@@ -42,7 +42,7 @@ glob_machine text hirs rest nfa re (row, one, patterns) none is finds_it name by
           same ∙ whole.1 (subst (λ r. RowTakes r name) ((one matches.0 []).0 matches.1).0 matches.2),
     )
 
--- Where no row stands, the text writes no glob.
+-- Without a row, the text writes no glob.
 pub no_glob : (text : List ℕ)
     → ((row : Row) (rest : List ℕ) → WritesRow false 250 place.Start text row rest → ⊥) → IsGlob text → ⊥
 unfolding IsGlob

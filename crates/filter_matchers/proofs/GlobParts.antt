@@ -1,4 +1,4 @@
--- The parts that a text writes are told by the text.
+-- The parts that a text writes are determined by the text.
 use Rattle.std.proofs.Common.{◌≡◌, ℕ, ◌+◌, ◌-◌, ◌<◌, ◌↔◌, Bool, true, false, List, [], ◌∷◌, ◌++◌, length, drop, take, get_or, refl, sym, ap, ◌∙◌, subst, ⊎_elim, inl, inr, arith, true≢false}
 use Rattle.std.proofs.lemmas.List.{drop_more, drop-drop, length-drop, take_all}
 use Rattle.std.proofs.lemmas.List.Elements.{All-head, All-tail}
@@ -86,7 +86,7 @@ module _ (inside : Bool) (place : Place) where
       two)
       one
 
-  -- A star stands in front of any bytes.
+  -- A star is in front of any bytes.
   pub any_front : (text rest : List ℕ) → WritesPart inside place text AnyBytes rest → (s : List ℕ) × (text ≡ 42 ∷ s)
   any_front text rest w =
       ⊎_elim

@@ -23,13 +23,13 @@ use Rattle.filter_matchers.specs.Globs.{PartTakes, Joins}
 use Rattle.filter_matchers.specs.Patterns.{StandsBetween, MatchesKind, Means, MeansRanges}
 use Rattle.filter_matchers.specs.declared.glob.part.GlobPart.TheVariants.{Byte, AnyByte, AnyBytes, Folders, Nothing}
 
--- What stands behind the front of what stands from a place on.
+-- What is behind the front of what is from a place on.
 rest_at : (name : List ℕ) (i : ℕ) (front rest : List ℕ) → drop i name ≡ front ++ rest
     → rest ≡ drop (i + length front) name
 rest_at name i front rest e =
     sym (drop-append_seam front rest) ∙ ap (drop (length front)) (sym e) ∙ drop-drop (length front) i name
 
--- A front stands within the name.
+-- A front is within the name.
 front_within : (name : List ℕ) (i : ℕ) (front rest : List ℕ) → i ≤ length name → drop i name ≡ front ++ rest
     → i + length front ≤ length name
 front_within name i front rest h e =

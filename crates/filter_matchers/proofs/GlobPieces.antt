@@ -1,4 +1,4 @@
--- The parts, classes and groups with which a row begins are told by the text.
+-- The parts, classes and groups with which a row begins are determined by the text.
 use Rattle.std.proofs.Common.{◌≡◌, ℕ, ◌+◌, ◌⊎◌, ◌↔◌, Bool, true, false, ◌&&◌, List, [], ◌∷◌, ◌++◌, Option, Some, None, length, refl, sym, ap, ◌∙◌, subst, ⊎_elim, inl, inr, arith, true≢false}
 use Rattle.std.specs.Prelude.{MatchOption}
 use Rattle.std.proofs.lemmas.Bool.{and_parts}
@@ -54,7 +54,7 @@ no_end false text b inner e f g = let i : ends_row false (b ∷ inner) ≡ true 
     subst (λ t. ends_row false t ≡ true) e g in true≢false (sym i)
 
 module _ (inside : Bool) (levels : ℕ) (at : Place) where
-  -- What stands behind a part.
+  -- What is behind a part.
   pub part_behind : (text mid : List ℕ) (this : GlobPart) → ends_row inside text ≡ false
       → WritesPart inside at text this mid → (row : Row) (left : List ℕ)
       → WritesRow inside levels at text row left
@@ -94,7 +94,7 @@ module _ (inside : Bool) (levels : ℕ) (at : Place) where
         × WritesRow inside levels (behind at this) mid next left). absurd (let e = found.1 in cc),
   )
 
-  -- What stands behind a class.
+  -- What is behind a class.
   pub class_behind : (text inner mid : List ℕ) (this : GlobClass) → text ≡ 91 ∷ inner
       → WritesOneClass inner this mid → (row : Row) (left : List ℕ)
       → WritesRow inside levels at text row left
@@ -132,7 +132,7 @@ module _ (inside : Bool) (levels : ℕ) (at : Place) where
         × WritesRow inside levels place.Elsewhere mid next left). absurd (let f = found.1 in cc),
   )
 
-  -- What stands behind a group.
+  -- What is behind a group.
   pub group_behind : (text inner mid : List ℕ) (below : ℕ) (this : Branches) → text ≡ 123 ∷ inner
       → levels ≡ below + 1 → WritesOneGroup below inner this mid
       → (row : Row) (left : List ℕ)
@@ -173,7 +173,7 @@ module _ (inside : Bool) (levels : ℕ) (at : Place) where
         (inner, mid, below, e, deep, (one this mid).1 (refl, refl), found.2),
   )
 
-  -- Where no piece stands, the text writes no row.
+  -- Without a piece, the text writes no row.
   pub no_piece : (text : List ℕ) → ends_row inside text ≡ false
       → ((p : GlobPart) (r : List ℕ) → WritesPart inside at text p r → ⊥)
       → ((inner : List ℕ) → text ≡ 91 ∷ inner → ⊥)
@@ -192,7 +192,7 @@ module _ (inside : Bool) (levels : ℕ) (at : Place) where
       (λ inner e. omega (arith, ap length e))
       (λ inner below e deep. omega (arith, ap length e))
 
-  -- Where no class stands behind a bracket, the text writes no row.
+  -- Where no class is behind a bracket, the text writes no row.
   pub no_class_row : (text inner : List ℕ) → text ≡ 91 ∷ inner
       → ((c : GlobClass) (r : List ℕ) → WritesClass inner c r → ⊥)
       → (row : Row) (rest : List ℕ) → WritesRow inside levels at text row rest → ⊥
@@ -203,7 +203,7 @@ module _ (inside : Bool) (levels : ℕ) (at : Place) where
   no_class_row text inner e none (group b row) rest (i, mid, below, f, deep, here, more) =
       apart 91 123 inner i text e f (omega arith)
 
-  -- Where no branches stand behind a brace, the text writes no row.
+  -- Where no branches are behind a brace, the text writes no row.
   pub no_group_row : (text inner : List ℕ) (below : ℕ) → text ≡ 123 ∷ inner → levels ≡ below + 1
       → ((b : Branches) (r : List ℕ) → WritesBranches below inner b r → ⊥)
       → (row : Row) (rest : List ℕ) → WritesRow inside levels at text row rest → ⊥

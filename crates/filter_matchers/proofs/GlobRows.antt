@@ -1,4 +1,4 @@
--- The rows and groups that a text writes are told by the text.
+-- The rows and groups that a text writes are determined by the text.
 use Rattle.std.proofs.Common.{◌≡◌, ℕ, ◌+◌, ◌<◌, ◌⊎◌, ◌↔◌, Bool, true, false, ◌&&◌, ◌==◌, eqb-true, List, [], ◌∷◌, ◌++◌, Option, Some, None, length, map, drop, get_or, refl, sym, ap, ◌∙◌, subst, ⊎_elim, inl, inr, arith, true≢false, append_assoc, append-nil}
 use Rattle.std.proofs.lemmas.Bool.{or_cases}
 use Rattle.std.proofs.lemmas.List.{map-append, drop_more, drop-drop, length-drop}
@@ -125,7 +125,7 @@ module _ (inside : Bool) (levels : ℕ) where
     (rw (append-nil (map meaning hirs)) at (means end [] empty_means), empties end ∙ and_true (is_nil hirs)),
   )
 
-  -- Where no piece stands, the text writes no row.
+  -- Without a piece, the text writes no row.
   pub no_row : (text : List ℕ) (at : Place) (rest : List ℕ) (hirs : List Hir) → ReadTo text at rest hirs
       → ((row : Row) (left : List ℕ) → WritesRow inside levels at rest row left → ⊥)
       → (row : Row) (left : List ℕ) → WritesRow inside levels place.Start text row left → ⊥
@@ -342,7 +342,7 @@ module _ (levels : ℕ) where
   first_row rest (only row) left w = (row, 125 ∷ left, w)
   first_row rest (also row branches) left w = (row, 44 ∷ w.0, w.1)
 
-  -- Where no branch stands, the text writes no group.
+  -- Without a branch, the text writes no group.
   pub no_group : (text rest : List ℕ) (hirs : List Hir) → ReadBranches text rest hirs
       → ((row : Row) (left : List ℕ) → WritesRow true levels place.Start rest row left → ⊥)
       → (branches : Branches) (left : List ℕ) → WritesBranches levels text branches left → ⊥
@@ -382,7 +382,7 @@ pub branch_inside : (text : List ℕ) (at len : ℕ) → ends_row true (drop len
 branch_inside text at len ends =
     omega (arith, branch_room (drop len (drop at text)) ends, length-drop len (drop at text), length-drop at text)
 
--- What stands behind a branch, from the byte that ends it on.
+-- What is behind a branch, from the byte that ends it on.
 pub branch_end : (text : List ℕ) (at len byte : ℕ) → ends_row true (drop len (drop at text)) ≡ true
     → get_or text (at + len) 0 ≡ byte
     → drop len (drop at text) ≡ byte ∷ drop (at + (len + 1)) text

@@ -64,7 +64,7 @@ WritesGroup levels text branches rest = (below : ℕ) × (levels ≡ below + 1) 
 
 module _ (groups : List ℕ → Leading Branches) (inside : Bool) (levels : ℕ)
     (groups_tell : (text : List ℕ) → Tells (groups text) (WritesGroup levels text)) where
-  -- The rows are told that a text shorter than this writes.
+  -- The rows that a text shorter than this writes are determined.
   abbrev RowsTell : (Place → List ℕ → Leading Row) → ℕ → Type 0
   RowsTell rows size = (place : Place) (text : List ℕ) → length text < size
       → Tells (rows place text) (WritesRow inside levels place text)
@@ -84,7 +84,7 @@ module _ (groups : List ℕ → Leading Branches) (inside : Bool) (levels : ℕ)
       (class_behind inside levels place text inner mid this e (one_told (WritesClass inner) this mid tells))
       (tell Elsewhere mid (omega (arith, ap length e, class_shorter inner this mid here)))
 
-  -- Where no group stands behind a brace, the text writes no row.
+  -- Where no group is behind a brace, the text writes no row.
   no_group_here : (place : Place) (text inner : List ℕ) → text ≡ 123 ∷ inner → Tells None (WritesGroup levels inner)
       → (row : Row) (rest : List ℕ) → WritesRow inside levels place text row rest → ⊥
   no_group_here place text inner e tells end rest w = no_end inside text 123 inner e (inr refl) w.1
@@ -191,7 +191,7 @@ module _ (groups : List ℕ → Leading Branches) (inside : Bool) (levels : ℕ)
 
 module _ (levels : ℕ) (rows : List ℕ → Leading Row)
     (rows_tell : (text : List ℕ) → Tells (rows text) (WritesRow true levels Start text)) where
-  -- The branches are told that a text shorter than this writes.
+  -- The branches that a text shorter than this writes are determined.
   abbrev BranchesTell : (List ℕ → Leading Branches) → ℕ → Type 0
   BranchesTell others size = (text : List ℕ) → length text < size → Tells (others text) (WritesBranches levels text)
 

@@ -11,13 +11,13 @@ use Rattle.filter_matchers.proofs.GlobParts.{heads, apart, special_apart, any_fr
 use Rattle.filter_matchers.proofs.Tells.{Tells, tells_only}
 
 module _ (inside : Bool) (place : Place) where
-  -- What is found is a part, or none stands there.
+  -- What is found is a part, or none is there.
   abbrev PartIs : List ℕ → Leading GlobPart → Type 0
   PartIs text found =
       MatchOption found ((p : GlobPart) (r : List ℕ) → WritesPart inside place text p r → ⊥)
       (λ f. WritesPart inside place text f.0 f.1)
 
-  -- Two stars that are no last ones, before no slash.
+  -- Two stars that are not last ones, before no slash.
   two_stars : (text : List ℕ) → is_last inside place text ≡ false
       → ((rest : List ℕ) → text ≡ 47 ∷ rest → opens place ≡ true → ⊥)
       → WritesPart inside place (42 ∷ 42 ∷ text) AnyBytes (42 ∷ text)

@@ -1,4 +1,4 @@
--- Texts that stand in names.
+-- Texts that are in names.
 use Rattle.std.proofs.Common.{◌≡◌, ℕ, ◌+◌, ◌-◌, ◌<◌, ◌≤◌, ◌↔◌, ⊎_elim, List, [], ◌∷◌, ◌++◌, Some, None, length, take, drop, get_or, refl, sym, ap, ◌∙◌, arith, length-append, length-drop, get_or-take, get_or-drop, eq-eqb}
 use Rattle.std.proofs.lemmas.Bool.{cases_lt}
 use Rattle.std.proofs.lemmas.List.{get_or_append_left, get_or-append-add, ext_get_or, take-append-drop, length-take-le}
@@ -18,7 +18,7 @@ module _ (name text : List ℕ) where
     },
   )
 
-  -- What stands at a place is what the name has there.
+  -- What is at a place is what the name has there.
   stands_there : (k : ℕ) → OccursAt name text k → take (length text) (drop k name) ≡ text
   stands_there k occurs =
       let fits = occurs.fits in
@@ -40,7 +40,7 @@ module _ (name text : List ℕ) where
         ∙ ap (λ l. l ++ drop (length text) (drop k name)) (stands_there k occurs)),
   )
 
-  -- The text stands at no place below this one.
+  -- The text is at no place below this one.
   abbrev pub NoneBelow : ℕ → Type 0
   NoneBelow start = (k : ℕ) → k < start → OccursAt name text k → ⊥
 
@@ -65,7 +65,7 @@ module _ (name text : List ℕ) where
       (byte_there index k below occurs start from))
       (cases_lt k start)
 
-  -- The byte stands next so far ahead.
+  -- The byte is next so far ahead.
   pub none_until : (index start ahead : ℕ) → index < length text → NoneBelow start
       → IsFirstByte (is_byte (get_or text index 0)) (drop (start + index) name) (Some ahead)
       → NoneBelow (start + ahead)
@@ -83,7 +83,7 @@ module _ (name text : List ℕ) where
       let fits = occurs.fits in
       before k (omega arith) occurs
 
-  -- The text stands at a place where the name has it.
+  -- The text is at a place where the name has it.
   pub standing_at : (start : ℕ) → start + length text ≤ length name
       → (take (start + length text - start) (drop start name) ≡ text) ↔ OccursAt name text start
   standing_at start fits =

@@ -1,4 +1,4 @@
--- Closing the groups that stand open in a regular expression.
+-- Closing the groups that are open in a regular expression.
 use Rattle.std.proofs.Common.{◌≡◌, ℕ, ◌+◌, ◌<◌, ◌≤◌, List, [], ◌∷◌, length, arith}
 use Rattle.std.specs.List.{fold}
 use Rattle.filter_matchers.specs.RegexSizes.{State, closed, whole, whole_of}

@@ -73,7 +73,7 @@ pub length-without : (flags : List Bool) (states : List ℕ) → length (without
 length-without flags [] = refl
 length-without flags (q ∷ states) = length-without (set flags q false) states ∙ length-set flags q false
 
--- A flag that stands after another was taken is not that one, and stood before.
+-- A flag that is left after another was taken is not that one, and was there before.
 still_set : (flags : List Bool) (q r : ℕ) → get_or (set flags q false) r false ≡ true
     → (q ≡ r → ⊥) × (get_or flags r false ≡ true)
 still_set flags q r told =
@@ -105,7 +105,7 @@ none_told flags (s ∷ states) told q =
     among_others s r states w.0 w.1 w.2 still.0)
     q
 
--- Where each state that is told is among some, none is told without these.
+-- Where each state that is reported is among some, none is reported without these.
 pub none_left : (flags : List Bool) (states : List ℕ)
     → ((q : ℕ) → get_or flags q false ≡ true → Contains states q)
     → All (λ b. b ≡ false) (without flags states)

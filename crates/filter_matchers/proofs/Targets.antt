@@ -18,7 +18,7 @@ pub extends_of : (q : ℕ) (old new : List ℕ) → AddsState q old new → Exte
 extends_of q old new adds =
     ⊎_elim (λ same. ([], same ∙ sym (append-nil old))) (λ more. (q ∷ [], more)) adds.after
 
--- What stands in a list stands in one that extends it.
+-- What is in a list is in one that extends it.
 pub keeps : (old new : List ℕ) (r : ℕ) → Extends old new → Contains old r → Contains new r
 keeps old new r (added, is) there = rw is (Contains-append_left old added r there)
 

@@ -1,4 +1,4 @@
--- Classes of bytes that an automaton does not tell apart.
+-- Classes of bytes that an automaton does not distinguish.
 use Rattle.std.specs.Prelude.{◌≡◌, ℕ, ◌+◌, ◌<◌, Bool, true, false, List, length, slice_index, slice_index_or}
 use Rattle.regex_nfa.specs.States.{next_on}
 use Rattle.regex_nfa.specs.Run.{state_of}
@@ -28,7 +28,7 @@ AreAlike nfa a b =
 abbrev pub SeparatesBytes : Nfa → List Bool → Type 0
 SeparatesBytes nfa cuts = (byte : ℕ) → flag cuts (byte + 1) ≡ false → AreAlike nfa byte (byte + 1)
 
--- Each byte of ASCII has a class, and is like the byte that stands for it.
+-- Each byte of ASCII has a class, and is like the byte that represents it.
 abbrev pub AreClasses : Nfa → List ℕ → List ℕ → Type 0
 AreClasses nfa classes bytes =
     (byte : ℕ) → byte < 128 → (slice_index classes byte < length bytes)

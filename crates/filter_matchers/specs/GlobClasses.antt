@@ -24,7 +24,7 @@ BeginsNegated text = BeginsWith 33 text ⊎ BeginsWith 94 text
 abbrev pub EndsClass : List ℕ → Type 0
 EndsClass text = BeginsWith 93 text
 
--- The text writes the item and the rest, where a range that starts at this byte stands in front. A
+-- The text writes the item and the rest, where a range that starts at this byte is in front. A
 -- dash is a byte of its own only before the closing bracket.
 abbrev pub WritesItem : ℕ → List ℕ → ClassItem → List ℕ → Type 0
 WritesItem start text (Own byte) rest =
@@ -82,7 +82,7 @@ in_class class byte =
 abbrev pub ClassTakes : GlobClass → List ℕ → Type 0
 ClassTakes class bytes = (byte : ℕ) × (bytes ≡ byte ∷ []) × (in_class class byte ≡ true)
 
--- The item stands at the front of the text and has so many bytes, or no item does.
+-- The item is at the front of the text and has so many bytes, or no item does.
 abbrev pub ReadsItem : ℕ → List ℕ → Result (ClassItem × ℕ) RowFault → Type 0
 ReadsItem start text result =
     MatchResult result (λ read. WritesItem start text read.0 (drop read.1 text))

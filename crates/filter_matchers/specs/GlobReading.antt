@@ -11,16 +11,16 @@ use Rattle.filter_matchers.specs.declared.glob.place.Place.{Place}
 use Rattle.filter_matchers.specs.declared.glob.place.Place.TheVariants.{Start}
 use Rattle.filter_matchers.specs.declared.glob.part.GlobPart.{GlobPart}
 
--- Folders stand at the front of the text, where they may.
+-- Folders are at the front of the text, where they may.
 abbrev pub BeginsFolders : Place → List ℕ → Type 0
 BeginsFolders place text = (rest : List ℕ) × (text ≡ 42 ∷ 42 ∷ 47 ∷ rest) × (opens place ≡ true)
 
--- The last stars of a branch of folders stand at the front of the text.
+-- The last stars of a branch of folders are at the front of the text.
 abbrev pub BeginsLast : Bool → Place → List ℕ → Type 0
 BeginsLast inside place text =
     (rest : List ℕ) × (text ≡ 42 ∷ 42 ∷ rest) × (is_last inside place rest ≡ true)
 
--- The part stands at the front of the text and has so many bytes, or no part does.
+-- The part is at the front of the text and has so many bytes, or no part does.
 abbrev pub ReadsPart : Bool → Place → List ℕ → Result (GlobPart × ℕ) RowFault → Type 0
 ReadsPart inside place text result =
     MatchResult result (λ read. WritesPart inside place text read.0 (drop read.1 text))

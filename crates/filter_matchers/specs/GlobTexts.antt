@@ -9,7 +9,7 @@ use Rattle.filter_matchers.specs.declared.glob.place.Place.TheVariants.{Start, E
 use Rattle.filter_matchers.specs.declared.glob.part.GlobPart.{GlobPart}
 use Rattle.filter_matchers.specs.declared.glob.part.GlobPart.TheVariants.{Byte, AnyByte, AnyBytes, Nothing}
 
--- What stands at the front of a text, and the rest of the text, if it does.
+-- What is at the front of a text, and the rest of the text, if it does.
 abbrev pub Leading : Type 0 → Type 0
 Leading A = Option (A × List ℕ)
 
@@ -41,7 +41,7 @@ reach_in start [] = None
 reach_in start (byte ∷ text) =
     if nat_lt byte 128 && nat_le start byte then Some (Reach byte, text) else None
 
--- the item behind a range with this start, where no closing bracket stands
+-- the item behind a range with this start, if there is no closing bracket
 abbrev pub item_in : ℕ → List ℕ → Leading ClassItem
 item_in start [] = None
 item_in start (byte ∷ text) =

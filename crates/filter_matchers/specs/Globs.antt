@@ -21,7 +21,7 @@ mutual
     only : Row → Branches
     also : Row → Branches → Branches
 
--- whether the byte stands for itself only behind a backslash: `?`, `*`, `[`, `\`, `{` and `}`
+-- whether the byte is literal only behind a backslash: `?`, `*`, `[`, `\`, `{` and `}`
 abbrev pub is_special : ℕ → Bool
 is_special byte = byte == 63 || byte == 42 || byte == 91 || byte == 92 || byte == 123 || byte == 125
 
@@ -32,14 +32,14 @@ ends_row false (byte ∷ text) = false
 ends_row true [] = false
 ends_row true (byte ∷ text) = byte == 44 || byte == 125
 
--- whether folders may stand there: at the start of a row, or behind a slash
+-- whether folders may be there: at the start of a row, or behind a slash
 abbrev pub opens : Place → Bool
 opens Start = true
 opens BehindFolders = true
 opens BehindSlash = true
 opens Elsewhere = false
 
--- whether nothing but folders stands in front, in this row
+-- whether nothing but folders is in front, in this row
 abbrev pub leads : Place → Bool
 leads Start = true
 leads BehindFolders = true
@@ -70,7 +70,7 @@ abbrev pub folders_part : Bool → Place → List ℕ → GlobPart
 folders_part inside place rest = if is_whole inside place rest then AnyBytes else Folders
 
 module _ (inside : Bool) (place : Place) where
-  -- The text writes folders, `**/` where they may stand, and the rest.
+  -- The text writes folders, `**/` where they may be, and the rest.
   abbrev pub WritesFolders : List ℕ → List ℕ → Type 0
   WritesFolders text rest = (text ≡ 42 ∷ 42 ∷ 47 ∷ rest) × (opens place ≡ true)
 

@@ -6,7 +6,7 @@ use Rattle.regex_hir.specs.Matches.{Matches}
 use Rattle.filter_matchers.specs.Globs.{PartTakes}
 use Rattle.filter_matchers.specs.declared.glob.part.GlobPart.{GlobPart}
 
--- Between these places of the name stand bytes of this kind.
+-- Between these places of the name are bytes of this kind.
 abbrev pub StandsBetween : (List ℕ → Type 0) → List ℕ → ℕ → ℕ → Type 0
 StandsBetween Kind name i j =
     (front : List ℕ) × (rest : List ℕ) × (drop i name ≡ front ++ rest) × (j ≡ i + length front)

@@ -2,8 +2,8 @@
 --
 -- The text is read byte by byte. An item is a character, an escape, a class or a group: it takes so many
 -- states, and so many more for each place from which it is entered. A repetition copies the item in front
--- of it. Blanks and comments, which flags may let stand between the two, belong to the item, and so do
--- characters beyond ASCII.
+-- of it. Blanks and comments, which flags may allow between the two, belong to the item, and so
+-- do characters beyond ASCII.
 use Rattle.std.specs.Prelude.{ℕ, ◌+◌, ◌-◌, ◌*◌, ◌==◌, ◌||◌, ◌&&◌, nat_lt, Bool, List, [], ◌∷◌, if◌then◌else◌}
 use Rattle.std.specs.List.{fold}
 use Rattle.filter_matchers.specs.declared.regex_size.size.Size.{Size}
@@ -85,14 +85,14 @@ character_size Pattern = size 4 0
 character_size (Class depth) = size 8 0
 character_size Comment = size 8 0
 
--- a byte that stands for itself: `k` and `s` fold to characters beyond ASCII
+-- a byte that is literal: `k` and `s` fold to characters beyond ASCII
 abbrev pub byte_size : Mode → ℕ → Size
 byte_size mode byte =
     if nat_lt 127 byte then character_size mode
     else (if byte == 107 || byte == 75 then size 3 0
     else (if byte == 115 || byte == 83 then size 2 0 else size 1 0))
 
--- a byte, if it stands for itself or not: `.`, `^`, `$`, `|` and `(`
+-- a byte, literal or not: `.`, `^`, `$`, `|` and `(`
 abbrev pub sign_size : Mode → ℕ → Size
 sign_size mode byte =
     if byte == 46 then size 8 0
@@ -265,7 +265,7 @@ taken t inner outer = acted t.act t.mode t.reading inner outer
 abbrev pub with_byte : State → ℕ → State
 with_byte s byte = taken (turn_of s.mode s.reading byte) s.inner s.outer
 
--- the states, where groups that stand open end with the text
+-- the states, where open groups end with the text
 abbrev pub whole : Level → List Level → ℕ
 whole inner [] = (total inner).fixed + (total inner).each
 whole inner (l ∷ outer) = whole (added l (group inner)) outer

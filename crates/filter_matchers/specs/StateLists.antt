@@ -6,7 +6,7 @@ use Rattle.regex_vm.specs.Bits.{members}
 abbrev pub without : List Bool → List ℕ → List Bool
 without flags states = fold (λ left state. slice_set left state false) flags states
 
--- The flags tell of each state whether it is among the first of the states, of which there are as
+-- The flags say of each state whether it is among the first of the states, of which there are as
 -- many as flags that are set, each below the room.
 pub record IsListed (room : ℕ) (flags : List Bool) (states : List ℕ) (len : ℕ) : Type 0 where
   pub narrow : room ≤ 2 ^ 16

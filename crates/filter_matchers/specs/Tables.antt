@@ -73,7 +73,7 @@ Leads nfa rows next Unknown = ⊤
 
 module _ (nfa : Nfa) (classes : List ℕ) (width : ℕ) (rows : List (List ℕ)) where
   -- What the cell says of the row is so wherever a search may be in the row, and a byte of the class
-  -- comes, or the end of the name, for which the last class stands.
+  -- comes, or the end of the name, which is the last class.
   pub record IsCell (row class : ℕ) (cell : Cell) : Type 0 where
     pub byte : (name : List ℕ) (at byte : ℕ) → byte < 128 → slice_index classes byte ≡ class
         → IsAt row name at

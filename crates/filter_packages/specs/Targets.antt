@@ -95,7 +95,7 @@ abbrev pub is_of_package : List ℕ → Bool
 is_of_package kind = bytes_eq kind (codes "lib") || bytes_eq kind (codes "proc-macro")
 
 -- The id of the binary that nextest builds from a target: `p` from the library of a package, `p::x`
--- from an integration test, and else the kind with a slash stands before the name, as `p::bin/x`.
+-- from an integration test, and else the kind with a slash is before the name, as `p::bin/x`.
 abbrev pub binary_id : TargetText → List ℕ
 binary_id target =
     if is_of_package target.kind then target.package_name

@@ -5,7 +5,7 @@ ghost use Rattle.filter_packages.specs.declared.edges.Direction.TheVariants.{Dep
 ghost use Rattle.filter_packages.specs.Edges.{DependsOn, Reaches, oriented};
 
 /// A package reaches itself, those on which it depends, and what these reach; and it reaches
-/// another one exactly where that one reaches it over the edges turned round.
+/// another one exactly if that one reaches it over the edges turned round.
 pub fn law_reaching()
     ensures itself { (edges : List Edge) (a : ℕ) → Reaches edges a a }
     ensures next { (edges : List Edge) (a b : ℕ) → DependsOn edges a b → Reaches edges a b }

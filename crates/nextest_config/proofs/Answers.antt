@@ -81,7 +81,7 @@ module _ {M K P : Type 0} (meets : K → P → Option Bool) (matches : M → Tes
     rows = record { known = known; profile = profile; is_profile = is; are_rows = are_rows };
   }
 
--- the profile that is asked for, by what its rules mean
+-- the profile that is requested, by what its rules mean
 pub asked_profile : {E N M K P : Type 0} (f : E → M) (g : N → K) (meets : K → P → Option Bool)
     (question : Question P) (config : Configured E N) (early : EarlyModel E N) (profile : EvaluatableModel E)
     → IsProfileOf config question.profile early

@@ -1,4 +1,4 @@
--- A load that ends for want of memory before it begins.
+-- A load that ends because memory ran out before it begins.
 use Rattle.std.proofs.Common.{◌≡◌, List, [], Err, refl, sym, subst, append-nil, inl, ◌∙◌}
 use Rattle.nextest_engines.specs.Readings.{Readings}
 use Rattle.nextest_load.specs.Load.{Loaded, IsLoad}

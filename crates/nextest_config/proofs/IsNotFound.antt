@@ -20,7 +20,7 @@ key_at : {X : Type 0} (found same : Bool) (x : X) (later : Option X) (seen : Boo
 key_at true same x later seen is rest = ap (λ b. b || seen) is
 key_at false same x later seen is rest = rest ∙ ap (λ b. b || seen) is
 
--- a name is one of these exactly where the map has it
+-- a name is one of these exactly if the map has it
 known_at : {X : Type 0} (es : List (String Global × X)) (name : Name)
     → is_some (lookup (is_at (λ key. slice_cmp nat_cmp name (string_bytes key))) es)
     ≡ is_one_of (map (λ e. string_bytes e.0) es) name

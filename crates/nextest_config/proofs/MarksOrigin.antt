@@ -9,7 +9,7 @@ pub marked : {S : Type 0} (f : S → Origin) (source : S) (o : Option Origin)
 marked f source None marks = absurd marks
 marked f source (Some origin) marks = ap Some (sym marks)
 
--- no mark tells that there is no origin
+-- no mark means that there is no origin
 pub unmarked : {S : Type 0} (shows : S → Origin → Type 0) (o : Option Origin) → MarksOrigin shows None o → o ≡ None
 unmarked shows None marks = refl
 unmarked shows (Some origin) marks = absurd marks

@@ -1,4 +1,4 @@
--- How a refusal of a load tells its ending.
+-- The ending of a load, by its refusal.
 use Rattle.std.proofs.Common.{◌≡◌, true, false, not, is_some, Option, None, Some, refl, option_map}
 use Rattle.nextest_sources.specs.Causes.{LoadCause}
 use Rattle.nextest_sources.specs.Endings.{ending_at, ending_with}
@@ -21,7 +21,7 @@ pub with_source : (source : Option Source) (kind : ConfigParseErrorKind) → is_
 with_source (Some source) kind is = at_cause source (cause_view kind)
 with_source None kind is = cc
 
--- a refusal without a source is want of memory
+-- a refusal without a source is a refusal of memory
 pub without_source : (source : Option Source) (kind : ConfigParseErrorKind) → is_some source ≡ false
     → is_some source ≡ not (is_memory kind)
     → TellsEnding (ending_with source kind) out_of_memory

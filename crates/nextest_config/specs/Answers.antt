@@ -1,4 +1,4 @@
--- What one profile of a configuration answers for tests, before it is held against what was asked.
+-- The result of one profile of a configuration for tests, before it is compared with the request.
 use Rattle.std.specs.Prelude.{◌≡◌, ◌++◌, ℕ, List, Bool, Option, Result, IfOk}
 use Rattle.std.specs.List.{AllZip, flat_map}
 use Rattle.nextest_elements.specs.declared.run_mode.NextestRunMode.{NextestRunMode}
@@ -11,14 +11,14 @@ use Rattle.nextest_tables.specs.FileTexts.{names_in, IsIn}
 use Rattle.nextest_tables.specs.Written.{Name}
 use Rattle.nextest_config.specs.Headline.{Row, Refusal, IfBadConfig, IfNoProfile, IfRefused, IsMissing, IsTestRow, numbers_for}
 
--- what is asked of a configuration
+-- a request to a configuration
 pub record Question (P : Type 0) : Type 0 where
   pub profile : Name
   pub platforms : BuildPlatforms P
   pub mode : NextestRunMode
   pub tests : List Test
 
--- A profile on the platforms that are asked for: that of the name, by its chain.
+-- A profile on the platforms that are requested: that of the name, by its chain.
 pub record IsAskedProfile {M K P : Type 0} (meets : K → P → Option Bool)
     (configured : Configured M K) (question : Question P) (profile : EvaluatableModel M) : Type 0
   where
@@ -34,7 +34,7 @@ pub record AreRowsIn {M : Type 0} (matches : M → Test → M → Bool) (profile
   pub each : AllZip (IsTestRow matches profile mode) tests rows
   pub evaluated : numbers ≡ flat_map (numbers_for matches profile mode) tests
 
--- Rows are those of the tests that are asked about, in the profile that is asked for.
+-- Rows are those of the requested tests, in the requested profile.
 pub record AreAskedRows {M K P : Type 0} (meets : K → P → Option Bool)
     (matches : M → Test → M → Bool) (configured : Configured M K) (question : Question P)
     (rows : List Row) (numbers : List ℕ) : Type 0 where
@@ -43,7 +43,7 @@ pub record AreAskedRows {M K P : Type 0} (meets : K → P → Option Bool)
   pub is_profile : IsAskedProfile meets configured question profile
   pub are_rows : AreRowsIn matches profile question.mode question.tests rows numbers
 
--- What a configuration answers: rows, or that the profile is missing, or want of memory.
+-- The result of a configuration: rows, or that the profile is missing, or a refusal of memory.
 pub record Answers {M K P : Type 0} (meets : K → P → Option Bool) (matches : M → Test → M → Bool)
     (configured : Configured M K) (question : Question P) (answer : Result (List Row) Refusal)
     (old new : List ℕ) : Type 0 where

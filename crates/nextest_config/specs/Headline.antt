@@ -29,7 +29,7 @@ use Rattle.nextest_settings.specs.Profile.{Configured, EvaluatableModel, profile
 use Rattle.nextest_settings.specs.Queries.{query_in, filters_of, setting_value, Origin, setting_origin, evaluated_for_test, IsEvaluatedForTest}
 use Rattle.nextest_settings.specs.Settings.{ValueOf}
 
--- What is asked: files, features, a profile, the platforms of a build, a mode and tests.
+-- A request: files, features, a profile, the platforms of a build, a mode and tests.
 pub record Request (P : Type 0) : Type 0 where
   pub root : List ℕ
   pub files : LoadInputs
@@ -44,14 +44,14 @@ pub record Row : Type 0 where
   pub value : (s : Setting) → Option (ValueOf s)
   pub source : Setting → Option Origin
 
--- Why no rows are answered: the configuration is refused, it has no profile of the name, or memory
+-- Why no rows are returned: the configuration is refused, it has no profile of the name, or memory
 -- ran out.
 pub data Refusal : Type 0 where
   bad_config : Option LoadFault → Refusal
   no_profile : (name : Name) → (profiles : List Name) → Refusal
   out_of_memory : Refusal
 
--- What a run did: its answer, and the warnings and the evaluations before and after it.
+-- What a run did: its result, and the warnings and the evaluations before and after it.
 pub record Run : Type 0 where
   pub answer : Result (List Row) Refusal
   pub warnings_old : List Warning
@@ -59,7 +59,7 @@ pub record Run : Type 0 where
   pub numbers_old : List ℕ
   pub numbers_new : List ℕ
 
--- a fact of the fault that is told, where the configuration is refused
+-- a fact of the fault that is reported, where the configuration is refused
 abbrev pub IfBadConfig : Result (List Row) Refusal → (Option LoadFault → Type 0) → Type 0
 IfBadConfig (Err (bad_config fault)) P = P fault
 IfBadConfig (Err (no_profile name profiles)) P = Unit {0}
@@ -73,7 +73,7 @@ IfNoProfile (Err (bad_config fault)) P = Unit {0}
 IfNoProfile (Err out_of_memory) P = Unit {0}
 IfNoProfile (Ok rows) P = Unit {0}
 
--- a fact of a refusal for another cause than want of memory
+-- a fact of a refusal for another cause than memory
 abbrev pub IfRefused : Result (List Row) Refusal → Type 0 → Type 0
 IfRefused (Err (bad_config fault)) P = P
 IfRefused (Err (no_profile name profiles)) P = P
@@ -85,11 +85,11 @@ abbrev pub IsFollowed : {X : Type 0} → Result (List Row) Refusal → List X �
 IsFollowed (Err out_of_memory) old new more = IsFollowedInPart old new more
 IsFollowed _ old new more = new ≡ old ++ more
 
--- every written rule holds of the files that are asked about
+-- the files of the request satisfy every written rule
 abbrev pub RulesHold : {M K P : Type 0} → Readings M K P → Request P → Type 0
 RulesHold engines request = IsAccepted engines request.features request.files
 
--- the steps of the load that is asked for
+-- the steps of the load that is requested
 abbrev pub steps_for : {M K P : Type 0} → Readings M K P → Request P → List LoadStep
 steps_for engines request = load_steps engines request.features request.files
 
@@ -105,8 +105,8 @@ pub record IsRefused {M K P : Type 0} (engines : Readings M K P) (request : Requ
   pub first : first_fault (steps_for engines request) ≡ fault
   pub is_fault : IsSome fault
 
--- A profile is missing: its name is the one that was asked for, it is none of these names, and they
--- are all told, in the order of their bytes.
+-- A profile is missing: its name is the one that was requested, it is none of these names, and they
+-- are all reported, in the order of their bytes.
 pub record IsMissing (names : List Name) (asked : Name) (name : Name) (profiles : List Name)
     : Type 0 where
   pub same : name ≡ asked
@@ -114,7 +114,7 @@ pub record IsMissing (names : List Name) (asked : Name) (name : Name) (profiles 
   pub ascending : IsStrictlySortedBy (slice_cmp nat_cmp) profiles
   pub absent : ¬ IsIn profiles name
 
--- what is asked for, as a configuration with these scripts
+-- what is requested, as a configuration with these scripts
 abbrev pub configured_for : {M K P : Type 0} → Readings M K P → Request P → ScriptTables
     → Configured M K
 configured_for engines request scripts = record {
@@ -123,7 +123,7 @@ configured_for engines request scripts = record {
   scripts = scripts;
 }
 
--- A profile on the platforms that are asked for: it is the one of the name that was asked for, by
+-- A profile on the platforms that are requested: it is the one of the name that was requested, by
 -- its chain.
 pub record IsProfileFor {M K P : Type 0} (engines : Readings M K P) (request : Request P)
     (scripts : ScriptTables) (profile : EvaluatableModel M) : Type 0 where
@@ -149,7 +149,7 @@ abbrev pub numbers_for : {M : Type 0} → (M → Test → M → Bool) → Evalua
 numbers_for matches profile mode test =
     evaluated_for_test (query_in matches profile test) mode profile
 
--- Rows are those of the tests that are asked about, and these numbers of rules were evaluated.
+-- Rows are those of the requested tests, and these numbers of rules were evaluated.
 pub record AreRows {M K P : Type 0} (engines : Readings M K P) (request : Request P)
     (rows : List Row) (numbers : List ℕ) : Type 0 where
   -- The configuration has a profile of the name.
@@ -157,7 +157,7 @@ pub record AreRows {M K P : Type 0} (engines : Readings M K P) (request : Reques
   -- Its scripts are those that the files define, in their order.
   pub scripts : ScriptTables
   pub are_scripts : AreScriptsOf (sources_in request.files) scripts
-  -- The profile is the one of the name, by its chain, on the platforms that are asked for.
+  -- The profile is the one of the name, by its chain, on the platforms that are requested.
   pub profile : EvaluatableModel M
   pub is_profile : IsProfileFor engines request scripts profile
   -- The configuration is closed: nothing in it names anything undefined.
@@ -180,22 +180,22 @@ pub record AreRows {M K P : Type 0} (engines : Readings M K P) (request : Reques
   pub count : (test : Test) → length (numbers_for engines.matches_test profile request.mode test)
       ≤ count_by is_some (filters_of profile)
 
--- For every list of sources, load answers a configuration exactly where every written rule holds;
+-- For every list of sources, load returns a configuration exactly if every written rule holds;
 -- then no query of any profile, platforms, mode and test meets an undefined script, group, parent
 -- or a cycle, and each setting is the value at the first rule, in order of chain, file and index,
 -- whose platforms and filter hold and which sets it, else the nearest profile's value or the stated
 -- fallback.
 pub record Resolves {M K P : Type 0} (engines : Readings M K P) (request : Request P) (run : Run)
     : Type 0 where
-  -- Rows are answered only where every written rule holds of the files.
+  -- Rows are returned only if the files satisfy every written rule.
   pub acceptance : IfOk run.answer (λ _. RulesHold engines request)
-  -- A configuration is refused only where some rule does not hold, and for the first fault of the
+  -- A configuration is refused only if some rule does not hold, and for the first fault of the
   -- load.
   pub refusal : IfBadConfig run.answer (IsRefused engines request)
-  -- An element that is refused is the least fault of its tree, and refused parents tell exactly its
+  -- An element that is refused is the least fault of its tree, and refused parents name exactly its
   -- cycles.
   pub exact : IfBadConfig run.answer (λ fault. IfSome fault (IsExact request.files))
-  -- A profile is missing only where every rule holds and the configuration has none of that name.
+  -- A profile is missing only if every rule holds and the configuration has none of that name.
   pub absence : IfNoProfile run.answer (λ name profiles. RulesHold engines request
       × IsMissing (profile_names engines request) request.profile name profiles)
   -- The warnings are those of the load before its first fault.
@@ -203,7 +203,7 @@ pub record Resolves {M K P : Type 0} (engines : Readings M K P) (request : Reque
       (warnings_before (steps_for engines request))
   -- Where the configuration is refused or the profile is missing, no rule was evaluated.
   pub unasked : IfRefused run.answer (run.numbers_new ≡ run.numbers_old)
-  -- Numbers of rules go to the tally, after those that stood there.
+  -- Numbers of rules go to the tally, after those that were there.
   pub numbers : List ℕ
   pub tally : run.numbers_new ≡ run.numbers_old ++ numbers
   -- Rows are those of the tests, and these numbers are exactly those of the evaluated rules.

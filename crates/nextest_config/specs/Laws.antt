@@ -96,7 +96,7 @@ enabled_for engines p tests = enabled_scripts (map (query_in engines.matches_tes
 
 -- Two profiles give the same: each test the same settings, each binary the same list wrapper, each
 -- id of a wrapper the same script; tests enable the same setup scripts, whatever their order; and
--- the default filter is the same, as is the place where it stands.
+-- the default filter is the same, as is the place where it is.
 pub record GiveTheSame {M K P : Type 0} (engines : Readings M K P) (p q : EvaluatableModel M)
     : Type 0 where
   pub tests : (test : Test) → GiveTestTheSame engines p q test
@@ -224,7 +224,7 @@ pub record DecidesTheRest {M K P : Type 0} (engines : Readings M K P) (old new :
       (setting_value asked mode new s ≡ sets rule.writes.settings mode s)
       × (setting_origin asked mode new s ≡ Some (by_override rule.writes.id))
 
--- A LAST RULE. Where one more override stands behind all others of a profile, and its default
+-- A LAST RULE. Where one more override is behind all others of a profile, and its default
 -- filter is not chosen, it gives a test what it decides and nothing else, and the default filter
 -- stays.
 abbrev pub LastRule : {M K P : Type 0} → Readings M K P → Type 0

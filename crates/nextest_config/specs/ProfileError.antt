@@ -9,8 +9,8 @@ use Rattle.nextest_config.specs.declared.profile_error.ProfileError.{ProfileErro
 use Rattle.nextest_config.specs.declared.profile_error.ProfileError.TheVariants.{NotFound, Memory}
 use Rattle.nextest_config.specs.declared.profile_error.ProfileNotFound.{ProfileNotFound}
 
--- A name is told as missing: it is none of these names, and all of them are told, in the order of
--- their bytes.
+-- A name is reported as missing: it is none of these names, and all of them are reported, in the
+-- order of their bytes.
 pub record TellsMissing (names : List Name) (name : Name) (missing : ProfileNotFound) : Type 0 where
   pub same : string_bytes missing.name ≡ name
   pub absent : is_one_of names name ≡ false
@@ -18,7 +18,7 @@ pub record TellsMissing (names : List Name) (name : Name) (missing : ProfileNotF
   pub ascending :
       IsStrictlySortedBy (slice_cmp nat_cmp) (map string_bytes missing.known.items)
 
--- no profile has the name, where the refusal is not want of memory
+-- no profile has the name, if the refusal is not one of memory
 abbrev pub IsNotFound : List Name → Name → ProfileError → Type 0
 IsNotFound names name (NotFound missing) = TellsMissing names name missing
 IsNotFound names name Memory = Unit {0}

@@ -12,7 +12,7 @@ use Rattle.nextest_config.specs.declared.run.row.PlainSource.{PlainSource}
 use Rattle.nextest_config.specs.declared.run.row.PlainSource.TheVariants.{Default, Profile, Override, Script}
 use Rattle.nextest_config.specs.declared.run.row.TestRow.{TestRow}
 
--- the origin that a source tells
+-- the origin of a source
 abbrev pub origin_view : PlainSource → Origin
 origin_view Default = unwritten
 origin_view Profile = by_profile

@@ -1,4 +1,4 @@
--- What contracts see of a run: what is asked, and what is answered.
+-- What contracts see of a run: the request, and the result.
 use Rattle.std.specs.Prelude.{◌≡◌, ℕ, List, map, Option, None, Some, Result, Ok, Err, Vec, string_bytes}
 use Rattle.std.specs.declared.alloc.Global.{Global}
 use Rattle.nextest_elements.specs.declared.run_mode.NextestRunMode.{NextestRunMode}
@@ -20,7 +20,7 @@ use Rattle.nextest_config.specs.declared.run.fault.ResolveFault.{ResolveFault}
 use Rattle.nextest_config.specs.declared.run.fault.ResolveFault.TheVariants.{Config, NoProfile, Memory}
 use Rattle.nextest_config.specs.declared.run.row.TestRow.{TestRow}
 
--- what is asked
+-- the request
 abbrev pub request_view : {P : Type 0} → Inputs → List ℕ → BuildPlatforms P → NextestRunMode
     → List TestQuery → Request P
 request_view inputs profile platforms mode tests = record {
@@ -33,7 +33,7 @@ request_view inputs profile platforms mode tests = record {
   tests = map test_view tests;
 }
 
--- what is asked of a configuration
+-- a request to a configuration
 abbrev pub question_view : {P : Type 0} → List ℕ → BuildPlatforms P → NextestRunMode
     → List TestQuery → Question P
 question_view profile platforms mode tests = record {
@@ -50,14 +50,14 @@ fault_of_ending (refused fault) = Some fault
 fault_of_ending no_memory = None
 fault_of_ending malformed = None
 
--- why no rows are answered
+-- why no rows are returned
 abbrev pub refusal_view : ResolveFault → Refusal
 refusal_view (Config error) = bad_config (fault_of_ending (error_view error))
 refusal_view (NoProfile missing) =
     no_profile (string_bytes missing.name) (map string_bytes missing.known.items)
 refusal_view Memory = out_of_memory
 
--- a refusal tells how a load ended
+-- how a load ended, by a refusal
 abbrev pub TellsEnding : Ending → Refusal → Type 0
 TellsEnding passed refusal = Unit {0}
 TellsEnding (refused fault) refusal = refusal ≡ bad_config (Some fault)
@@ -69,12 +69,12 @@ abbrev pub profile_fault : ProfileError → ResolveFault
 profile_fault (errors.NotFound missing) = NoProfile missing
 profile_fault errors.Memory = Memory
 
--- what is answered
+-- the result
 abbrev pub answer_view : Result (Vec TestRow Global) ResolveFault → Result (List Row) Refusal
 answer_view (Ok rows) = Ok (map row_view rows.items)
 answer_view (Err fault) = Err (refusal_view fault)
 
--- a run: its answer, and warnings and evaluations before and after it
+-- a run: its result, and warnings and evaluations before and after it
 abbrev pub run_view : Result (List Row) Refusal → List Warning → List Warning → List ℕ → List ℕ
     → Run
 run_view answer warnings_old warnings_new numbers_old numbers_new = record {

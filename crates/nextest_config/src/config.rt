@@ -100,7 +100,7 @@ impl<F: Filters, S: Specs> NextestConfig<F, S> {
     /// The text of the defaults, the lowest of all sources.
     pub const DEFAULT_CONFIG: &'static str = DEFAULT_CONFIG;
 
-    /// The configuration that a load answers, with the warnings that were kept of it.
+    /// The configuration that a load returns, with the warnings that were kept of it.
     fn from_load(
         workspace_root: String,
         loaded: Result<LoadedConfig<F, S>, ConfigParseError>,

@@ -36,7 +36,7 @@ pub mod run;
 pub use config::{CONFIG_PATH, DEFAULT_PROFILES, ENVIRONMENT_PREFIX, NextestConfig};
 pub use profile_error::{ProfileError, ProfileNotFound};
 
-// The engines, and what is asked of them.
+// The engines, and their queries.
 pub use nextest_engines::{
     BinaryQuery, BuildPlatform, BuildPlatforms, EvalContext, FilterFault, Filters, FiltersetKind,
     LabeledSpan, NameMatcher, ParseContext, Refusal, SpecFault, Specs, Tally, TestQuery,

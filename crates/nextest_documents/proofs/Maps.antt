@@ -1,4 +1,4 @@
--- A map beside the members that it stands for.
+-- A map beside the members that it means.
 use Rattle.std.proofs.Common.{◌≡◌, ℕ, List, [], ◌∷◌, ◌++◌, cond, Some, None, String, Global, Ordering, Less, Equal, Greater, nat_cmp, string_bytes, is_eq, refl, ap, ◌∙◌}
 use Rattle.std.proofs.lemmas.Cmp.{nat_list_cmp_total}
 use Rattle.std.specs.Cmp.Lexicographic.{slice_cmp}

@@ -1,4 +1,4 @@
--- A map whose entries were laid upon others, beside the members that it stands for.
+-- A map whose entries were laid upon others, beside the members that it means.
 use Rattle.std.proofs.Common.{rules, ◌≡◌, ℕ, List, [], ◌∷◌, ◌++◌, cond, Option, Some, None, String, Global, Ordering, Less, Equal, Greater, string_bytes, is_eq, refl, sym, ap, ◌∙◌, subst}
 use Rattle.std.specs.List.Sorted.{IsStrictlySortedBy}
 use Rattle.std.specs.Map.{keys_of, remove_entry}
@@ -97,7 +97,7 @@ added_at (Displaced-F.Within v) d is other e =
     sym e ∙ ap displaced_view (is ∙ rolls-Within v) ∙ seen_within v in
     let never : ⊥ = cc in never
 
--- what stands under an entry that did not come to where nothing stood
+-- what is under an entry that did not come to where nothing stood
 pub under_is : (above : Node) (there : Option Node) (d : Displaced) → (d ≡ Added → ⊥)
     → displaced_view d ≡ option_map_or (λ m. displaced_by above m) there added
     → (lower : Node) × (there ≡ Some lower) × (displaced_view d ≡ displaced_by above lower)

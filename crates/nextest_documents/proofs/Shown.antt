@@ -42,7 +42,7 @@ none : (q : List ℕ) (ps : Path) (hs : Entries) (k : Kind) → get q hs ≡ Non
 none q ps hs k at (by_leaf l) = none_at q ps hs l.rest l.value at l.front l.splits l.leaf
 none q ps hs (a_leaf v) at (by_table h) = let bad : None ≡ Some a_table = rw at at h in cc
 
--- a node of what was laid over, by the entry that stands there
+-- a node of what was laid over, by the entry that is there
 abbrev MembersOfTwo : List ℕ → Path → Entries → Entries → Kind → Type 0
 MembersOfTwo q ps hs ls k = OfTwo (table hs) (table ls) (q ∷ ps) k
 

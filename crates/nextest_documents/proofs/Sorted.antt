@@ -37,7 +37,7 @@ put_sorted : (k : List ℕ) (n : Node) (es : Entries) → IsSorted n → Entries
 put_sorted k n no_entries h s = (tt, h, tt)
 put_sorted k n (entry l m es) h s = put_at (cmp k l) k l n m es refl h s (put_sorted k n es h s.2)
 
--- what stands there, if anything does, is sorted
+-- what is there, if anything is, is sorted
 abbrev pub IsSortedThere : Option Node → Type 0
 IsSortedThere None = Unit {0}
 IsSortedThere (Some n) = IsSorted n

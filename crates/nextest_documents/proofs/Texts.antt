@@ -6,7 +6,7 @@ use Rattle.nextest_tree.specs.Node.{table, Entries, no_entries}
 use Rattle.nextest_documents.specs.Text.{tree_of}
 use Rattle.nextest_documents.specs.Value.{from_members}
 
--- the entries of a text's table, none where the text is no document
+-- the entries of a text's table, none where the text is not a document
 abbrev pub entries_in : List ℕ → Entries
 entries_in text = unwrap_or (option_map from_members (parse_document text)) no_entries
 

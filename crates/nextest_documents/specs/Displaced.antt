@@ -16,7 +16,7 @@ mutual
     under : List ℕ → Under → Unders → Unders
 
 abbrev mutual
-  -- two tables unite; anything else that is higher displaces all that stands below
+  -- two tables unite; anything else that is higher displaces all that is below
   pub displaced_by : Node → Node → Under
   displaced_by (table above) (table below) = within (entries_displaced_by above below)
   displaced_by above below = replaced below

@@ -1,4 +1,4 @@
--- What a `Displaced` stands for.
+-- What a `Displaced` means.
 use Rattle.std.specs.Prelude.{List, [], ◌∷◌, map, String, string_bytes}
 use Rattle.std.specs.declared.alloc.Global.{Global}
 use Rattle.nextest_tree.specs.View.{tree_view}

@@ -4,7 +4,7 @@ use Rattle.std.specs.Option.{option_map_or}
 use Rattle.nextest_tree.specs.Node.{Node, table, Entries, no_entries, entry, get, put}
 
 abbrev mutual
-  -- two tables unite; anything else that is higher replaces what stands below
+  -- two tables unite; anything else that is higher replaces what is below
   pub over : Node → Node → Node
   over (table above) (table below) = table (entries_over above below)
   over above _ = above

@@ -18,7 +18,7 @@ abbrev pub kind_of : Node → Kind
 kind_of (table es) = a_table
 kind_of n = a_leaf n
 
--- the kind of what stands at a path, if something stands there: only tables are gone through
+-- the kind of what is at a path, if something is there: only tables are gone through
 abbrev pub node_at : Path → Node → Option Kind
 node_at [] n = Some (kind_of n)
 node_at (k ∷ ks) (table es) = option_and_then (node_at ks) (get k es)
@@ -39,7 +39,7 @@ pub data Hides (layer : Node) (p : Path) : Kind → Type 0 where
   by_table : {v : Node} → node_at p layer ≡ Some a_table → Hides layer p (a_leaf v)
 
 -- some layer has this node at the path, and no layer above that one hides it; the lowest layer
--- stands first
+-- is first
 pub record IsShown (layers : List Node) (p : Path) (k : Kind) : Type 0 where
   pub below : List Node
   pub layer : Node

@@ -1,4 +1,4 @@
--- The node that a text stands for.
+-- The node that a text means.
 use Rattle.std.specs.Prelude.{ℕ, ◌≤◌, List, length, Option, option_map}
 use Rattle.toml.specs.Parse.{parse_document}
 use Rattle.nextest_tree.specs.Node.{Node, table}
@@ -10,7 +10,7 @@ use Rattle.nextest_documents.specs.declared.document.TextFault.TheVariants.{NotD
 abbrev pub tree_of : List ℕ → Option Node
 tree_of text = option_map (λ members. table (from_members members)) (parse_document text)
 
--- the fault is the text's, and not want of memory
+-- the fault is the text's, and not a refusal of memory
 abbrev pub IsNotDocument : TextFault → Type 0
 IsNotDocument (NotDocument fault) = Unit {0}
 IsNotDocument Memory = ⊥

@@ -10,7 +10,7 @@ use std::alloc::{AllocError, Global};
 use std::ops::Range;
 use thiserror::Error;
 
-/// Why a text is no TOML document.
+/// Why a text is not a TOML document.
 #[derive(Debug, Drop, Error)]
 #[error("{message}")]
 pub struct DocumentFault {
@@ -25,10 +25,10 @@ pub struct DocumentFault {
 /// Why a text gives no tree.
 #[derive(Debug, Drop, Error)]
 pub enum TextFault {
-    /// The text is no TOML document.
+    /// The text is not a TOML document.
     #[error("{0}")]
     NotDocument(DocumentFault),
-    /// Want of memory, which says nothing of the text.
+    /// A refusal of memory, which says nothing of the text.
     #[error("out of memory")]
     Memory,
 }
@@ -64,7 +64,7 @@ impl TextFault {
 ///
 /// # Errors
 ///
-/// [`TextFault::NotDocument`] if the text is no TOML document, with the bytes at fault.
+/// [`TextFault::NotDocument`] if the text is not a TOML document, with the bytes at fault.
 /// [`TextFault::Memory`] if memory ran out.
 pub fn tree_from_text(alloc: Global, text: &str) -> Result<Tree, TextFault>
     ensures is { IfOk result (λ tree. tree_of text.now ≡ Some (tree_view tree)) }

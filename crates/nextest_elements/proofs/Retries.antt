@@ -15,7 +15,7 @@ use Rattle.std.proofs.Common.{Result, Ok}
 use Rattle.nextest_elements.specs.RetryPolicy.{backoff_at, count_at, is_below, IsFixedRetry, IsExponentialRetry, IsRetryTable}
 use Rattle.nextest_elements.specs.RetryFunction.{retry_table, policy_of}
 
--- what is read at a key, or what stands for it
+-- what is read at a key, or what means it
 pub leaf_defaulted : {X : Type 0} (read : Node → Result X FaultCause) (d : X) (o : Option Node) (x : X)
     → IsDefaulted d (λ n x. read n ≡ Ok x) o x → unwrap_or (leaf_at read o) d ≡ x
 leaf_defaulted read d None x h = sym h

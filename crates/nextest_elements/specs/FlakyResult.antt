@@ -1,4 +1,4 @@
--- What becomes of a flaky test.
+-- The result of a flaky test.
 use Rattle.std.specs.Prelude.{ℕ, List, [], ◌∷◌, Result, codes}
 use Rattle.nextest_elements.specs.declared.flaky_result.FlakyResult.{FlakyResult}
 use Rattle.nextest_elements.specs.declared.flaky_result.FlakyResult.TheVariants as results
@@ -7,12 +7,12 @@ use Rattle.nextest_tree.specs.Schema.{FaultCause, Schema}
 use Rattle.nextest_tree.specs.Leaf.{value, name_at}
 use Rattle.nextest_tree.specs.Spelling.{spellings}
 
--- what becomes of a flaky test, as it is written
+-- the result of a flaky test, as it is written
 abbrev pub flaky_result_text : FlakyResult → List ℕ
 flaky_result_text results.Pass = codes "pass"
 flaky_result_text results.Fail = codes "fail"
 
--- the names of what becomes of a flaky test
+-- the names of the results of a flaky test
 unfoldable pub flaky_result_names : List (List ℕ × FlakyResult)
 flaky_result_names = spellings flaky_result_text (results.Pass ∷ results.Fail ∷ [])
 
@@ -20,7 +20,7 @@ flaky_result_names = spellings flaky_result_text (results.Pass ∷ results.Fail 
 unfoldable pub flaky_result_expected : List ℕ
 flaky_result_expected = codes "`pass`, `fail`"
 
--- what becomes of a flaky test, as a node spells it
+-- the result of a flaky test, as a node spells it
 abbrev pub flaky_result_at : Node → Result FlakyResult FaultCause
 flaky_result_at = name_at flaky_result_names flaky_result_expected
 

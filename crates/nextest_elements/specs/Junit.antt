@@ -78,7 +78,7 @@ junit_override_fields =
 unfoldable pub a_junit_override : Schema
 a_junit_override = struct junit_override_fields
 
--- each field says what stands at its key
+-- each field says what is at its key
 pub record IsJunitOverride (es : Entries) (junit : JunitOverride) : Type 0 where
   pub store_success_output :
       IsOptional (Spells bool_at) (get (key_text StoreSuccessOutput) es) junit.store_success_output
@@ -99,7 +99,7 @@ junit_fields = may Path a_text (may ReportName a_text junit_override_fields)
 unfoldable pub a_junit : Schema
 a_junit = struct junit_fields
 
--- each field says what stands at its key
+-- each field says what is at its key
 pub record IsJunit (es : Entries) (junit : JunitImpl) : Type 0 where
   pub path : IsOptional IsText (get (key_text Path) es) junit.path
   pub report_name : IsOptional IsText (get (key_text ReportName) es) junit.report_name

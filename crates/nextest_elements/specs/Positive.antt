@@ -10,6 +10,6 @@ positive_at (int (pos n)) = if nat_lt 0 n then Ok n else Err out_of_range
 positive_at (int (negsuc n)) = Err out_of_range
 positive_at _ = Err wrong_kind
 
--- a number above 0, as it may stand in a tree
+-- a number above 0, as it may be in a tree
 unfoldable pub a_positive : Schema
 a_positive = value positive_at

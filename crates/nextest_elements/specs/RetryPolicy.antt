@@ -18,7 +18,7 @@ count_at (int (pos n)) = if nat_lt n 4294967296 then Ok n else Err out_of_range
 count_at (int (negsuc n)) = Err out_of_range
 count_at _ = Err wrong_kind
 
--- a number of tries, as it may stand in a tree
+-- a number of tries, as it may be in a tree
 unfoldable pub a_count : Schema
 a_count = value count_at
 

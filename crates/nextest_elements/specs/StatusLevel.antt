@@ -1,4 +1,4 @@
--- Which tests are told of.
+-- Which tests are shown.
 use Rattle.std.specs.Prelude.{ℕ, List, [], ◌∷◌, ◌++◌, Result, codes}
 use Rattle.nextest_elements.specs.declared.status_level.StatusLevel.{StatusLevel}
 use Rattle.nextest_elements.specs.declared.status_level.StatusLevel.TheVariants as levels
@@ -9,7 +9,7 @@ use Rattle.nextest_tree.specs.Schema.{FaultCause, Schema}
 use Rattle.nextest_tree.specs.Leaf.{value, name_at}
 use Rattle.nextest_tree.specs.Spelling.{spellings}
 
--- which tests are told of while they run, as it is written
+-- which tests are shown while they run, as it is written
 abbrev pub status_level_text : StatusLevel → List ℕ
 status_level_text levels.None = codes "none"
 status_level_text levels.Fail = codes "fail"
@@ -30,7 +30,7 @@ status_level_names = spellings status_level_text
 unfoldable pub status_level_expected : List ℕ
 status_level_expected = codes "`none`, `fail`, `retry`, `slow`, `leak`, `pass`, `skip`, `all`"
 
--- which tests are told of while they run, as a node spells it
+-- which tests are shown while they run, as a node spells it
 abbrev pub status_level_at : Node → Result StatusLevel FaultCause
 status_level_at = name_at status_level_names status_level_expected
 
@@ -38,7 +38,7 @@ status_level_at = name_at status_level_names status_level_expected
 unfoldable pub a_status_level : Schema
 a_status_level = value status_level_at
 
--- which tests are told of at the end of a run, as it is written
+-- which tests are shown at the end of a run, as it is written
 abbrev pub final_status_level_text : FinalStatusLevel → List ℕ
 final_status_level_text final_levels.None = codes "none"
 final_status_level_text final_levels.Fail = codes "fail"
@@ -49,7 +49,7 @@ final_status_level_text final_levels.Leak = codes "leak"
 final_status_level_text final_levels.Pass = codes "pass"
 final_status_level_text final_levels.All = codes "all"
 
--- the names of the levels at the end of a run; `retry` stands for `flaky` too
+-- the names of the levels at the end of a run; `retry` means `flaky` too
 unfoldable pub final_status_level_names : List (List ℕ × FinalStatusLevel)
 final_status_level_names = spellings final_status_level_text
     (final_levels.None ∷ final_levels.Fail ∷ final_levels.Flaky ∷ final_levels.Slow
@@ -60,7 +60,7 @@ final_status_level_names = spellings final_status_level_text
 unfoldable pub final_status_level_expected : List ℕ
 final_status_level_expected = codes "`none`, `fail`, `flaky`, `slow`, `skip`, `leak`, `pass`, `all`"
 
--- which tests are told of at the end of a run, as a node spells it
+-- which tests are shown at the end of a run, as a node spells it
 abbrev pub final_status_level_at : Node → Result FinalStatusLevel FaultCause
 final_status_level_at = name_at final_status_level_names final_status_level_expected
 

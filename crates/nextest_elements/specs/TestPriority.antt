@@ -9,6 +9,6 @@ abbrev pub priority_at : Node → Result ℤ FaultCause
 priority_at (int z) = if int_lt z (negsuc 99) || int_lt (pos 100) z then Err out_of_range else Ok z
 priority_at _ = Err wrong_kind
 
--- such a number, as it may stand in a tree
+-- such a number, as it may be in a tree
 unfoldable pub a_priority : Schema
 a_priority = value priority_at

@@ -15,7 +15,7 @@ threads_required_text (required.Count n) = decimal n
 threads_required_text required.NumCpus = codes "num-cpus"
 threads_required_text required.NumTestThreads = codes "num-test-threads"
 
--- the names that stand for a number of threads
+-- the names that mean a number of threads
 unfoldable pub threads_required_names : List (List ℕ × ThreadsRequired)
 threads_required_names =
     spellings threads_required_text (required.NumCpus ∷ required.NumTestThreads ∷ [])

@@ -1,4 +1,4 @@
-//! What becomes of a flaky test.
+//! The result of a flaky test.
 ghost use Rattle.std.specs.Prelude.{Some};
 ghost use Rattle.nextest_tree.specs.Leaf.{Spells};
 ghost use Rattle.nextest_elements.specs.FlakyResult.{flaky_result_at, flaky_result_text, a_flaky_result};
@@ -7,7 +7,7 @@ use nextest_tree::{Element, ElementFault, Tree, Walk, read_one_of};
 use std::alloc::Global;
 use std::fmt;
 
-/// What becomes of a test that passes only after it was tried again.
+/// The result of a test that passes only when it is retried.
 #[derive(Clone, Copy, Debug, PartialEq, Eq)]
 pub enum FlakyResult {
     /// It counts as passed.

@@ -38,7 +38,7 @@ named_test binary_id name = record {
   name = name;
 }
 
--- The binary that a query asks about.
+-- The binary of a query.
 abbrev pub binary_view : BinaryQuery → Binary
 binary_view query = record {
   package_id = query.package_id.now;
@@ -48,7 +48,7 @@ binary_view query = record {
   platform = query.platform;
 }
 
--- The test that a query asks about.
+-- The test of a query.
 abbrev pub test_view : TestQuery → Test
 test_view query = record { binary = binary_view query.binary_query; name = query.test_name.now }
 

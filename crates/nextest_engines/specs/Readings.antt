@@ -23,7 +23,7 @@ pub record Readings (M K P : Type 0) : Type 0 where
   pub matches_test : M → Test → M → Bool
   -- whether a filter matches a binary, or none where that depends on the test
   pub matches_binary : M → Binary → M → Option Bool
-  -- the parts of a filter that only a test can answer, as they are written
+  -- the parts of a filter that only a test can decide, as they are written
   pub leaves : M → List Text
   -- whether a platform meets a spec, or none where that is unknown
   pub meets : K → P → Option Bool

@@ -15,7 +15,7 @@ use thiserror::Error;
 /// Why a filter was not read.
 #[derive(Debug, Drop, Error)]
 pub enum FilterFault {
-    /// The text is no filter of its kind.
+    /// The text is not a filter of its kind.
     #[error("{0}")]
     Refused(Refusal),
     /// A growth of memory was refused.
@@ -58,7 +58,7 @@ pub trait Filters {
     /// Whether a filter matches a binary, or none where that depends on the test.
     ghost holds_binary: { Meaning → Binary → Meaning → Option Bool };
 
-    /// The parts of a filter that only a test can answer, as they are written.
+    /// The parts of a filter that only a test can decide, as they are written.
     ghost leaves: { Meaning → List (List ℕ) };
 
     /// Reads a filter.
@@ -103,7 +103,7 @@ pub trait Filters {
             (meaning cx.now.default_filter.now) }
         ensures tally { Self.Tally.numbers tally.new ≡ Self.Tally.numbers tally.old ++ rule ∷ [] };
 
-    /// The parts of a filter that only a test can answer, as they are written.
+    /// The parts of a filter that only a test can decide, as they are written.
     fn runtime_only_leaves(alloc: Global, expr: &Self::Expr) -> Result<Vec<String>, AllocError>
         ensures { IfOk result (λ found. map string_bytes found.items ≡ leaves (meaning expr.now)) };
 
@@ -115,7 +115,7 @@ pub trait Filters {
     ghost match_all_matches_binaries: { (binary : Binary) (default : Meaning)
         → holds_binary match_all binary default ≡ Some true };
 
-    /// A default filter with no part that only a test can answer has an answer for each binary.
+    /// A default filter with no part that only a test can decide has a known value for each binary.
     ghost default_filters_answer: { (self : Self) (text : List ℕ) (m : Meaning)
         → read self DefaultFilter text ≡ Ok m → leaves m ≡ []
         → (binary : Binary) (default : Meaning) → IsSome (holds_binary m binary default) };

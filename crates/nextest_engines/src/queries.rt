@@ -5,7 +5,7 @@ ghost use Rattle.nextest_engines.specs.Engines.{named_test, test_view};
 /// What a filter is written for.
 #[derive(Clone, Copy, Debug, PartialEq, Eq)]
 pub enum FiltersetKind {
-    /// A filter that a user asks for.
+    /// A filter that a user requests.
     Test,
     /// The filter of a rule.
     OverrideFilter,
@@ -57,7 +57,7 @@ pub struct TestQuery<'a> {
 
 impl<'a> TestQuery<'a> {
     /// The test of a name in the binary of an id, which is built for the target. What else filters
-    /// may ask of the binary is empty.
+    /// may use of the binary is empty.
     pub fn of(binary_id: &'a str, test_name: &'a str) -> TestQuery<'a>
         ensures { test_view result ≡ named_test binary_id.now test_name.now }
     {
@@ -75,7 +75,7 @@ impl<'a> TestQuery<'a> {
     }
 }
 
-/// What an evaluation knows besides the query: the default filter that `default()` stands for.
+/// What an evaluation knows besides the query: the default filter, for `default()`.
 #[derive_where(Clone, Copy)]
 pub struct EvalContext<'a, E> {
     /// What `default()` means, which is never `default()` itself.

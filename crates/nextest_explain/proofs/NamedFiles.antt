@@ -7,7 +7,7 @@ use Rattle.nextest_config.proofs.AreRows.{zip_push}
 use Rattle.nextest_sources.specs.Sources.{file_view}
 use Rattle.nextest_sources.specs.declared.sources.FileInput.{FileInput}
 
--- a file is seen through a reference as itself
+-- a file through a reference is the same
 pub seen_through : (lent : Option (Bor FileInput)) (file : Option FileInput) → option_copied lent ≡ file
     → option_map (λ f. file_view f.now) lent ≡ option_map file_view file
 seen_through None file same = ap (option_map file_view) same

@@ -171,7 +171,7 @@ sets_host_binary old set = record {
   };
 }
 
--- places are told whole
+-- places are reported whole
 pub sets_whole_places : (old : Options)
     → old.places ≡ told.Words
     → TakesOption (codes "--all" ∷ []) old (record old { places = told.Whole })

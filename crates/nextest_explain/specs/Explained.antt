@@ -21,7 +21,7 @@ use Rattle.nextest_explain.specs.declared.options.Places.{Places}
 abbrev pub usual_host : List ℕ
 usual_host = codes "x86_64-unknown-linux-gnu"
 
--- The test that a command asks about: nothing but its name, its binary's id and what that is built
+-- The test of a command: nothing but its name, its binary's id and what that is built
 -- for is known of it.
 abbrev pub asked_test : Command → Test
 asked_test command = record {
@@ -35,7 +35,7 @@ asked_test command = record {
   name = command.test.now;
 }
 
--- A command asks a request over files: of its root, its profile, its features, the platforms that
+-- A command requests over files: its root, its profile, its features, the platforms that
 -- it names, its mode and its one test.
 pub record Asks (command : Command) (files : LoadInputs) (request : Request (String Global))
     : Type 0 where
@@ -62,7 +62,7 @@ toy_readings = record {
   meets = λ spec platform. meets spec (string_bytes platform);
 }
 
--- Rows are those that a command asks for over files: by the toy engines they resolve its request.
+-- Rows are those that a command requests over files: by the toy engines they resolve its request.
 pub record AreRowsFor (command : Command) (files : LoadInputs) (rows : List Row) : Type 0 where
   pub request : Request (String Global)
   pub asks : Asks command files request
@@ -70,9 +70,9 @@ pub record AreRowsFor (command : Command) (files : LoadInputs) (rows : List Row)
   pub answered : run.answer ≡ Ok rows
   pub resolves : Resolves toy_readings request run
 
--- Rows are those that words ask for, and the words ask for places in this form: the words give a
--- command, and the rows are those of the command over the files that it names, as a reader gives
--- them.
+-- Rows are those that the arguments request, and the arguments request places in this form: the
+-- words give a command, and the rows are those of the command over the files that it names, as a
+-- reader gives them.
 pub record AreAskedRows (gives : List ℕ → Outcome → Type 0) (words : List (List ℕ))
     (places : Places) (rows : List Row) : Type 0 where
   pub command : Command
@@ -83,7 +83,8 @@ pub record AreAskedRows (gives : List ℕ → Outcome → Type 0) (words : List 
   pub are_rows : AreRowsFor command files rows
 
 -- A writer got lines: known bytes grew, by all of them or by a prefix, as `grows` says. They are
--- the lines of the rows that words ask for, with places in the form that the words ask for.
+-- the lines of the rows that the arguments request, with places in the form that the arguments
+-- request.
 pub record Explains (grows : Option (List ℕ) → Option (List ℕ) → List ℕ → Type 0)
     (gives : List ℕ → Outcome → Type 0) (words : List (List ℕ)) (old new : Option (List ℕ))
     : Type 0 where

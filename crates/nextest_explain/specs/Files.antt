@@ -23,7 +23,7 @@ sources_view sources = record {
 abbrev pub shared_path : List ℕ → List ℕ
 shared_path root = joined_path root (codes ".config/nextest.toml")
 
--- A file is the one at a path, and a reader may give what came of reading it.
+-- A file is the one at a path, and a reader may give the outcome of reading it.
 pub record IsFileAt (gives : List ℕ → Outcome → Type 0) (path : List ℕ) (file : InputFile)
     : Type 0 where
   pub same : file.path ≡ path

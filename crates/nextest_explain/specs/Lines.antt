@@ -13,23 +13,24 @@ use Rattle.nextest_texts.specs.Owner.{Owner, nobody, a_tool, the_organisation}
 use Rattle.nextest_explain.specs.declared.options.Places.{Places}
 use Rattle.nextest_explain.specs.declared.options.Places.TheVariants.{Words, Whole}
 
--- A file is told by its path as it is, and by who provides it, where that is not the repository.
+-- A file is reported by its path as it is, and by who provides it, where that is not the
+-- repository.
 abbrev pub provided : List ℕ → Owner → List ℕ
 provided path nobody = path
 provided path (a_tool tool) = path ++ codes " provided by tool `" ++ tool ++ codes "`"
 provided path the_organisation = path ++ codes " provided by organisation"
 
--- A source is told by its file and its owner.
+-- A source is reported by its file and its owner.
 abbrev pub where_text : Source → List ℕ
 where_text source = provided source.path (owner_of_source source.kind)
 
--- An override is told by the profile under which it stands, its position there, and its source.
+-- An override is reported by the profile under which it is, its position there, and its source.
 abbrev pub override_text : RuleId → List ℕ
 override_text rule =
     codes "override profile." ++ rule.profile ++ codes ".overrides." ++ decimal rule.index
     ++ codes " in " ++ where_text rule.source
 
--- An override, as lines are to tell it: in one word, or whole.
+-- An override, as lines show it: in one word, or whole.
 abbrev pub told_override : Places → RuleId → List ℕ
 told_override Words rule = codes "override"
 told_override Whole rule = override_text rule
@@ -46,7 +47,7 @@ told_place places (Some by_script) = codes "script"
 abbrev pub line_end : List ℕ
 line_end = 10 ∷ []
 
--- A line tells the name of a setting, its value in a row, and the place of that value.
+-- A line has the name of a setting, its value in a row, and the place of that value.
 abbrev pub line_of : Places → Row → Setting → List ℕ
 line_of places row s =
     setting_name s ++ codes ": " ++ value_text s (row.value s)

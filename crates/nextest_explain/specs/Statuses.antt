@@ -1,8 +1,8 @@
 -- The exit statuses of a run.
 use Rattle.std.specs.Prelude.{ℕ, ◌≡◌, ◌⊎◌}
 
--- The exit status of a run that has no lines of a test to tell: 2 where the words are no command, 3
--- where the configuration is refused, 4 where there is no such profile, 5 for want of memory.
+-- The exit status of a run that prints no lines of a test: 2 where the words are not a command, 3
+-- where the configuration is refused, 4 where there is no such profile, 5 if memory ran out.
 abbrev pub IsRefusalStatus : ℕ → Type 0
 IsRefusalStatus n = (n ≡ 2) ⊎ (n ≡ 3) ⊎ (n ≡ 4) ⊎ (n ≡ 5)
 

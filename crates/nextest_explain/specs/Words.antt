@@ -30,7 +30,7 @@ pub data Item : Type 0 where
   argument : (word : List ℕ) → Item
 
 -- The words that spell an item. The value of an option is the word behind it, whatever it is. A
--- tool stands before its path, with a colon between.
+-- tool is before its path, with a colon between.
 abbrev pub words_of : Item → List (List ℕ)
 words_of (config_file path) = codes "--config-file" ∷ path ∷ []
 words_of (organisation_config_file path) = codes "--organisation-config-file" ∷ path ∷ []

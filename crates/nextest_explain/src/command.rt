@@ -12,7 +12,7 @@ use std::alloc::{AllocError, Global};
 pub const USAGE: &str =
     "usage: config_explain ROOT PROFILE MODE BINARY TEST [--config-file P] [--organisation-config-file P] [--tool-config-file TOOL:PATH] [--experimental NAME] [--host T] [--target T] [--host-binary] [--all]";
 
-/// What the words ask for.
+/// What the arguments request.
 #[derive(Debug, Drop)]
 pub struct Command<'a> {
     /// The root of the workspace.
@@ -25,12 +25,12 @@ pub struct Command<'a> {
     pub options: Options<'a>,
 }
 
-/// Why words are no command.
+/// Why words are not a command.
 #[derive(Clone, Copy, Debug, PartialEq, Eq)]
 pub enum CommandError {
     /// The words are not as the usage says.
     Usage,
-    /// Want of memory.
+    /// Memory was refused.
     Memory,
 }
 

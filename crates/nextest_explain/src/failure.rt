@@ -8,15 +8,15 @@ use std::alloc::{AllocError, Global};
 /// Why the program ends without the lines of a test.
 #[derive(Drop)]
 pub enum Failure {
-    /// The words are no command.
+    /// The words are not a command.
     Usage,
     /// The run returns no row.
     Refused(ResolveFault),
-    /// Want of memory.
+    /// Memory was refused.
     Memory,
 }
 
-/// What standard error shows for want of memory.
+/// What standard error shows if memory ran out.
 pub const OUT_OF_MEMORY: &str = "error: out of memory\n";
 
 impl From<AllocError> for Failure {

@@ -9,7 +9,7 @@ use nextest_config::run::{PlainSource, TestRow};
 use nextest_config::{ConfigSource, IdentifierOwner, Setting};
 use std::alloc::{AllocError, Global};
 
-/// A source as lines tell it: the path of its file as it is, and who provides it.
+/// A source in a line: the path of its file as it is, and who provides it.
 fn where_text(alloc: Global, source: &ConfigSource) -> Result<String, AllocError>
     ensures { IfOk result (λ text. string_bytes text ≡ lines.where_text (source_view source.now)) }
 {
@@ -21,7 +21,7 @@ fn where_text(alloc: Global, source: &ConfigSource) -> Result<String, AllocError
     }
 }
 
-/// An override as lines tell it, by where it stands.
+/// An override in a line, by where it is.
 fn override_text(
     alloc: Global,
     source: &ConfigSource,

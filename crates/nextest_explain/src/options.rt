@@ -180,7 +180,7 @@ impl<'a> Options<'a> {
     }
 }
 
-/// What stands before the first colon of a text, and behind it.
+/// What is before the first colon of a text, and behind it.
 fn split_at_colon(text: &str) -> Option<(&str, &str)>
     ensures { IfSome result (λ parts. text.now ≡ parts.0.now ++ 58 ∷ parts.1.now) }
 {

@@ -27,7 +27,7 @@ use toy_engines::platforms::ToySpecs;
 const HOST: &str = "x86_64-unknown-linux-gnu";
 
 /// Explains what a configuration gives a test, and returns the exit status: 0, or 2 for a usage
-/// fault, 3 for a refused configuration, 4 where there is no such profile, 5 for want of memory, 6
+/// fault, 3 for a refused configuration, 4 where there is no such profile, 5 if memory ran out, 6
 /// where a write fails. Warnings come first, also before a refusal. With status 0 the lines are those
 /// of the rows that resolve the request of the command that the words give, over the files that it
 /// names. After a write or a flush that failed nothing more is written: standard output then holds a
@@ -61,7 +61,7 @@ pub fn explain<R: FileReader, O: Write, E: Write>(
     }
 }
 
-/// Reports want of memory, without any, and returns the exit status as `explain` does.
+/// Reports that memory ran out, without taking any, and returns the exit status as `explain` does.
 pub fn refuse_for_memory<E: Write>(err: &mut E) -> u8
     ensures status { (result ≡ 5) ⊎ (result ≡ 6) }
     ensures message { (result ≡ 6)
@@ -70,7 +70,7 @@ pub fn refuse_for_memory<E: Write>(err: &mut E) -> u8
     status_of_write(err.write_all(OUT_OF_MEMORY.as_bytes()), 5)
 }
 
-/// Tells of a failure, and answers the exit status.
+/// Reports a failure, and returns the exit status.
 fn refuse<E: Write>(alloc: Global, failure: &Failure, err: &mut E) -> u8
     ensures { IsRefusalStatus result ⊎ (result ≡ 6) }
 {
@@ -102,14 +102,14 @@ fn warning_text(alloc: Global, warnings: &DefaultConfigWarnings) -> Result<Strin
     Ok(text)
 }
 
-/// The rows that words ask for, and how their lines tell places.
+/// The rows that the arguments request, and how their lines show places.
 #[derive(Drop)]
 struct Asked {
     rows: Vec<TestRow>,
     places: Places,
 }
 
-/// Writes the lines of rows, and answers the exit status.
+/// Writes the lines of rows, and returns the exit status.
 fn tell<O: Write, E: Write>(
     alloc: Global,
     rows: &[TestRow],
@@ -131,7 +131,7 @@ fn tell<O: Write, E: Write>(
     }
 }
 
-/// The rows that words ask for.
+/// The rows that the arguments request.
 fn run<R: FileReader>(
     alloc: Global,
     words: &[String],
@@ -151,7 +151,7 @@ fn run<R: FileReader>(
     })
 }
 
-/// The one row of the test that a command asks about.
+/// The one row of the test of a command.
 fn rows(
     alloc: Global,
     command: &Command<'_>,
@@ -203,7 +203,7 @@ fn platforms_of(alloc: Global, command: &Command<'_>) -> Result<BuildPlatforms<S
     })
 }
 
-/// The test that a command asks about.
+/// The test of a command.
 fn test_of<'a>(command: &Command<'a>) -> TestQuery<'a>
     ensures { test_view result ≡ asked_test command.now }
 {

@@ -24,8 +24,8 @@ pub enum ExplainFault {
     Memory,
 }
 
-/// Writes a beginning of some bytes, and answers how many. A call that fails, whatever the cause, or
-/// that takes none is a fault.
+/// Writes a beginning of some bytes, and returns how many. A call that fails, whatever the cause,
+/// or that takes none is a fault.
 #[tactic(auto, using(crate::proofs::Writers::kept_of_none))]
 fn write_some<W: Write>(bytes: &[u8], out: &mut W) -> Result<usize, ExplainFault>
     ensures bound { IfOk result (λ count. count ≤ length bytes.now) }
@@ -56,7 +56,7 @@ fn write_bytes<W: Write>(bytes: &[u8], out: &mut W) -> Result<(), ExplainFault>
     Ok(())
 }
 
-/// Writes the lines of rows, with places as they are asked for. All lines are made before the first
+/// Writes the lines of rows, with places as they are requested. All lines are made before the first
 /// is written.
 fn write_lines<W: Write>(
     alloc: Global,
@@ -79,9 +79,9 @@ fn write_lines<W: Write>(
 /// Writes a line for each setting of each row, with its value and its place: `default`, `profile`,
 /// `script`, a dash, or the override with its profile, its position there, and its file.
 ///
-/// All lines are made before the first is written: so want of memory leaves the writer as it was. A
-/// call of the writer that fails, whatever the cause, or that takes no byte ends it. It does not
-/// flush.
+/// All lines are made before the first is written: so a refusal of memory leaves the writer as it
+/// was. A call of the writer that fails, whatever the cause, or that takes no byte ends it. It does
+/// not flush.
 pub fn explain_all<W: Write>(
     alloc: Global,
     rows: &[TestRow],

@@ -1,4 +1,4 @@
--- Trees as the nodes that they stand for.
+-- Trees as the nodes that they mean.
 use Rattle.std.proofs.Common.{◌≡◌, List, [], ◌∷◌, None, String, Global, length, string_bytes, rules, refl}
 use Rattle.nextest_tree.specs.Node.{text}
 use Rattle.nextest_tree.specs.View.{nodes_view, tree_view}

@@ -1,4 +1,4 @@
--- Places as the schemas that they stand for, and their faults.
+-- Places as the schemas that they mean, and their faults.
 use Rattle.std.proofs.Common.{◌≡◌, ℕ, List, [], ◌∷◌, ◌++◌, Vec, Box, Global, Option, Some, None, rules, refl, sym, ap, ◌∙◌}
 use Rattle.nextest_tree.specs.Node.{Node, table, array, text, int, bool, opaque, Nodes, Entries, as_table, as_array}
 use Rattle.nextest_tree.specs.Schema.{FaultCause, Schema, any, leaf, fields, map_of, items_of, Fields, field, append_fields, at, faults, wrong_kind}

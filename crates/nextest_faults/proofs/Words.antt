@@ -127,7 +127,7 @@ growing_at (int z) s is = absurd (cc)
 growing_at (bool b) s is = absurd (cc)
 growing_at opaque s is = absurd (cc)
 
--- what is no text says nothing
+-- what is not a text says nothing
 pub not_growing : (n : Node) → None ≡ as_text n → false ≡ grows (result_ok (backoff_at n))
 not_growing (text t) is = absurd (cc)
 not_growing (table es) is = refl

@@ -8,7 +8,7 @@ use Rattle.nextest_tree.specs.declared.fault.ElementCause.TheVariants as causes
 use Rattle.nextest_tree.specs.Schema.{Fault, FaultCause, wrong_kind, missing, bad_value, out_of_range, unknown_field, below}
 use Rattle.nextest_faults.specs.declared.found.FoundFault.{FoundFault}
 
--- the cause of the definitions: want of memory is none
+-- the cause of the definitions: a refusal of memory has none
 abbrev pub cause_view : ElementCause → Option FaultCause
 cause_view causes.WrongKind = Some wrong_kind
 cause_view (causes.Missing k) = Some (missing (string_bytes k))
@@ -29,7 +29,7 @@ pub record Sees (c : Option FaultCause) (spec : Option FaultCause) : Type 0 wher
   pub seen : c ≡ Some cause
   pub meant : spec ≡ Some cause
 
--- there is a cause exactly where the definitions have one, and it is theirs
+-- there is a cause exactly if the definitions have one, and it is theirs
 abbrev pub IsCause : Option ElementCause → Option FaultCause → Type 0
 IsCause None spec = spec ≡ None
 IsCause (Some c) spec = Sees (cause_view c) spec

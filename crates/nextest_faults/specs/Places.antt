@@ -1,4 +1,4 @@
--- The schema that a `Place` stands for.
+-- The schema that a `Place` means.
 use Rattle.std.specs.Prelude.{ℕ, Bool, true, false, List, [], ◌∷◌, map, Option, None}
 use Rattle.nextest_tree.specs.Leaf.{cause_of, text_at, a_text, bool_at, a_bool, any_key}
 use Rattle.nextest_tree.specs.Node.{Node, Nodes, Entries}
@@ -126,7 +126,7 @@ abbrev pub others_view : Others → schemas.Others
 others_view others.Noted = are_noted
 others_view others.Refused = are_refused
 
--- some fields, each with the schema of what may stand there
+-- some fields, each with the schema of what may be there
 abbrev pub fields_of : List (Field Schema) → Fields
 fields_of [] = no_more
 fields_of (f ∷ fs) = field f.key (need_test f.need) f.place (fields_of fs)
@@ -141,7 +141,7 @@ place_step (Place-F.Map names values) = map_of (names_test names) values.value
 place_step (Place-F.List other items across) =
     items_of other.value items.value (items_test across)
 
--- the schema that a place stands for
+-- the schema that a place means
 abbrev pub place_view : Place → Schema
 place_view = fold-Place Schema place_step
 
@@ -149,6 +149,6 @@ place_view = fold-Place Schema place_step
 abbrev pub field_view : Field Place → Field Schema
 field_view f = record { key = f.key; need = f.need; place = place_view f.place }
 
--- the fields that some fields with their places stand for
+-- the fields that some fields with their places mean
 abbrev pub fields_view : List (Field Place) → Fields
 fields_view fs = fields_of (map field_view fs)

@@ -1,4 +1,4 @@
-//! What may stand at the settings that profiles and overrides share.
+//! What may be at the settings that profiles and overrides share.
 ghost use Rattle.std.specs.Prelude.{◌≡◌, IfOk};
 ghost use Rattle.nextest_elements.specs.Bench.{bench, bench_override};
 ghost use Rattle.nextest_elements.specs.Junit.{a_junit, a_junit_override, junit_override_fields};

@@ -41,7 +41,7 @@ pub(crate) fn must(key: Key, place: Place) -> Field<Place>
     }
 }
 
-/// A table of fields that notes its other keys; what is no table has another place.
+/// A table of fields that notes its other keys; what is not a table has another place.
 pub(crate) fn table_or(
     alloc: Global,
     other: Place,

@@ -1,4 +1,4 @@
-//! What may stand at the places of a file, as data.
+//! What may be at the places of a file, as data.
 use crate::across::{Across, AcrossItems, Names, Need};
 use crate::leaf::Leaf;
 use nextest_tree::Key;
@@ -6,24 +6,24 @@ use nextest_tree::Key;
 /// What a table does with a key that is none of its fields.
 #[derive(Clone, Copy, Debug, PartialEq, Eq)]
 pub(crate) enum Others {
-    /// It is no fault.
+    /// It is not a fault.
     Noted,
     /// It is refused.
     Refused,
 }
 
-/// A key of a table, and what may stand there.
+/// A key of a table, and what may be there.
 #[derive(Debug, Drop)]
 pub(crate) struct Field<P> {
     /// The key.
     pub(crate) key: Key,
     /// Whether it has to be there.
     pub(crate) need: Need,
-    /// What may stand there.
+    /// What may be there.
     pub(crate) place: P,
 }
 
-/// What may stand at a place of a file, and below it.
+/// What may be at a place of a file, and below it.
 #[derive(Debug, Drop)]
 pub(crate) enum Place {
     /// Anything: it is never looked into.
@@ -34,7 +34,7 @@ pub(crate) enum Place {
     Table {
         /// Whether its other keys are refused.
         others: Others,
-        /// What may stand there that is no table.
+        /// What may be there that is not a table.
         other: Box<Place>,
         /// The fields, in the order in which they are read.
         fields: Vec<Field<Place>>,
@@ -45,12 +45,12 @@ pub(crate) enum Place {
     Map {
         /// What each name is.
         names: Names,
-        /// What stands under each.
+        /// What is under each.
         values: Box<Place>,
     },
     /// An array.
     List {
-        /// What may stand there that is no array.
+        /// What may be there that is not an array.
         other: Box<Place>,
         /// What each item is.
         items: Box<Place>,

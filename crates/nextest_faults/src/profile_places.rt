@@ -1,4 +1,4 @@
-//! What may stand at profiles.
+//! What may be at profiles.
 ghost use Rattle.std.specs.Prelude.{◌≡◌, IfOk};
 ghost use Rattle.nextest_tables.specs.Tables.{a_profile, profile_head_fields, profile_run_fields, profile_output_fields, profile_end_fields, profile_rest_fields};
 ghost use Rattle.nextest_faults.specs.Places.{place_view, fields_view};

@@ -1,4 +1,4 @@
-//! What may stand at overrides and at script rules.
+//! What may be at overrides and at script rules.
 ghost use Rattle.std.specs.Prelude.{◌≡◌, IfOk};
 ghost use Rattle.nextest_tables.specs.Tables.{a_platform, an_override, a_script_rule, override_head_fields, override_run_fields, override_output_fields, script_ids};
 ghost use Rattle.nextest_faults.specs.Places.{place_view, fields_view};

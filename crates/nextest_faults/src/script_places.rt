@@ -1,4 +1,4 @@
-//! What may stand at scripts.
+//! What may be at scripts.
 ghost use Rattle.std.specs.Prelude.{◌≡◌, IfOk};
 ghost use Rattle.nextest_scripts.specs.Command.{a_command};
 ghost use Rattle.nextest_scripts.specs.CommandLine.{a_command_line};

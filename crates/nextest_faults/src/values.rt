@@ -13,7 +13,7 @@ use nextest_scripts::{ScriptCommand, is_env_var_key};
 use nextest_tree::{Element, ElementCause, ElementFault, Name, Tree, Walk};
 use std::alloc::{AllocError, Global};
 
-/// The cause of a refusal, unless it is want of memory.
+/// The cause of a refusal, unless it is one of memory.
 fn cause_in(fault: ElementFault) -> Result<ElementCause, AllocError>
     ensures same { IfOk result (λ cause. cause ≡ fault.cause) }
     ensures seen { IfOk result IsSeen }

@@ -32,7 +32,7 @@ same_leaf : (a b : Leaf) → a.path ≡ b.path → a.value ≡ b.value → a.reg
 same_leaf a b p v r l h = λ i. record { path = p i; value = v i; region = r i; layer = l i; hidden = h i }
 
 module _ (ls : List (Option (Bor Tree))) (p : Path) (w : Region × ℕ) where
-  -- the leaf that stands there
+  -- the leaf that is there
   leaf_at : (leaf : Leaf) → IsAt p w leaf
       → HasLeaf (layers_view ls) leaf.layer (base_path leaf.region ++ leaf.path) leaf.value
       → leaf_in ls w.1 (base_path w.0 ++ p) ≡ Some leaf.value
@@ -58,7 +58,7 @@ module _ (ls : List (Option (Bor Tree))) (p : Path) (w : Region × ℕ) where
       (subst (λ q. Counts (layers_view ls) w.0 q w.1 leaf.value) (sym at.path) counts))
 
   module _ (keys : List (List ℕ)) (with_hidden : Bool) where
-    -- no leaf is told or asked for there
+    -- no leaf is reported or asked for there
     pub not_wanted : (b : Bool) → (IsTrue b ↔ IsToldAndAsked w.0 keys p) → b ≡ false → (leaf : Leaf)
         → IsEntry (layers_view ls) keys with_hidden p w leaf → ⊥
     not_wanted b both is leaf entry =
@@ -69,7 +69,7 @@ module _ (ls : List (Option (Bor Tree))) (p : Path) (w : Region × ℕ) where
         (subst (λ q. IsToldAndAsked leaf.region keys q) at.path own) in
         true≢false (sym (both.1 there) ∙ is)
 
-    -- no leaf stands there
+    -- no leaf is there
     pub no_entry : None ≡ leaf_in ls w.1 (base_path w.0 ++ p) → (leaf : Leaf)
         → IsEntry (layers_view ls) keys with_hidden p w leaf → ⊥
     no_entry none leaf entry =

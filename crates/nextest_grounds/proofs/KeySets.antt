@@ -78,7 +78,7 @@ new_in : (k : Keys) (xs : List Keys) → In (keys_view k.items) (paths_view (ins
 new_in k [] = here
 new_in k (x ∷ xs) = new_at k x xs (insert_key keys_cmp xs k) (keys_cmp k x) refl (new_in k xs)
 
--- what stands in a set after one more
+-- what is in a set after one more
 pub kept_inserted : (p : Path) (k : Keys) (xs new : List Keys) → new ≡ insert_key keys_cmp xs k
     → Contains (paths_view xs) p → Contains (paths_view new) p
 kept_inserted p k xs new is i =

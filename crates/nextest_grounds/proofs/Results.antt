@@ -20,7 +20,7 @@ pub if_both : {T E : Type 0} (P Q : T → Type 0) (A : Type 0) (r : Result T E) 
 if_both P Q A (Ok x) turn h a = turn x h a
 if_both P Q A (Err e) turn h a = h
 
--- some profile writes a key exactly where there are grounds
+-- some profile writes a key exactly if there are grounds
 pub overruled : (layers : List Node) (names : List (List ℕ)) (key : Path) (grounds : Option Grounds) (b : Bool)
     → MatchOption grounds (AllByRecursion (λ name. Writes layers key name → ⊥) names)
     (AreNearestGrounds layers names key) → b ≡ is_some grounds

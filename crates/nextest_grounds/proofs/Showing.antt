@@ -90,7 +90,7 @@ shown_there layers i p v highest (n, at, leaf) =
     same_kind highest.kind (a_leaf v) (sym shown.there ∙ ap (node_at p) same ∙ leaf) in
     subst (λ k. IsShownBy layers p k i) kind s
 
--- what stands at the very path of a leaf hides it
+-- what is at the very path of a leaf hides it
 hides_leaf : (p : Path) (n v : Node) (k : Kind) → node_at p n ≡ Some k → Hides n p (a_leaf v)
 hides_leaf p n v a_table at = by_table at
 hides_leaf p n v (a_leaf w) at =
@@ -147,7 +147,7 @@ behind_path p q [] i = elim i [ ]
 behind_path p q (r ∷ rests) here = (r, refl)
 behind_path p q (r ∷ rests) (there i) = behind_path p q rests i
 
--- a leaf below a path is one of what stands at the path
+-- a leaf below a path is one of what is at the path
 rest_at : (ks rest : Path) (v : Node) (o : Option Node)
     → ((n : Node) → node_at (ks ++ rest) n ≡ Some (a_leaf v)
     → (m : Node) × (node_along ks n ≡ Some m) × (node_at rest m ≡ Some (a_leaf v)))
@@ -181,7 +181,7 @@ below_leaf ls i p rest v (n, stood, leaf) =
     below_at ls i p rest v n (slice_get ls i) refl (sym (slice_get-map layer_view ls i) ∙ stood) leaf
 
 module _ (ls : List (Option (Bor Tree))) (i : ℕ) (p : Path) where
-  -- nothing stands at the path
+  -- nothing is at the path
   pub none_below : node_in ls i p ≡ None → ShowsLeafBelow (layers_view ls) p i → ⊥
   none_below none shows =
       let leaf = has_shown_leaf (layers_view ls) i (p ++ shows.rest) shows.leaf.value shows.leaf.shown in
@@ -209,7 +209,7 @@ module _ (ls : List (Option (Bor Tree))) (i : ℕ) (p : Path) where
         let (rest, is) = behind_path p q (leaf_paths n) (subst (In q) all is_one) in
         record { rest = rest; leaf = subst (λ r. ShowsLeaf (layers_view ls) r i) is shows }
 
--- the leaves of what stands at a path
+-- the leaves of what is at a path
 pub leaf_path : (ls : List (Option (Bor Tree))) (i : ℕ) (b p : Path) (v n : Node) → Some n ≡ node_in ls i b
     → leaf_in ls i (b ++ p) ≡ Some v → In p (leaf_paths n)
 leaf_path ls i b p v n stands is =
@@ -223,7 +223,7 @@ no_leaf_path ls i b p v none is =
     let (m, at, leaf) = below_leaf ls i b p v (has_leaf ls i (b ++ p) v is) in
     let bad : None ≡ Some m = none ∙ at in cc
 
--- the leaf that is shown is the one that stands there
+-- the leaf that is shown is the one that is there
 pub shown_is : (ls : List (Option (Bor Tree))) (i : ℕ) (p : Path) (v : Node) → leaf_in ls i p ≡ Some v
     → ShowsLeaf (layers_view ls) p i → IsShownBy (layers_view ls) p (a_leaf v) i
 shown_is ls i p v is shows =

@@ -40,7 +40,7 @@ whole_some [] n is = (kind_of n, refl)
 whole_some (k ∷ ks) (table es) is = whole_at ks (get k es) is (λ n. whole_some ks n)
 whole_some (k ∷ ks) n is = cc
 
--- no leaf stands along a way that is lost
+-- no leaf is along a way that is lost
 lost_along_at : (ks rest : Path) (v : Node) (o : Option Node) → option_map_or (way_along (ks ++ rest)) o lost ≡ lost
     → ((n : Node) → way_along (ks ++ rest) n ≡ lost → node_at ks n ≡ Some (a_leaf v) → ⊥)
     → option_and_then (node_at ks) o ≡ Some (a_leaf v) → ⊥
@@ -65,7 +65,7 @@ lost_hides p n k is (by_leaf l) =
     lost_along l.front l.rest n l.value way l.leaf
 lost_hides p n (a_leaf v) is (by_table there) = let bad : None ≡ Some a_table = sym (lost_none p n is) ∙ there in cc
 
--- a leaf stands along a way that is blocked
+-- a leaf is along a way that is blocked
 up : (k : List ℕ) (ks : Path) (es : Entries) (n : Node) → get k es ≡ Some n → HasLeafAlong n ks
     → HasLeafAlong (table es) (k ∷ ks)
 up k ks es n at l = record
@@ -88,7 +88,7 @@ blocked_along (k ∷ ks) n is = leaf_first (k ∷ ks) n refl
 pub blocked_hides : (p : Path) (n : Node) (k : Kind) → way_along p n ≡ blocked → Hides n p k
 blocked_hides p n k is = by_leaf (blocked_along p n is)
 
--- what stands at a path, by its kind
+-- what is at a path, by its kind
 kinds_at : (ks : Path) (o : Option Node) → ((n : Node) → node_at ks n ≡ option_map kind_of (node_along ks n))
     → option_and_then (node_at ks) o ≡ option_map kind_of (option_and_then (node_along ks) o)
 kinds_at ks None ih = refl
@@ -112,7 +112,7 @@ kind_leaf None v is = cc
 kind_leaf (Some (table es)) v is = cc
 kind_leaf (Some n) v is = let same : n ≡ v = cc in ap Some same
 
--- a way from what is no table
+-- a way from what is not a table
 pub blocked_off : (keys : List (Bor (List ℕ))) (n : Node) → as_table n ≡ None → 0 < length keys
     → blocked ≡ way_along (keys_view keys) n
 blocked_off [] n is some = absurd (omega arith)

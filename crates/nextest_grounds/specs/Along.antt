@@ -9,8 +9,8 @@ use Rattle.nextest_documents.specs.Shown.{Path}
 use Rattle.nextest_grounds.specs.declared.along.Way.{Way}
 use Rattle.nextest_grounds.specs.declared.along.Way.TheVariants.{Lost, Blocked, Whole}
 
--- a way along a path is lost at a table that lacks the next key, blocked by what is no table before
--- the path ends, or whole
+-- a way along a path is lost at a table that lacks the next key, blocked by what is not a table
+-- before the path ends, or whole
 pub data Ending : Type 0 where
   lost : Ending
   blocked : Ending
@@ -27,21 +27,21 @@ way_along [] n = whole
 way_along (k ∷ ks) (table es) = option_map_or (way_along ks) (get k es) lost
 way_along (k ∷ ks) _ = blocked
 
--- what stands at a path
+-- what is at a path
 abbrev pub node_along : Path → Node → Option Node
 node_along [] n = Some n
 node_along (k ∷ ks) n = option_and_then (node_along ks) (member_of k n)
 
--- a node that is no table
+-- a node that is not a table
 abbrev pub leaf_of : Node → Option Node
 leaf_of (table es) = None
 leaf_of n = Some n
 
--- what stands at a path in the document of the layer at a position
+-- what is at a path in the document of the layer at a position
 abbrev pub node_in : List (Option (Bor Tree)) → ℕ → Path → Option Node
 node_in layers position p = option_and_then (node_along p)
     (option_and_then (option_map (λ tree. tree_view tree.now)) (slice_get layers position))
 
--- the leaf that stands there
+-- the leaf that is there
 abbrev pub leaf_in : List (Option (Bor Tree)) → ℕ → Path → Option Node
 leaf_in layers position p = option_and_then leaf_of (node_in layers position p)

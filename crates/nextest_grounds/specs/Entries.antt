@@ -17,13 +17,13 @@ use Rattle.nextest_grounds.specs.declared.entries.LayerLeaf.{LayerLeaf}
 abbrev pub dotted : Path → List ℕ
 dotted p = join_by (λ key. key) (codes ".") p
 
--- The keys of a path up to one of them, with dots between them, spell a key that is asked for.
+-- The keys of a path up to one of them, with dots between them, spell a key that is requested.
 pub record IsBelow (p : Path) (key : List ℕ) : Type 0 where
   pub last : ℕ
   pub within : last < length p
   pub spelled : dotted (take (suc last) p) ≡ key
 
--- a path is asked for where no keys are, or where it is below one of them
+-- a path is requested where no keys are, or where it is below one of them
 pub data IsAsked (keys : List (List ℕ)) (p : Path) : Type 0 where
   with_all : keys ≡ [] → IsAsked keys p
   by_key : {key : List ℕ} → Contains keys key → IsBelow p key → IsAsked keys p
@@ -58,7 +58,7 @@ pub record Counts (layers : List Node) (region : Region) (p : Path) (layer : ℕ
   pub shown : IsShownBy layers (base_path region ++ p) (a_leaf value) layer
   pub nearest : AllByRecursion (λ name. ¬ Writes layers (value_path p) name) (nearer_than region)
 
--- A layer writes this leaf in its region, it is told and asked for, and it is hidden exactly where
+-- A layer writes this leaf in its region, it is listed and requested, and it is hidden exactly if
 -- it does not count.
 pub record IsLeaf (layers : List Node) (keys : List (List ℕ)) (leaf : Leaf) : Type 0 where
   pub told : is_told leaf.region leaf.path ≡ true
@@ -67,7 +67,7 @@ pub record IsLeaf (layers : List Node) (keys : List (List ℕ)) (leaf : Leaf) : 
   pub shown : (leaf.hidden ≡ false)
       ↔ Counts layers leaf.region leaf.path leaf.layer leaf.value
 
--- hidden leaves are told where they are wanted
+-- hidden leaves are reported where they are wanted
 abbrev pub IsWanted : Bool → Leaf → Type 0
 IsWanted with_hidden leaf = leaf.hidden ≡ true → with_hidden ≡ true
 
@@ -75,8 +75,8 @@ IsWanted with_hidden leaf = leaf.hidden ≡ true → with_hidden ≡ true
 abbrev pub path_cmp : Path → Path → Ordering
 path_cmp = slice_cmp (slice_cmp nat_cmp)
 
--- leaves stand by their paths, those of one path by their regions, those of one region by their
--- layers, the highest first
+-- leaves are ordered by their paths, those of one path by their regions, those of one region by
+-- their layers, the highest first
 abbrev pub leaf_cmp : Leaf → Leaf → Ordering
 leaf_cmp a b = ordering_then (path_cmp a.path b.path)
     (ordering_then (region_cmp a.region b.region) (nat_cmp b.layer a.layer))

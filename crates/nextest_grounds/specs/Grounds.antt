@@ -8,7 +8,7 @@ use Rattle.nextest_documents.specs.Shown.{Path, a_leaf}
 use Rattle.nextest_grounds.specs.Layers.{Stands, IsShownBy}
 use Rattle.nextest_grounds.specs.declared.grounds.Grounds.{Grounds}
 
--- where the table of a profile stands
+-- where the table of a profile is
 abbrev pub profile_path : List ℕ → Path
 profile_path name = codes "profile" ∷ name ∷ []
 

@@ -1,4 +1,4 @@
--- Layers of trees, the lowest first, and which of them shows what stands at a path.
+-- Layers of trees, the lowest first, and which of them shows what is at a path.
 use Rattle.std.specs.Prelude.{◌≡◌, ◌≤◌, ℕ, List, length, map, Option, Some, None}
 use denote.Ref.{Bor}
 use Rattle.nextest_tree.specs.Node.{Node, table, no_entries}
@@ -19,7 +19,7 @@ layers_view layers = map layer_view layers
 abbrev pub keys_view : List (Bor (List ℕ)) → Path
 keys_view keys = map (λ key. key.now) keys
 
--- something stands at the path in the merged tree
+-- something is at the path in the merged tree
 abbrev pub Stands : List Node → Path → Type 0
 Stands layers p = (k : Kind) × IsShown layers p k
 

@@ -1,4 +1,5 @@
--- The sections of layers whose leaves are told: the tables of profiles, and the tables beside them.
+-- The sections of layers whose leaves are reported: the tables of profiles, and the tables beside
+-- them.
 use Rattle.std.specs.Prelude.{ℕ, ◌==◌, ◌&&◌, ◌||◌, List, [], ◌∷◌, ◌++◌, Bool, false, not, length, take, codes, if◌then◌else◌}
 use Rattle.std.specs.Ordering.{nat_cmp}
 use Rattle.std.specs.declared.cmp.Ordering.{Ordering}
@@ -19,7 +20,7 @@ abbrev pub section_view : Section → Region
 section_view (Profile nearer name) = of_profile (keys_view nearer.now) name.now
 section_view Beside = beside
 
--- where a region stands in a layer
+-- where a region is in a layer
 abbrev pub base_path : Region → Path
 base_path (of_profile nearer name) = profile_path name
 base_path beside = []
@@ -29,7 +30,7 @@ abbrev pub nearer_than : Region → List (List ℕ)
 nearer_than (of_profile nearer name) = nearer
 nearer_than beside = []
 
--- the profiles of a chain that stand behind some others, in order, and then the tables beside them
+-- the profiles of a chain that are behind some others, in order, and then the tables beside them
 abbrev pub regions_behind : List (List ℕ) → List (List ℕ) → List Region
 regions_behind nearer [] = beside ∷ []
 regions_behind nearer (name ∷ names) =
@@ -39,7 +40,7 @@ regions_behind nearer (name ∷ names) =
 abbrev pub regions : List (List ℕ) → List Region
 regions chain = regions_behind [] chain
 
--- nearer profiles stand before others, and all of them before the tables beside them
+-- nearer profiles are before others, and all of them before the tables beside them
 abbrev pub region_cmp : Region → Region → Ordering
 region_cmp (of_profile nearer name) (of_profile others other) =
     nat_cmp (length nearer) (length others)
@@ -51,13 +52,13 @@ region_cmp beside beside = Equal
 abbrev pub is_rules : List ℕ → Bool
 is_rules key = bytes_eq key (codes "overrides") || bytes_eq key (codes "scripts")
 
--- the tables beside the profiles that are told
+-- the tables beside the profiles that are reported
 abbrev pub is_beside : List ℕ → Bool
 is_beside key = bytes_eq key (codes "scripts") || bytes_eq key (codes "store")
     || bytes_eq key (codes "test-groups")
 
--- A leaf of a region is told by its first key: rules are not, and the parent of a profile is told
--- of the nearest one alone.
+-- A leaf of a region is reported by its first key: rules are not, and the parent of a profile is
+-- reported of the nearest one alone.
 abbrev pub is_told : Region → Path → Bool
 is_told region [] = false
 is_told (of_profile nearer name) (key ∷ keys) =

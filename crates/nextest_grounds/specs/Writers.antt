@@ -1,4 +1,4 @@
--- Which sections of layers are asked for leaves, and what each of them has at a path.
+-- Which sections of layers are searched for leaves, and what each of them has at a path.
 use Rattle.std.specs.Prelude.{◌≡◌, ℕ, zero, suc, List, [], ◌∷◌, ◌++◌, Bool, true, Option, None, Some, MatchOption, map, flat_map}
 use Rattle.std.specs.List.{AllZip}
 use Rattle.nextest_tree.specs.Node.{Node}
@@ -24,18 +24,18 @@ writers_in count region = map (λ layer. (region, layer)) (countdown count)
 abbrev pub writers : List (List ℕ) → ℕ → List (Region × ℕ)
 writers chain count = flat_map (writers_in count) (regions chain)
 
--- a leaf of a region at a path is told, and asked for
+-- a leaf of a region at a path is listed, and requested
 pub record IsToldAndAsked (region : Region) (keys : List (List ℕ)) (p : Path) : Type 0 where
   pub told : is_told region p ≡ true
   pub asked : IsAsked keys p
 
--- A leaf stands at a path in a region of a layer.
+-- A leaf is at a path in a region of a layer.
 pub record IsAt (p : Path) (writer : Region × ℕ) (leaf : Leaf) : Type 0 where
   pub path : leaf.path ≡ p
   pub region : leaf.region ≡ writer.0
   pub layer : leaf.layer ≡ writer.1
 
--- A leaf of a layer, which is told, asked for and wanted.
+-- A leaf of a layer, which is listed, requested and wanted.
 pub record IsEntry (layers : List Node) (keys : List (List ℕ)) (with_hidden : Bool) (p : Path)
     (writer : Region × ℕ) (leaf : Leaf) : Type 0 where
   pub at : IsAt p writer leaf

@@ -11,7 +11,7 @@ use nextest_tree::Tree;
 pub(crate) enum Way {
     /// At a table that lacks the next key.
     Lost,
-    /// At something that is no table, before the path ends.
+    /// At something that is not a table, before the path ends.
     Blocked,
     /// At the end of the path.
     Whole,
@@ -45,7 +45,7 @@ pub(crate) fn way_along(layer: Option<&Tree>, path: &[&str]) -> Way
     }
 }
 
-/// What stands at a path of a tree.
+/// What is at a path of a tree.
 fn node_along<'t>(tree: &'t Tree, path: &[&str]) -> Option<&'t Tree>
     ensures { option_map (λ node. tree_view node.now) result
         ≡ node_along (keys_view path.now) (tree_view tree.now) }

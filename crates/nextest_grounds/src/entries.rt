@@ -47,7 +47,7 @@ struct Writer<'t> {
     layer: usize,
 }
 
-/// What is asked for.
+/// What is requested.
 #[derive(Clone, Copy)]
 struct Query<'t> {
     layers: &'t [Option<&'t Tree>],
@@ -204,7 +204,7 @@ fn written_leaf<'t>(
     Ok(leaf_in(layers, writer.layer, &whole))
 }
 
-/// Whether a leaf at a path is told and asked for.
+/// Whether a leaf at a path is listed and requested.
 fn is_wanted<'t>(
     alloc: Global,
     query: Query<'t>,

@@ -28,7 +28,7 @@ fn highest_layer(layers: &[Option<&Tree>], path: &[&str]) -> Option<usize>
 
 /// The position of the highest layer that shows something at a path, counted from the lowest on.
 ///
-/// There is none exactly where the layers, laid over one another, have nothing at the path.
+/// There is none exactly if the layers, laid over one another, have nothing at the path.
 pub fn layer_of(layers: &[Option<&Tree>], path: &[&str]) -> Option<usize>
     ensures shown { let all = layers_view layers.now in
         MatchOption result (¬ Stands all (keys_view path.now))

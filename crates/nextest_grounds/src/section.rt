@@ -35,7 +35,7 @@ fn is_rules(key: &str) -> bool
     key == "overrides" || key == "scripts"
 }
 
-/// Whether a key is that of a table beside the profiles which is told.
+/// Whether a key is that of a table beside the profiles which is reported.
 fn is_beside(key: &str) -> bool
     ensures { result ≡ is_beside key.now }
 {

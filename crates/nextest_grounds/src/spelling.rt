@@ -14,7 +14,7 @@ pub fn key_text(alloc: Global, path: &[&str]) -> Result<String, AllocError>
     path.join(alloc, ".")
 }
 
-/// Whether the keys of a path up to one of them spell a key that is asked for.
+/// Whether the keys of a path up to one of them spell a key that is requested.
 fn is_below(alloc: Global, path: &[&str], key: &str) -> Result<bool, AllocError>
     ensures { IfOk result (λ is_below. IsTrue is_below
         ↔ IsBelow (keys_view path.now) key.now) }

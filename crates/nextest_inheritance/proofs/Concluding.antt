@@ -21,7 +21,7 @@ none_seen : (errors : List InheritsError) → (errors ≡ []) ↔ (map inherits_
 none_seen [] = (λ is. refl, λ is. refl)
 none_seen (e ∷ errors) = (λ is. cc, λ is. cc)
 
--- there is none exactly where the parents are sound
+-- there is none exactly if the parents are sound
 pub found_sound : (lower : Name → Bool) (written : WrittenParents) (errors : List InheritsError)
     → AreFaultsOf lower written (map inherits_error_view errors)
     → (errors ≡ []) ↔ AreSoundParents (parents_in written) (is_known lower written)

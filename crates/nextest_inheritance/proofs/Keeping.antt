@@ -54,7 +54,7 @@ unfolding IsStrictlySortedBy
 names_ascend [] sorted = tt
 names_ascend (x ∷ xs) sorted = (all_above x xs sorted.0, names_ascend xs sorted.1)
 
--- what stands in a set after one more
+-- what is in a set after one more
 only_at : (c : List Name) (k x : Names) (xs inner : List Names) (o : Ordering)
     → (In c (map names_view inner) → (c ≡ names_view k) ⊎ In c (map names_view xs))
     → In c (map names_view (match_ordering o (k ∷ x ∷ xs) (x ∷ xs) (x ∷ inner)))

@@ -247,7 +247,7 @@ tell_stranded known es cs are = λ all name.
     λ l. ((chain : List Name) → ¬ IsChain (parents_in es) name chain) ↔ LeadsIntoOne (parents_in es) l name in
     subst P (sym (named known es cs)) (stranded es cs are (plain_parents known es (cycle_faults cs) all) name)
 
--- nothing is wrong exactly where parents are sound
+-- nothing is wrong exactly if parents are sound
 empty_left : (fs gs : List ParentFault) → fs ++ gs ≡ [] → fs ≡ []
 empty_left [] gs is = refl
 empty_left (f ∷ fs) gs is = cc

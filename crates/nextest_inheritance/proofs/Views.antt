@@ -32,7 +32,7 @@ key_at : {P : Type 0} (found same : Bool) (profile : P) (later : Option P) (seen
 key_at true same profile later seen is rest = rw (← is) refl
 key_at false same profile later seen is rest = rw (← is) rest
 
--- a name is that of a profile exactly where the map has it
+-- a name is that of a profile exactly if the map has it
 pub key_found : {P : Type 0} (parent : P → Option Name) (es : List (String Global × P)) (name : Name)
     → is_some (lookup (is_at (λ key. slice_cmp nat_cmp name (string_bytes key))) es)
     ≡ is_member bytes_eq (keys_of (parents_view parent es)) name

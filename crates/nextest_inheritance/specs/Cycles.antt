@@ -35,7 +35,7 @@ IsCycle parents [] = ⊥
 IsCycle parents (name ∷ names) = IsCycleFrom parents name names
 
 -- The cycles of parents: each of these is one, each one is among these, and they ascend by their
--- bytes, so that each stands once.
+-- bytes, so that each is there once.
 pub record AreCycles (parents : Parents) (cycles : List (List Name)) : Type 0 where
   pub sound : AllByRecursion (IsCycle parents) cycles
   pub complete : (cycle : List Name) → IsCycle parents cycle → Contains cycles cycle
@@ -62,7 +62,7 @@ pub record LeadsIntoOne (parents : Parents) (cycles : List (List Name)) (name : 
   pub is_one : Contains cycles cycle
   pub leads : LeadsInto parents name cycle
 
--- the ancestors of a name, the nearest first, as many as are asked for at most
+-- the ancestors of a name, the nearest first, so many at most
 abbrev pub ancestors : Parents → ℕ → Name → List Name
 ancestors parents zero name = []
 ancestors parents (suc n) name =

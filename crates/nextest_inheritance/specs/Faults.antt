@@ -67,7 +67,7 @@ cycles_of (unknown_parent profile parent) = []
 cycles_of (cyclic cycles) = cycles
 
 -- Faults name exactly the cycles of parents: each once, in order, no two with a name in common, and
--- a fault that names cycles stands among them exactly where there is one.
+-- a fault that names cycles is among them exactly if there is one.
 pub record NameCycles (parents : Parents) (faults : List ParentFault) : Type 0 where
   pub exact : AreCycles parents (flat_map cycles_of faults)
   pub apart : ShareNoName (flat_map cycles_of faults)

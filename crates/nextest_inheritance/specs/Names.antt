@@ -1,4 +1,4 @@
--- The names of profiles, and which of them stand apart.
+-- The names of profiles, and which of them are special.
 use Rattle.std.specs.Prelude.{◌≡◌, ◌++◌, ◌&&◌, ◌||◌, ℕ, List, Bool, true, not, filter, codes, nat_eq}
 use Rattle.std.specs.Cmp.Lexicographic.{slice_cmp}
 use Rattle.std.specs.List.{starts_with}
@@ -27,7 +27,7 @@ abbrev pub is_reserved : Name → Bool
 is_reserved name =
     starts_with nat_eq name (codes "default-") && not (bytes_eq name (codes "default-miri"))
 
--- one name stands before another by their bytes
+-- one name is before another by their bytes
 abbrev pub precedes : Name → Name → Bool
 precedes name other = is_lt (slice_cmp nat_cmp name other)
 
@@ -35,6 +35,6 @@ precedes name other = is_lt (slice_cmp nat_cmp name other)
 abbrev pub IsIn : List Name → Name → Type 0
 IsIn names name = is_member bytes_eq names name ≡ true
 
--- what stands at `default` first, and then all others in their order
+-- what is at `default` first, and then all others in their order
 abbrev pub default_first : {X : Type 0} → List (Name × X) → List (Name × X)
 default_first es = filter (λ e. is_default e.0) es ++ filter (λ e. not (is_default e.0)) es

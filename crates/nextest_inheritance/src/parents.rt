@@ -139,7 +139,7 @@ pub fn inheritance_errors<P: Inherits>(
         IfOk result (λ errors. map inherits_error_view errors.items
         ≡ inheritance_faults (contains_text lower.now) written) }
 
-    // There is none exactly where the parents are sound.
+    // There is none exactly if the parents are sound.
     ensures sound { let written = parents_view P.parent profiles.now.entries in
         let known = faults.is_known (contains_text lower.now) written in
         IfOk result (λ errors. (errors.items ≡ []) ↔ AreSoundParents (parents_in written) known) }
@@ -149,7 +149,7 @@ pub fn inheritance_errors<P: Inherits>(
         IfOk result (λ errors.
         NameCycles (parents_in written) (map inherits_error_view errors.items)) }
 
-    // They tell which names have no chain.
+    // They decide which names have no chain.
     ensures stranded { let written = parents_view P.parent profiles.now.entries in
         IfOk result (λ errors.
         TellStranded (parents_in written) (map inherits_error_view errors.items)) }

@@ -1,4 +1,4 @@
--- A load meets no fault exactly where its files are accepted.
+-- A load meets no fault exactly if its files are accepted.
 use Rattle.std.proofs.Common.{◌≡◌, ◌⊎◌, ◌↔◌, inl, inr, List, [], ◌∷◌, ◌++◌, map, Bool, true, false, IsTrue, Option, None, Some, Result, Ok, Err, IsSome, if◌then◌else◌, MatchResult, option_map, nat_cmp, refl, sym, ap, subst, append_assoc, append-nil, ◌∙◌}
 use Rattle.std.specs.Cmp.Lexicographic.{slice_cmp}
 use Rattle.std.specs.List.{flat_map}
@@ -208,7 +208,7 @@ module _ {M K P : Type 0} (engines : Readings M K P) (features : Features)
         (sym (append_assoc under (y ∷ []) below)) (h (y ∷ below) s above (ap (λ ss. y ∷ ss) e))),
   )
 
-  -- inputs pass exactly where each is read or may be missing, and each source is accepted
+  -- inputs pass exactly if each is read or may be missing, and each source is accepted
   record Fine (under : List SourceText) (is : List Input) : Type 0 where
     outcomes : Each (λ i. IsReadOrMissing i.source.kind i.outcome) is
     sources : AllFrom under (flat_map source_texts_of is)
@@ -328,7 +328,7 @@ module _ {M K P : Type 0} (engines : Readings M K P) (features : Features)
   inputs_to under (i ∷ is) read h = input_to under i.source i.outcome is read.0 h (λ us. inputs_to us is read.1)
 
   module _ (tools : ToolsLaw) (files : LoadInputs) where
-    -- no step of a load is a fault exactly where its files are accepted
+    -- no step of a load is a fault exactly if its files are accepted
     pub accepted_from : Pass (load_steps engines features files) → IsAccepted engines features files
     accepted_from h =
         let ss = sources_in files in

@@ -16,7 +16,7 @@ use Rattle.nextest_load.specs.Agreement.{node_of_profile, AgreeOn, StaysApart}
 use Rattle.nextest_load.specs.Trees.{tree_in, own_tree, merged_tree}
 use Rattle.nextest_load.proofs.Under.{Leads, member_over, profile_over, leads_over, defaults_lead}
 
--- Two trees agree on profiles of these names, and on all that stands outside of profiles.
+-- Two trees agree on profiles of these names, and on all that is outside of profiles.
 pub record Alike (names : List Name) (a b : Node) : Type 0 where
   pub profiles : Each (λ name. node_of_profile name a ≡ node_of_profile name b) names
   pub elsewhere : (key : List ℕ) → key ≢ key_text keys.Profile → member_of key a ≡ member_of key b

@@ -1,4 +1,4 @@
--- The scripts of sources stay where their merged trees agree on all that stands outside of profiles.
+-- The scripts of sources stay where their merged trees agree on all that is outside of profiles.
 use Rattle.std.proofs.Common.{◌≡◌, ◌≢◌, ◌∙◌, List, option_and_then, unwrap_or, refl, sym, ap, subst}
 use Rattle.std.specs.Option.{option_or}
 use Rattle.nextest_rules.specs.Rules.{at_name}

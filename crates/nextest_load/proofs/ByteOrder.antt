@@ -102,7 +102,7 @@ from_order : (z : List ℕ) (ts : List (List ℕ)) → In z (in_byte_order ts) �
 from_order z [] i = i
 from_order z (t ∷ ts) i = in_rest t z (in_byte_order ts) ts (from_order z ts) (from_insert t z (in_byte_order ts) i)
 
--- a text is one of some exactly where it stands among them
+-- a text is one of some exactly if it is among them
 pub one_in : (z : List ℕ) (ts : List (List ℕ)) → is_one_of ts z ≡ true → In z ts
 one_in z [] h = cc
 one_in z (t ∷ ts) h =
@@ -125,7 +125,7 @@ equal_from Less h = cc
 equal_from Equal h = refl
 equal_from Greater h = cc
 
--- a set has a text exactly where the text is that of a key
+-- a set has a text exactly if the text is that of a key
 set_in : (z : List ℕ) (ks : List (String Global))
     → list_any (is_at (λ k. slice_cmp nat_cmp z (string_bytes k))) ks ≡ true → In z (map string_bytes ks)
 set_in z [] h = cc

@@ -297,7 +297,7 @@ module _ {M K P : Type 0} (engines : Readings M K P) where
   answers_with law None none = tt
   answers_with law (Some t) none = answers_at law t (engines.read_filter DefaultFilter t) refl (λ m. none t m refl)
 
-  -- a filter beside a list wrapper answers for each binary
+  -- a filter beside a list wrapper has a known value for each binary
   answers : (law : AnswerDefaultFilters engines) (id : RuleId) (r : ScriptRuleText) → ListsWithoutTests engines r
       → AnswersBinaries engines.matches_binary (script_rule engines id r)
   answers law id r lists some = answers_with law r.filter (lists some)

@@ -1,4 +1,4 @@
--- Ids that stand in tables, one table behind another, stand in the order of their definitions.
+-- Ids that are in tables, one table behind another, are in the order of their definitions.
 use Rattle.std.proofs.Common.{◌≡◌, inl, inr, ℕ, List, [], ◌∷◌, ◌++◌, ◌||◌, Bool, true, false, refl, sym, ap, subst, ◌∙◌, append_assoc}
 use Rattle.std.specs.List.{AllByRecursion}
 use Rattle.std.specs.Str.{bytes_eq}
@@ -30,7 +30,7 @@ pub among_is : (ids : List Name) (id : Name) → is_among ids id ≡ is_one_of i
 among_is [] id = refl
 among_is (x ∷ ids) id = λ i. turned id x i || among_is ids id i
 
--- an id of an order stands in its table, and no other
+-- an id of an order is in its table, and no other
 pub stands_is : (path : Path) (text : List ℕ) (ids : List Name) → IsOrder path text ids → (id : Name)
     → is_one_of ids id ≡ stands_in path text id
 stands_is path text ids order id = sym (among_is ids id) ∙ order.exact id
@@ -105,7 +105,7 @@ defined_before (s ∷ sections) names a b (own, more, is, order, rest) h =
       ]
     ]
 
--- so it is for all ids that stand in the order of names
+-- so it is for all ids that are in the order of names
 pub all_defined_before : (sections : List Section) (names ids : List Name) → AreIdsOf sections names
     → AllComeFirst names ids → AllDefinedBefore sections ids
 all_defined_before sections names [] are h = h

@@ -43,7 +43,7 @@ first_found s n f h = fails (faults s [] n) (unknown s [] n) start f h
 pub no_cause : (n : Node) (new : ReadState) → reading a_file n start ≡ Ok new → element_cause n ≡ None
 no_cause n new h = rw (none_found a_file n new h) refl
 
--- how the refusal of a reader is told
+-- how the refusal of a reader is reported
 tells : (source : Source) (n : Node) (e : ConfigParseError) (t : Option Fault)
     → ((f : Fault) → t ≡ Some f → reading a_file n start ≡ Err f) → (t ≡ None → error_view e ≡ no_memory)
     → Refuses e (option_map (λ f. at_source source (bad_element f)) t)

@@ -1,4 +1,4 @@
--- What a load tells of a tree is exact.
+-- What a load reports of a tree is exact.
 use Rattle.std.proofs.Common.{◌≡◌, ℕ, arith, List, [], ◌∷◌, ◌++◌, map, flat_map, filter, length, Contains, Bool, true, false, Option, None, Some, option_map, refl, sym, ap, subst, ◌∙◌, if◌then◌else◌}
 use Rattle.std.specs.Option.{option_or}
 use Rattle.std.proofs.lemmas.Bool.{false≢true}
@@ -33,13 +33,13 @@ use Rattle.nextest_load.specs.Trees.{own_tree, own_file, merged_tree}
 use Rattle.nextest_load.proofs.LeastFaults.{refuses_cycles, refuses_least}
 use Rattle.nextest_load.proofs.SortedTrees.{own_sorted, whole_sorted}
 
--- a cause that is told of no tree
+-- a cause that is reported of no tree
 abbrev is_apart : LoadCause → Bool
 is_apart (bad_element fault) = false
 is_apart (bad_parents faults) = false
 is_apart cause = true
 
--- a check tells nothing of a tree
+-- a check reports nothing of a tree
 abbrev StaysApart : Option LoadCause → Type 0
 StaysApart None = Unit {0}
 StaysApart (Some cause) = is_apart cause ≡ true
@@ -222,7 +222,7 @@ module _ (files : LoadInputs) where
         (rules (profiles_in lower) (sets_of (known_to lower (own_file s))) s.source n (at_own_tree s is_one)
         (own_sorted s))))
 
-    -- what stands in all of these is a source of the load
+    -- what is in all of these is a source of the load
     abbrev AreSources : List SourceText → Type 0
     AreSources ss = (s : SourceText) → Contains ss s → Contains (sources_in files) s
 

@@ -52,7 +52,7 @@ pub some_either : (o p : Option Node) → IsSome (laid_over o p) → IsSome o �
 some_either None p h = inr h
 some_either (Some n) p h = inl refl
 
--- two tables are united, and any other node replaces what stands below
+-- two tables are united, and any other node replaces what is below
 pub data Laid : Node → Node → Type 0 where
   united : {xs ys : Entries} → Laid (table xs) (table ys)
   replaced : {n m : Node} → over n m ≡ n → (IsTable n → IsTable m → ⊥) → Laid n m

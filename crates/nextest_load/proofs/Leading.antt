@@ -23,7 +23,7 @@ map_table test s p (int z) h = cc
 map_table test s p (bool b) h = cc
 map_table test s p opaque h = cc
 
--- what stands at a field without fault
+-- what is at a field without fault
 map_field : (k : Key) (must : Bool) (test : List ℕ → Option FaultCause) (s : Schema) (p : List ℕ)
     (o : Option Node) → field_faults k must (faults (map_of test s)) p o ≡ [] → IfThere IsTable o
 unfolding field_faults

@@ -45,7 +45,7 @@ same_names : (names others : List Name) → ((id : Name) → is_one_of names id 
 same_names names others same id = let P : Bool → Type 0 = λ b. IsTrue b in
     (λ h. subst P (same id) h, λ h. subst P (sym (same id)) h)
 
--- what stands at a name is there exactly where the name is
+-- what is at a name is there exactly if the name is
 pub named_at : {X : Type 0} (es : List (Name × X)) (q : Name) → is_some (at_name q es) ≡ is_one_of (names_in es) q
 named_at [] q = refl
 named_at (e ∷ es) q = at_cond (is_at (slice_cmp nat_cmp q) e.0) (bytes_eq e.0 q) e.1 (at_name q es) _
@@ -58,7 +58,7 @@ named_at (e ∷ es) q = at_cond (is_at (slice_cmp nat_cmp q) e.0) (bytes_eq e.0 
     at_cond false true x o more is h = cc
     at_cond false false x o more is h = h
 
--- what is spelled stands under the keys of its table
+-- what is spelled is under the keys of its table
 spelled_names : {X : Type 0} (P : Node → X → Type 0) (es : Entries) (xs : List (Name × X))
     → SpellByName P es xs → names_in xs ≡ tree.keys es
 spelled_names P no_entries [] h = refl
@@ -93,7 +93,7 @@ have_ids ss scripts are =
           ∙ named_at are.file.wrapper id ∙ ap (λ ns. is_one_of ns id) wrappers);
     }
 
--- a key of the table at a path stands there
+-- a key of the table at a path is there
 some_there : (o : Option Node) → IsSome o → is_some (option_and_then (λ n. Some (kind_of n)) o) ≡ true
 some_there None h = h
 some_there (Some n) h = refl
@@ -127,7 +127,7 @@ stands_of : (path : KeyPath) (q : Name) (o : Option Node) → HasKey path q (unw
 stands_of path q None h = absurd (empty_has_none path q h)
 stands_of path q (Some n) h = has_key path q n h
 
--- so it stands in the source's text
+-- so it is in the source's text
 stands_in_text : (path : KeyPath) (q : Name) (s : SourceText) → HasKey path q (tree_in s)
     → stands_in path s.text q ≡ true
 unfolding stands_in
@@ -203,7 +203,7 @@ module _ (ss : List SourceText) where
       merged_named wrapper_path q ss names (defaults_wrapper q) are
       (inner_has (key_text keys.Wrapper) q (at_key keys.Scripts (merged_tree ss)) h)
 
--- what is seen of what stands at an id
+-- what is shown of what is at an id
 pub seen_at : {V X : Type 0} (see : V → X) (es : List (ScriptId × V)) (q : Name)
     → at_name q (map (λ e. (script_text e.0, see e.1)) es) ≡ option_map see (at_name q (by_id es))
 seen_at see [] q = refl
@@ -229,7 +229,7 @@ names_seen : {V X : Type 0} (see : V → X) (es : List (ScriptId × V))
 names_seen see [] = refl
 names_seen see (e ∷ es) = ap (λ names. script_text e.0 ∷ names) (names_seen see es)
 
--- the scripts of a table, and of an old one, that stand in the order of names
+-- the scripts of a table, and of an old one, that are in the order of names
 module _ {V X : Type 0} (see : V → X) (names : List Name) (scripts old placed : List (ScriptId × V)) where
   abbrev view : List (ScriptId × V) → List (Name × X)
   view es = map (λ e. (script_text e.0, see e.1)) es

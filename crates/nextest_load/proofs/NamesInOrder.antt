@@ -93,7 +93,7 @@ first_in_either (n ∷ names) more a b h =
       ]
     ]
 
--- ids that stand in order do so among more names
+-- ids that are in order are so among more names
 pub order_among_more : (names more ids : List Name) → AllComeFirst names ids → AllComeFirst (names ++ more) ids
 order_among_more names more [] h = h
 order_among_more names more (id ∷ ids) h =

@@ -15,7 +15,7 @@ use Rattle.nextest_tables.specs.Written.{Name}
 use Rattle.nextest_load.specs.ScriptNames.{AllComeFirst}
 use Rattle.nextest_load.proofs.NamesInOrder.{one_of_more, order_among_more, order_with_last}
 
--- what comes of one name more
+-- the result of one name more
 pub or_one_more : (names : List Name) (n q : Name) → is_one_of (names ++ n ∷ []) q ≡ (is_one_of names q || bytes_eq n q)
 or_one_more names n q = one_of_more names (n ∷ []) q ∙ ap (λ b. is_one_of names q || b) (last (bytes_eq n q))
   where
@@ -134,7 +134,7 @@ module _ {K V : Type 0} (text : K → Name) where
     among_more : (q : Name) → is_one_of names q ≡ true → is_one_of (names ++ n ∷ []) q ≡ true
     among_more q h = or_one_more names n q ∙ or_left (is_one_of names q) (bytes_eq n q) h
 
-    -- no script stands under the name
+    -- no script is under the name
     pub placed_skip : left n ≡ None → Placed (names ++ n ∷ []) start after es
     placed_skip none =
         let same : (q : Name) → after q ≡ left q = λ q.

@@ -1,4 +1,4 @@
--- What a tree without faults says: what stands at each key that the defaults have is a value, so its
+-- What a tree without faults says: what is at each key that the defaults have is a value, so its
 -- profile `default` is complete.
 use Rattle.std.proofs.Common.{◌≡◌, ◌∙◌, ℕ, List, [], ◌∷◌, ◌++◌, ◌+◌, ◌&&◌, ap, append_assoc, map, Bool, true, false, Option, Some, None, option_map, option_and_then, Result, Ok, Err, IsSome, if◌then◌else◌, refl, sym, unwrap_or}
 use Rattle.std.specs.Fmt.{decimal}
@@ -54,7 +54,7 @@ passed : (q : List ℕ) (b : Bool) (c : FaultCause) → at q (if b then Some c e
 passed q true c h = absurd (cc)
 passed q false c h = refl
 
--- what stands at a key, and has no fault, says something
+-- what is at a key, and has no fault, says something
 said : {X : Type 0} (k : Key) (must : Bool) (s : Schema) (p : List ℕ) (say : Node → Option X) (o : Option Node)
     → ((q : List ℕ) (n : Node) → faults s q n ≡ [] → IsSome (say n)) → field_faults k must (faults s) p o ≡ []
     → IsSomeAnd o (Keeps opaque) → IsSome (option_and_then say o)
@@ -68,7 +68,7 @@ unfolding field_faults
 leaf_said k must read p (Some n) h g = leaf_says _ (read n) h
 leaf_said k must read p None h g = absurd g
 
--- what has to stand at a key, and has no fault, is there
+-- what has to be at a key, and has no fault, is there
 must_say : {X : Type 0} (k : Key) (must : Bool) (read : Node → Result X FaultCause) (p : List ℕ) (o : Option Node)
     → must ≡ true → field_faults k must (faults (value read)) p o ≡ [] → IsSome (leaf_at read o)
 unfolding field_faults
@@ -242,7 +242,7 @@ bench_says q (int z) h g = absurd g
 bench_says q (bool b) h g = absurd g
 bench_says q opaque h g = absurd g
 
--- what stands at a key, and has no fault, has a part of a form and says something
+-- what is at a key, and has no fault, has a part of a form and says something
 said_in : {X : Type 0} (k : Key) (must : Bool) (s : Schema) (form : Node) (p : List ℕ) (say : Node → Option X)
     (P : Option X → Type 0) (o : Option Node)
     → ((q : List ℕ) (n : Node) → faults s q n ≡ [] → Keeps form n → P (say n))

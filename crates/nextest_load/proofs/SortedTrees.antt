@@ -94,7 +94,7 @@ same_keys : (ps : List (Name × ProfileText)) → names_in ps ≡ keys_of (writt
 same_keys [] = refl
 same_keys (p ∷ ps) = ap (λ names. p.0 ∷ names) (same_keys ps)
 
--- and so do those that their parents stand under
+-- and so do those that their parents are under
 pub parents_ascend : (n : Node) → IsSorted n
     → IsStrictlySortedBy (slice_cmp nat_cmp) (keys_of (written_parents (file_text n).profiles))
 parents_ascend n s = let P : List Name → Type 0 = IsStrictlySortedBy (slice_cmp nat_cmp) in

@@ -1,4 +1,4 @@
--- What stands at the name of a profile, where trees are laid over one another.
+-- What is at the name of a profile, where trees are laid over one another.
 use Rattle.std.proofs.Common.{◌≡◌, ◌∙◌, ℕ, List, [], ◌∷◌, Option, None, Some, option_and_then, refl, sym, ap}
 use Rattle.nextest_documents.specs.Merge.{over}
 use Rattle.nextest_documents.proofs.Laying.{laid_over, get-entries_over}
@@ -44,7 +44,7 @@ member_in k None r ho hr = refl
 member_in k (Some n) None ho hr = sym (laid_none (member_of k n))
 member_in k (Some n) (Some m) ho hr = member_over k n m ho hr
 
--- what stands at the name of a profile, where a tree is laid over another
+-- what is at the name of a profile, where a tree is laid over another
 pub profile_over : (name : Name) (n m : Node) → Leads n → Leads m
     → node_of_profile name (over n m) ≡ laid_over (node_of_profile name n) (node_of_profile name m)
 profile_over name n m ln lm =

@@ -48,7 +48,7 @@ found_at : (b : Bool) (p : ProfileText) (o : Option ProfileText) (q : Option mod
 found_at true p o q h = refl
 found_at false p o q h = h
 
--- a profile without its rules stands at its name
+-- a profile without its rules is at its name
 pub merged_at : (name : Name) (ps : List (Name × ProfileText))
     → at_name name (profiles_of ps) ≡ option_map merged_profile (at_name name ps)
 merged_at name [] = refl

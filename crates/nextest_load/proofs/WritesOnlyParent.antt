@@ -31,7 +31,7 @@ use Rattle.nextest_load.proofs.ProfileNodes.{merged_node, parent_node}
 use Rattle.nextest_load.proofs.RulesOfNode.{HasNoRules}
 use Rattle.nextest_load.proofs.Under.{Leads, profile_over, leads_over, defaults_lead}
 
--- nothing stands there but the parent
+-- nothing is there but the parent
 abbrev pub OnlyAt : Option Node → Type 0
 OnlyAt o = (key : List ℕ) → IsSome (option_and_then (member_of key) o) → key ≡ key_text keys.Inherits
 

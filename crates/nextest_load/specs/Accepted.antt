@@ -20,7 +20,7 @@ abbrev pub EachOver : (List SourceText → SourceText → Type 0) → List Sourc
 EachOver P ss = (below : List SourceText) (s : SourceText) (above : List SourceText)
     → ss ≡ below ++ s ∷ above → P below s
 
--- All that is asked of a source over those below it.
+-- All that is required of a source over those below it.
 pub record IsAcceptedSource {M K P : Type 0} (engines : Readings M K P) (features : Features)
     (below : List SourceText) (s : SourceText) : Type 0 where
   -- its text is a document
@@ -33,7 +33,7 @@ pub record IsAcceptedSource {M K P : Type 0} (engines : Readings M K P) (feature
   pub rules : AreAcceptedRules engines (lower_profiles below)
       (known_to (map own_file below) (own_file s)) (own_file s)
 
--- All that is asked of the files of a load.
+-- All that is required of the files of a load.
 pub record IsAccepted {M K P : Type 0} (engines : Readings M K P) (features : Features)
     (files : LoadInputs) : Type 0 where
   -- no tool has two files

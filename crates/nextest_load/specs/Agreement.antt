@@ -14,7 +14,7 @@ abbrev pub node_of_profile : Name → Node → Option Node
 node_of_profile name tree = option_and_then (member_of name) (at_key keys.Profile tree)
 
 -- Two sources agree on profiles of these names: they have one path and kind, each of these profiles
--- stands in both trees alike or in neither, and so does all that stands outside of profiles.
+-- is in both trees alike or in neither, and so does all that is outside of profiles.
 pub record AgreeOn (names : List Name) (s t : SourceText) : Type 0 where
   pub source : s.source ≡ t.source
   pub profiles : Each

@@ -26,7 +26,8 @@ EachScriptRule P config = Each (λ l. Each (λ p. Each P p.1.script_rules) l.pro
 abbrev pub BinaryMatch : Type 0 → Type 0
 BinaryMatch M = M → Binary → M → Option Bool
 
--- a filter beside a list wrapper answers for each binary, whatever the default filter means
+-- a filter beside a list wrapper has a known value for each binary, whatever the default filter
+-- means
 abbrev pub AnswersBinaries : {M K : Type 0} → BinaryMatch M → Compiled M K ScriptRuleUse → Type 0
 AnswersBinaries {M} matches rule = IsSome rule.writes.scripts.list_wrapper → IfWritten rule.filter
     (λ m. (binary : Binary) (default : M) → IsSome (matches m binary default))
@@ -51,7 +52,7 @@ pub record IsClosed {M K : Type 0} (matches : BinaryMatch M) (config : ConfigMod
       (λ r. IfWritten r.writes.scripts.list_wrapper (IsIn (names_in scripts.wrapper))) config
   pub run_wrappers : EachScriptRule
       (λ r. IfWritten r.writes.scripts.run_wrapper (IsIn (names_in scripts.wrapper))) config
-  -- each filter beside a list wrapper answers for each binary
+  -- each filter beside a list wrapper has a known value for each binary
   pub list_filters : EachScriptRule (AnswersBinaries matches) config
   -- each profile has one chain, of profiles
   pub chains : Each

@@ -1,4 +1,4 @@
--- What a load tells of a tree is exact.
+-- What a load reports of a tree is exact.
 use Rattle.std.specs.Prelude.{◌≡◌, List, Contains}
 use Rattle.nextest_inheritance.specs.Faults.{ParentFault}
 use Rattle.nextest_sources.specs.Causes.{LoadFault, bad_element, bad_parents}

@@ -20,7 +20,7 @@ use Rattle.nextest_load.specs.Config.{ScriptTables, config_of}
 use Rattle.nextest_load.specs.Scripts.{AreScriptsOf}
 use Rattle.nextest_load.specs.Steps.{element_cause}
 
--- A fault is the least of a file's tree: it is one of its faults, and its place stands before the
+-- A fault is the least of a file's tree: it is one of its faults, and its place is before the
 -- places of all others.
 pub record IsLeastFault (n : Node) (fault : Fault) : Type 0 where
   pub before : List SitedCause
@@ -35,26 +35,26 @@ pub record IsLeastFault (n : Node) (fault : Fault) : Type 0 where
 abbrev pub RefusesLeast : Node → Type 0
 RefusesLeast n = (fault : Fault) → element_cause n ≡ Some (bad_element fault) → IsLeastFault n fault
 
--- Faults of parents tell the cycles of a file: they name exactly these, and so tell which of its
+-- Faults of parents name exactly the cycles of a file, and so decide which of its
 -- profiles have no chain.
 pub record TellCycles (file : FileText) (faults : List ParentFault) : Type 0 where
   pub cycles : NameCycles (parents_in (written_parents file.profiles)) faults
   pub stranded : TellStranded (parents_in (written_parents file.profiles)) faults
 
--- what the parents in a file are refused for tells its cycles
+-- the refusal of the parents in a file names its cycles
 abbrev pub RefusesCycles : (lower : NameSet) → FileText → Type 0
 RefusesCycles lower file =
     TellCycles file (inheritance_faults lower (written_parents file.profiles))
 
--- engines answer default filters: one with no part that only a test can answer has an answer for
--- each binary, whatever the default filter means
+-- engines decide default filters: one with no part that only a test can decide has a known value
+-- for each binary, whatever the default filter means
 abbrev pub AnswerDefaultFilters : {M K P : Type 0} → Readings M K P → Type 0
 AnswerDefaultFilters {M} engines = (text : Text) (m : M)
     → engines.read_filter DefaultFilter text ≡ Ok m → engines.leaves m ≡ []
     → (binary : Binary) (default : M) → IsSome (engines.matches_binary m binary default)
 
 -- accepted files are closed: the configuration that they mean, with their scripts, if the engines
--- answer default filters
+-- decide default filters
 abbrev pub AcceptedAreClosed : {M K P : Type 0} → Readings M K P → Type 0
 AcceptedAreClosed engines = (features : Features) (files : LoadInputs) (scripts : ScriptTables)
     → AnswerDefaultFilters engines → IsAccepted engines features files

@@ -19,17 +19,18 @@ pub record Loaded (M K : Type 0) : Type 0 where
   pub config : ConfigModel M K
   pub scripts : ScriptTables
 
--- What a load of files answers, where `loaded` is what was loaded in what it answers, by what the
+-- The result of a load of files, where `loaded` is what was loaded in the result, by what the
 -- engines mean, and the warnings before and after it.
 pub record IsLoad {T M K P : Type 0} (loaded : T → Loaded M K) (engines : Readings M K P)
     (features : Features) (files : LoadInputs) (old new : List Warning)
     (r : Result T ConfigParseError) : Type 0 where
-  -- a configuration exactly where every rule holds, want of memory aside
+  -- a configuration exactly if every rule holds, unless memory runs out
   pub verdict : MatchResult r (λ _. IsAccepted engines features files)
       (λ e. IsMemory e ⊎ (¬ IsAccepted engines features files))
-  -- else the first fault, with its source and all it carries; and the warnings before it are told
+  -- else the first fault, with its source and all it carries; and the warnings before it are
+  -- reported
   pub ran : Ran (load_steps engines features files) old new (ending r)
-  -- an element that is refused is the least fault, and refused parents tell exactly the cycles
+  -- an element that is refused is the least fault, and refused parents name exactly the cycles
   pub exact : (fault : LoadFault) → ending r ≡ refused fault → IsExact files fault
   -- the configuration is what the texts mean
   pub means : IfOk r (λ c. (loaded c).config ≡ config_of engines (sources_in files))

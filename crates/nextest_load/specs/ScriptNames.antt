@@ -1,4 +1,4 @@
--- What the code keeps of the order of scripts: the ids that stand in the tables, one table behind
+-- What the code keeps of the order of scripts: the ids that are in the tables, one table behind
 -- another.
 use Rattle.std.specs.Prelude.{◌≡◌, ◌∷◌, ◌++◌, ◌&&◌, ◌||◌, Bool, true, false, not, List, [], Option, IsSome, IfSome, String, ⊤, map, option_map}
 use Rattle.std.specs.BTreeMap.{BTreeMap, get_by_text}
@@ -48,11 +48,11 @@ AllComeFirst names (id ∷ ids) =
 abbrev pub by_id : {V : Type 0} → List (ScriptId × V) → List (Name × V)
 by_id es = map (λ e. (script_text e.0, e.1)) es
 
--- the script at a text, if one stands there
+-- the script at a text, if one is there
 abbrev pub script_at : {V : Type 0} → BTreeMap (String Global) (ScriptId × V) → Name → Option V
 script_at scripts name = option_map (λ e. e.1) (get_by_text scripts name)
 
--- each script stands under the text of its own id
+-- each script is under the text of its own id
 abbrev pub HaveOwnIds : {V : Type 0} → BTreeMap (String Global) (ScriptId × V) → Type 0
 HaveOwnIds scripts = (name : Name)
     → IfSome (get_by_text scripts name) (λ e. script_text e.0 ≡ name)

@@ -25,7 +25,7 @@ pub record Section : Type 0 where
 abbrev pub sections_at : Path → List SourceText → List Section
 sections_at path ss = map (λ s. record { path = path; text = s.text }) ss
 
--- where scripts stand: the table `scripts.setup`, the old table `script`, and `scripts.wrapper`
+-- where scripts are: the table `scripts.setup`, the old table `script`, and `scripts.wrapper`
 abbrev pub setup_path : Path
 setup_path = key_text keys.Scripts ∷ key_text keys.Setup ∷ []
 
@@ -44,7 +44,7 @@ setup_sections ss = sections_at setup_path ss ++ sections_at old_setup_path ss
 abbrev pub wrapper_sections : List SourceText → List Section
 wrapper_sections ss = sections_at wrapper_path ss
 
--- One id is defined before another: it stands in a table; the other stands in none of the tables
+-- One id is defined before another: it is in a table; the other is in none of the tables
 -- before that one, and in that one either not at all or behind it.
 pub record IsDefinedBefore (sections : List Section) (a b : Name) : Type 0 where
   pub earlier : List Section
@@ -72,6 +72,6 @@ pub record AreScriptsOf (ss : List SourceText) (scripts : ScriptTables) : Type 0
   pub setup : (id : Name) → at_name id scripts.setup
       ≡ option_or (at_name id file.new_setup) (at_name id file.old_setup)
   pub wrapper : (id : Name) → at_name id scripts.wrapper ≡ at_name id file.wrapper
-  -- and each id is defined before all that follow it, so that it stands here once
+  -- and each id is defined before all that follow it, so that it is here once
   pub setup_order : AllDefinedBefore (setup_sections ss) (names_in scripts.setup)
   pub wrapper_order : AllDefinedBefore (wrapper_sections ss) (names_in scripts.wrapper)

@@ -30,7 +30,7 @@ abbrev pub in_byte_order : List (List ℕ) → List (List ℕ)
 in_byte_order [] = []
 in_byte_order (t ∷ ts) = insert_text t (in_byte_order ts)
 
--- a text that is no document
+-- a text that is not a document
 abbrev pub document_cause : Option Node → Option LoadCause
 document_cause None = Some no_document
 document_cause (Some n) = None

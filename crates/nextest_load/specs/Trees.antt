@@ -7,7 +7,7 @@ use Rattle.nextest_tables.specs.Defaults.{defaults}
 use Rattle.nextest_tables.specs.FileTexts.{FileText, file_text}
 use Rattle.nextest_tree.specs.Node.{Node, table, no_entries}
 
--- the tree of a source, an empty one where its text is no document
+-- the tree of a source, an empty one where its text is not a document
 abbrev pub tree_in : SourceText → Node
 tree_in s = unwrap_or (tree_of s.text) (table no_entries)
 

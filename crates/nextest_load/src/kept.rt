@@ -1,4 +1,4 @@
-//! What a configuration keeps of a table, beside what becomes of its rules.
+//! What a configuration keeps of a table, beside its rules.
 ghost use Rattle.std.specs.Prelude.{◌≡◌, List, IfOk, IfSome, OnOk};
 ghost use Rattle.nextest_engines.specs.Readings.{readings_view};
 ghost use Rattle.nextest_load.specs.Config.{merged_profile};

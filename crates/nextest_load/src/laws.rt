@@ -23,7 +23,7 @@ pub fn law_least_element()
 /// Where a load refuses the parents that a source writes, or those of the merged tree, it names
 /// exactly the cycles of that tree: each once, from its least name, and in the order of these.
 ///
-/// A profile has no chain exactly where following parents from it leads into one of them, if no
+/// A profile has no chain exactly if following parents from it leads into one of them, if no
 /// base profile has a parent and none names itself.
 pub fn law_cycles()
     ensures own { (lower : NameSet) (s : SourceText) → RefusesCycles lower (own_file s) }

@@ -145,7 +145,8 @@ fn merged_tables(
     })
 }
 
-/// What a configuration keeps of the merged tree. Its faults are told at the repository's source.
+/// What a configuration keeps of the merged tree. Its faults are reported at the repository's
+/// source.
 fn read_merged(
     alloc: Global,
     repository: &ConfigSource,

@@ -37,7 +37,7 @@ fresh_marks entered at (Position i ∷ path) h =
     let none : i - 0 ≡ i = omega arith in
     rw (not_below at entered h, none) refl
 
--- how a path stands behind an entry, by its aim
+-- how a path is behind an entry, by its aim
 abbrev counted : ℕ → ℕ → ℕ → List Step → ℕ → ℕ → State
 counted entered count at path steps i =
     cond (nat_lt count i) (missing (marks entered (suc count) at path))

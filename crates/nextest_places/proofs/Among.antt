@@ -1,4 +1,4 @@
--- The keys of the table at a path are what stands there.
+-- The keys of the table at a path are what is there.
 use Rattle.std.proofs.Common.{◌≡◌, ℕ, Bool, true, false, ◌||◌, Ordering, Less, Equal, Greater, nat_cmp, is_eq, List, [], ◌∷◌, ◌++◌, Option, Some, None, is_some, option_and_then, refl, ◌∙◌}
 use Rattle.std.proofs.lemmas.Map.Text.{is_eq-slice_cmp}
 use Rattle.std.proofs.lemmas.Slice.Eq.{bytes_eq-Decides}
@@ -48,7 +48,7 @@ among_path (k ∷ path) (int z) id = refl
 among_path (k ∷ path) (bool b) id = refl
 among_path (k ∷ path) opaque id = refl
 
--- the ids of a document are those that stand in its text
+-- the ids of a document are those that are in its text
 pub exact_is : (path : Path) (body : List ℕ) (n : Node) (ids : List (List ℕ)) → tree_of body ≡ Some n
     → ids ≡ keys_at path n → (id : List ℕ) → is_among ids id ≡ stands_in path body id
 unfolding stands_in

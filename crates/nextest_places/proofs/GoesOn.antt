@@ -21,7 +21,7 @@ pub within : {behind : List ℕ} → (x y : List ℕ) → GoesOn behind x y → 
 within x y here = omega arith
 within x y (next c xs ys g) = omega (arith, within xs ys g)
 
--- after a byte that is no newline
+-- after a byte that is not a newline
 pub after_first : {behind : List ℕ} → (x y : List ℕ) → GoesOn behind x y → (first x == 10) ≡ false
     → GoesOn behind (drop 1 x) (drop 1 y)
 after_first x y here h = absurd (true≢false h)

@@ -32,7 +32,7 @@ pub known_rest : (text : List ℕ) (low : ℕ) (found : IdLines) (fronts : List 
 known_rest text low found fronts rest id ids (inl all) = inl all.1
 known_rest text low found fronts rest id ids (inr lead) = inr lead
 
--- ids that stand in the text, and facts of each of them in turn
+-- ids that are in the text, and facts of each of them in turn
 pub stand_rest : (path : Path) (text : List ℕ) (id : String Global) (ids : List (String Global))
     → AllByRecursion (λ id. stands_in path text id ≡ true) (map string_bytes (id ∷ ids))
     → AllByRecursion (λ id. stands_in path text id ≡ true) (map string_bytes ids)

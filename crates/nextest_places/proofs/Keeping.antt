@@ -12,7 +12,7 @@ use Rattle.nextest_places.specs.Path.{has_path}
 use Rattle.nextest_places.specs.Place.{is_there_by, text_has}
 use Rattle.nextest_places.proofs.Nodes.{longer_keep}
 
--- how fewer lines stand to more
+-- how fewer lines relate to more
 data Begins : List ℕ → List ℕ → Type 0 where
   empty : (y : List ℕ) → Begins [] y
   whole : (x : List ℕ) → Begins x x

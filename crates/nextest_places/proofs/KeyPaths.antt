@@ -77,7 +77,7 @@ of_document path id steps None same = refl
 of_document path id steps (Some n) same = same n
 
 module _ (path : Path) (steps : List Step) (are : AreStepsOf path steps) (id : Bor (List ℕ)) where
-  -- an id stands in a text where its path is there
+  -- an id is in a text where its path is there
   pub stands_is : (body : List ℕ) → stands_in path body id.now ≡ text_has (steps ++ Key id ∷ []) body
   unfolding stands_in
   stands_is body = of_document path id.now (steps ++ Key id ∷ []) (tree_of body)

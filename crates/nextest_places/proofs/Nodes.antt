@@ -1,4 +1,4 @@
--- What stands in whole lines stands in a longer document, as nodes.
+-- What is in whole lines is in a longer document, as nodes.
 use Rattle.std.proofs.Common.{◌≡◌, ℕ, zero, suc, true, Ordering, Less, Equal, Greater, nat_cmp, List, [], ◌∷◌, ◌++◌, Option, Some, None, is_some, option_map, option_and_then, refl, sym, ap, ◌∙◌}
 use Rattle.std.proofs.lemmas.Option.{none-some, same_Some}
 use Rattle.std.specs.Cmp.Lexicographic.{slice_cmp}

@@ -1,4 +1,4 @@
--- No definition takes away what stands in a document, in arrays as in tables.
+-- No definition takes away what is in a document, in arrays as in tables.
 use Rattle.std.proofs.Common.{◌≡◌, ℕ, zero, suc, Bool, true, List, [], ◌∷◌, ◌++◌, Option, Some, None, is_some, option_map, option_and_then, sym, subst, refl, inl, inr}
 use Rattle.std.proofs.lemmas.Bool.{cases_Bool, false≢true}
 use Rattle.std.proofs.lemmas.Option.{none-some, same_Some}

@@ -121,7 +121,7 @@ few_before path text (x ∷ y ∷ ids) few = absurd (omega (arith, few))
 
 module _ (path : Path) (text : List ℕ) (n : Node) (is : tree_of text ≡ Some n) (ids : List (List ℕ))
     (all : ids ≡ keys_at path n) where
-  -- each id stands in the text
+  -- each id is in the text
   pub all_stand : AllByRecursion (λ id. stands_in path text id ≡ true) ids
   all_stand = each_among ids (λ id. stands_in path text id) (λ id here. sym (exact_is path text n ids is all id) ∙ here)
 

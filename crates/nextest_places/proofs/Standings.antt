@@ -1,4 +1,4 @@
--- How the steps of a path stand in the nodes of a document.
+-- How the steps of a path are in the nodes of a document.
 use Rattle.std.proofs.Common.{◌≡◌, ℕ, zero, suc, Bool, true, false, List, [], ◌∷◌, Option, Some, None, is_some, option_and_then, option_map, refl, ◌∙◌}
 use Rattle.std.specs.Option.{option_map_or}
 use Rattle.toml.specs.Data.{Data, table, Items, no_items, item, get_item, push_item}
@@ -9,12 +9,12 @@ use Rattle.nextest_places.specs.declared.step.Step.TheVariants.{Key, Position}
 use Rattle.nextest_places.specs.Marks.{Mark, State, by_key, into, seen, never, missing, under, fresh}
 use Rattle.nextest_places.proofs.Stands.{value_at}
 
--- something stands there, or nothing ever will
+-- something is there, or nothing ever will
 abbrev pub settled : Bool → State
 settled true = seen
 settled false = never
 
--- in the element at a position, by how the rest stands in the last one
+-- in the element at a position, by how the rest is in the last one
 abbrev pub state_item : ℕ → List Step → Items → State → State
 state_item zero path no_items last = under (into zero) last
 state_item (suc i) path no_items last = missing (into (suc i) ∷ fresh path)
@@ -68,7 +68,7 @@ seen_item (suc i) path no_items last s same = refl
 seen_item zero path (item d ds) last s same = seen_settled (is_some (value_at path d))
 seen_item (suc i) path (item d ds) last s same = seen_item i path ds last s same
 
--- something is seen where the data that a node stands for has it
+-- something is seen where the data that a node means has it
 pub state_seen : (path : List Step) (x : Node) → is_seen (state path x) ≡ is_some (value_at path (close_node x))
 state_seen [] x = refl
 state_seen (Key k ∷ path) (value d) = seen_settled (is_some (value_at (Key k ∷ path) d))

@@ -1,4 +1,4 @@
--- What stands in the data of a document.
+-- What is in the data of a document.
 use Rattle.std.proofs.Common.{◌≡◌, true, List, [], ◌∷◌, Option, Some, is_some, option_and_then}
 use Rattle.toml.specs.Data.{Data, at, get}
 use Rattle.nextest_places.specs.declared.step.Step.{Step}

@@ -37,7 +37,7 @@ hex_kept n x y g =
           rw good (drop n y, rest, rw (wide, ← front, all, is_one))
     ]
 
--- the letter of an escape is no newline
+-- the letter of an escape is not a newline
 hex_letter : (c : ℕ) → nat_lt 0 (hex_len c) ≡ true → (c == 10) ≡ false
 hex_letter c h = grind (arith, nat_tests)
 
@@ -78,7 +78,7 @@ escape_kept multi x y g =
 abbrev pub is_delim : ℕ → Bool
 is_delim c = c == 34 || c == 39
 
--- a piece, or the end of the string, which is no newline
+-- a piece, or the end of the string, which is not a newline
 abbrev KeptPiece : List ℕ → Read (Option (List ℕ)) → Read (Option (List ℕ)) → Type 0
 KeptPiece behind None s = Unit {0}
 KeptPiece behind (Some (None, x)) s = (y : List ℕ) × GoesOn behind x y × (s ≡ Some (None, y))

@@ -1,4 +1,4 @@
--- How an expression changes the way in which a path's steps stand in a document.
+-- How an expression changes the way in which a path's steps are in a document.
 use Rattle.std.proofs.Common.{◌≡◌, ◌⊎◌, ℕ, zero, suc, Bool, true, false, cond, ◌==◌, List, [], ◌∷◌, ◌++◌, length, Option, Some, None, is_some, option_map, option_and_then, refl, sym, ap, ◌∙◌, subst, inl, inr}
 use Rattle.std.proofs.lemmas.Bool.{cases_Bool}
 use Rattle.std.proofs.lemmas.Map.Text.{is_eq-slice_cmp}
@@ -19,7 +19,7 @@ use Rattle.nextest_places.specs.Marks.{State, by_key, into, seen, never, missing
 use Rattle.nextest_places.proofs.Stands.{value_at}
 use Rattle.nextest_places.proofs.Standings.{settled, state_item, state, state_of, table_state, is_seen, state_seen}
 
--- how a path stands behind an expression
+-- how a path is behind an expression
 abbrev pub after : Kind → List (List ℕ) → State → State
 after kind parts seen = seen
 after kind parts never = never

@@ -214,7 +214,7 @@ text_is text doc path h =
     let node = tree_run text doc h in
     rw node (at_path path (table (close doc.0)) ∙ sym (state_seen path (open_table header doc.0)))
 
--- an outcome that tells how a path stands in a document
+-- an outcome that tells how a path is in a document
 abbrev pub Right : List Step → List ℕ → Document → Outcome → Type 0
 Right path text doc (found lines) = IsPlaceOfPath path text lines
 Right path text doc (waits ms) = table_state path doc.0 ≡ missing ms

@@ -51,7 +51,7 @@ key_of text =
     else key_equals text >>= (λ key.
     option_map (λ rest. ((key.0, false), rest)) (after_value recursion_limit key.1))
 
--- the parts of a key from the root on: those of a pair stand under the section
+-- the parts of a key from the root on: those of a pair are under the section
 abbrev pub parts_under : List (List ℕ) → Key × Bool → List (List ℕ)
 parts_under section key = (if key.1 then [] else section) ++ (key.0.0 ++ key.0.1 ∷ [])
 

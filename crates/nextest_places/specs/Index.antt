@@ -21,7 +21,7 @@ abbrev pub IsRight : List Step → List ℕ → ℕ → Outcome → Type 0
 IsRight path text low (found lines) = IsPlaceOfPath path text lines
 IsRight path text low (waits ms) = is_there_by path text low ≡ false
 
--- The entries tell of each path of the text, but the root's, where it is brought by the first `low`
+-- The entries say of each path of the text, but the root's, where it is brought by the first `low`
 -- lines, and whether it is.
 pub record IsWalked (text : List ℕ) (entries : List Entry) (low : ℕ) : Type 0 where
   pub within : low ≤ line_count text

@@ -1,4 +1,4 @@
--- How a path stands to the expressions of a text that were read by now.
+-- How a path relates to the expressions of a text that were read by now.
 use Rattle.std.specs.Prelude.{ℕ, zero, suc, if◌then◌else◌, List, [], ◌∷◌}
 use Rattle.std.specs.Str.{bytes_eq}
 use Rattle.nextest_places.specs.declared.entry.Kind.{Kind}

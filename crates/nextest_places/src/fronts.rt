@@ -44,7 +44,7 @@ impl<'a> Fronts<'a> {
         self.ends.len()
     }
 
-    /// The first `count` lines, as they stand.
+    /// The first `count` lines, as they are.
     pub(crate) fn front(&self, count: usize) -> &'a str
         requires { count ≤ line_count self.now }
         ensures { result.now ≡ first_lines count self.now }

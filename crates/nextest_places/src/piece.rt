@@ -24,7 +24,7 @@ pub(crate) struct Piece<'a> {
 
 /// The piece at the front of a text, if one is found: a line alone, or all lines of an expression,
 /// of which neither the first nor the last one is blank. At the start of a document a byte order
-/// mark may stand before it.
+/// mark may be before it.
 pub(crate) fn next_piece<'a>(
     alloc: Global,
     text: &'a str,

@@ -27,7 +27,7 @@ pub record IsReport (facts : ProfileFacts) (report : JunitConfig) : Type 0 where
   pub flaky_fail_status : nearest (in_report (λ r. r.flaky_fail_status)) facts.fields
       ≡ Some report.flaky_fail_status
 
--- there is a report exactly where a path is set, and then it is that of the profile
+-- there is a report exactly if a path is set, and then it is that of the profile
 abbrev pub IsReportWhereSet : ProfileFacts → Option JunitConfig → Type 0
 IsReportWhereSet facts None = report_path facts.fields ≡ None
 IsReportWhereSet facts (Some report) = IsReport facts report

@@ -1,4 +1,4 @@
--- Script rules that name scripts which are there, and that answer for binaries.
+-- Script rules that name scripts which are there, and that have known values for binaries.
 use Rattle.std.specs.Borrow.{Bor}
 use Rattle.std.specs.Prelude.{List, map}
 use Rattle.nextest_load.specs.Closed.{BinaryMatch, AnswersBinaries}
@@ -29,7 +29,7 @@ abbrev pub evaluated_use : {F S E T N P : Type 0}
     → EvaluatedRule (CompiledProfileScripts F S E T N P) → ScriptUse
 evaluated_use r = (script_rule_ref_view r.rule).writes.scripts
 
--- each filter beside a list wrapper, of rules behind references, answers for each binary
+-- each filter beside a list wrapper, of rules behind references, has a known value for each binary
 abbrev pub AnswerLists : {F S E T N P M K : Type 0} → (E → M) → (N → K) → BinaryMatch M
     → List (Bor (CompiledProfileScripts F S E T N P)) → Type 0
 AnswerLists f g matches rules =

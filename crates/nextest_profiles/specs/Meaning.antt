@@ -15,7 +15,7 @@ abbrev pub configured_meaning : {E N M K : Type 0} → (E → M) → (N → K) �
     → Configured M K
 configured_meaning f g c = with_config c (config_meaning f g c.config)
 
--- what a default filter means, where it stands
+-- what a default filter means, where it is
 abbrev pub choice_meaning : {E M : Type 0} → (E → M) → FilterChoice E → FilterChoice M
 choice_meaning f c = record {
   filter = f c.filter;

@@ -20,11 +20,11 @@ pub record AreSettingsOf {F S Src E T N P M : Type 0} (meaning : E → M) (query
   pub values : (s : Setting) → value_at settings s ≡ setting_value query mode profile s
   -- each origin is that of this rule, else of the fallback
   pub origins : (s : Setting) → origin_at settings s ≡ setting_origin query mode profile s
-  -- the override that is handed out has the filter of the one that decides, and writes the same
+  -- the override that is returned has the filter of the one that decides, and writes the same
   pub overrides : (s : Setting)
       → option_map (override_text_meaning meaning) (override_at settings s)
       ≡ option_map rule_text (deciding_override query mode profile.overrides s)
-  -- the script rule that is handed out is the first that holds and names a run wrapper: it has the
+  -- the script rule that is returned is the first that holds and names a run wrapper: it has the
   -- id of that rule, and names its scripts
   pub script_rule : wrapping_use_at settings
       ≡ option_map (λ r. r.writes) (wrapping_rule query profile.script_rules)

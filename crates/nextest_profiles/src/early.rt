@@ -54,7 +54,7 @@ impl<'cfg, F: Filters, S: Specs> Model for EarlyProfile<'cfg, F, S> {
 
     ghost use Rattle.nextest_profiles.specs.Known.{KnowsScripts, AnswerLists, named_use};
 
-    /// The scripts that rules name are there, and each filter beside a list wrapper answers for
+    /// The scripts that rules name are there, and each filter beside a list wrapper has a value for
     /// each binary.
     ghost invariant = { λ p. KnowsScripts p.facts.scripts
         (map named_use p.rules.script_rules.items)

@@ -60,7 +60,7 @@ impl<'cfg, F: Filters, S: Specs> Model for EvaluatableProfile<'cfg, F, S> {
     ghost use Rattle.nextest_settings.specs.View.{meant_script_rule};
     ghost use Rattle.nextest_profiles.specs.Known.{KnowsScripts, evaluated_use};
 
-    /// The scripts that rules name are there, and each filter beside a list wrapper answers for
+    /// The scripts that rules name are there, and each filter beside a list wrapper has a value for
     /// each binary.
     ghost invariant = { λ p. KnowsScripts p.facts.scripts
         (map evaluated_use p.rules.script_rules.items)
@@ -356,7 +356,7 @@ impl<'cfg, F: Filters, S: Specs> EvaluatableProfile<'cfg, F, S> {
             .setup_scripts(alloc, self.facts.scripts(), queries, tally)
     }
 
-    /// The groups of tests by name, for filters that ask for the group of a test. Of tests of one
+    /// The groups of tests by name, for filters that use the group of a test. Of tests of one
     /// name the last that gets a custom group counts; for a name that is not among them
     /// the group is the global one.
     pub fn precompute_group_memberships(

@@ -1,4 +1,4 @@
--- What a source defines has no fault exactly where it is accepted.
+-- What a source defines has no fault exactly if it is accepted.
 use Rattle.std.proofs.Common.{◌≡◌, ◌↔◌, ◌⊎◌, ⊎_elim, List, [], ◌∷◌, ◌++◌, filter, Bool, true, false, not, ◌&&◌, IsTrue, None, refl, sym, inl, inr}
 use Rattle.std.proofs.lemmas.Bool.{false≢true}
 use Rattle.nextest_tree.specs.Schema.{is_one_of}
@@ -18,7 +18,7 @@ use Rattle.nextest_rules.specs.Steps.{definition_steps, deprecated_steps, reserv
 use Rattle.nextest_rules.proofs.Owning.{may_define_law}
 use Rattle.nextest_rules.proofs.Passing.{iff_trans, iff_both, both_pass, check_passes, warnings_pass, if_some_none, if_true_none, each_same, filter_none, not_false, is_false}
 
--- a source may define all names exactly where none is forbidden
+-- a source may define all names exactly if none is forbidden
 may_define_all : (cause : List Name → LoadCause) (kind : SourceKind) (names : List Name)
     → (if_some cause (forbidden_names kind names) ≡ None) ↔ Each (MayDefine kind) names
 may_define_all cause kind names =
@@ -57,7 +57,7 @@ features_are_on features file =
     both s w SetupScripts = s
     both s w WrapperScripts = w
 
--- no id is common exactly where none stands in the other list
+-- no id is common exactly if none is in the other list
 none_common : (cause : List Name → LoadCause) (xs ys : List Name)
     → (if_some cause (common_names xs ys) ≡ None) ↔ Each (λ id. ¬ IsIn ys id) xs
 none_common cause xs ys =
@@ -65,7 +65,7 @@ none_common cause xs ys =
     (iff_trans (filter_none (is_one_of ys) xs)
     (each_same (λ id. is_one_of ys id ≡ false) (λ id. ¬ IsIn ys id) (λ id. is_false (is_one_of ys id)) xs))
 
--- What a source defines has no fault exactly where it is accepted.
+-- What a source defines has no fault exactly if it is accepted.
 pub accepted_definitions : (features : Features) (source : Source) (file : FileText)
     → (first_fault (definition_steps features source file) ≡ None) ↔ AreAcceptedDefinitions features source file
 accepted_definitions features source file = (to, from)

@@ -1,4 +1,4 @@
--- The rules of a source have no fault exactly where they are accepted.
+-- The rules of a source have no fault exactly if they are accepted.
 use Rattle.std.proofs.Common.{◌≡◌, ◌↔◌, ⊎_elim, ℕ, List, [], ◌∷◌, ◌++◌, length, map, filter, flat_map, Bool, true, false, not, ◌&&◌, ◌||◌, cond, is_some, Option, Some, None, option_to_list, Result, Ok, Err, nat_cmp, refl, ap, subst, inl, inr}
 use Rattle.std.specs.Cmp.Lexicographic.{slice_cmp}
 use Rattle.std.specs.List.{enumerate_from}
@@ -43,7 +43,7 @@ refused_at (Err e) = (λ h. cc, λ h. absurd (err_is_ok e h.0 h.1))
     err_is_ok : {M : Type 0} (e : List ℕ) (m : M) → Err e ≡ Ok m → ⊥
     err_is_ok e m h = cc
 
--- a text is not refused exactly where it is read, if there is one
+-- a text is not refused exactly if it is read, if there is one
 read_or_none : {M : Type 0} (read : List ℕ → Result M (List ℕ)) (t : Option (List ℕ))
     → (refusal_of read t ≡ None) ↔ IsReadIfWritten read t
 read_or_none read None = (λ h. tt, λ h. refl)
@@ -282,7 +282,7 @@ all_sound lower profiles sorted =
     (sound_parents (is_known lower written) written
     (subst (λ names. IsStrictlySortedBy (slice_cmp nat_cmp) names) (parents_named profiles) sorted))
 
--- The rules of a source have no fault exactly where they are accepted.
+-- The rules of a source have no fault exactly if they are accepted.
 pub accepted_rules : {M K P : Type 0} (engines : Readings M K P) (lower : NameSet) (known : KnownNames)
     (source : Source) (file : FileText)
     → IsStrictlySortedBy (slice_cmp nat_cmp) (names_in file.profiles)

@@ -1,4 +1,4 @@
--- The scripts that rules name have no fault exactly where they are known for their uses.
+-- The scripts that rules name have no fault exactly if they are known for their uses.
 use Rattle.std.proofs.Common.{◌≡◌, ◌↔◌, ℕ, List, [], ◌∷◌, ◌++◌, map, Bool, true, false, not, ◌&&◌, ◌||◌, cond, IsTrue, IsSome, Option, Some, None, option_to_list, Result, Ok, Err, refl, sym, ap, ◌∙◌, inr}
 use Rattle.std.specs.List.{enumerate_from}
 use Rattle.std.specs.Result.{result_ok}
@@ -23,7 +23,7 @@ use Rattle.nextest_rules.specs.Steps.{script_cause_in, are_none}
 use Rattle.nextest_rules.proofs.Passing.{iff_trans, iff_sym, iff_both, if_true_none, each_same, each_both, each_append, each_map, flat_none}
 use Rattle.nextest_rules.proofs.EachPart.{each_in_order, each_numbered, filter_map_none, each_of_option, listed_none, either}
 
--- a use has no fault exactly where the script is known for it
+-- a use has no fault exactly if the script is known for it
 pub use_serves : (known : KnownSets) (profile : Name) (u : Name × ProfileScriptType)
     → ((unknown_script known profile u.0 ≡ None) × (wrong_script known profile u ≡ None))
     ↔ IsTrue (serves known u.1 u.0)

@@ -1,4 +1,4 @@
--- What stands at a name: where each element is made of another, and among those that pass a test.
+-- What is at a name: where each element is made of another, and among those that pass a test.
 use Rattle.std.proofs.Common.{◌≡◌, ◌∙◌, List, [], ◌∷◌, map, filter, Bool, true, false, cond, Option, None, Some, option_map, Ordering, Less, Equal, Greater, nat_cmp, is_eq, refl, sym, ap}
 use Rattle.std.proofs.lemmas.Map.Lookups.{exact_bytes}
 use Rattle.std.specs.Cmp.Lexicographic.{slice_cmp}
@@ -16,7 +16,7 @@ module _ {X Y : Type 0} (h : Name → X → Y) (name : Name) where
   mapped_step Equal key x later r is rest = ap (λ n. Some (h n x)) (sym (exact_bytes name key is))
   mapped_step Greater key x later r is rest = rest
 
-  -- what stands at a name, where each element is made of its name and its value
+  -- what is at a name, where each element is made of its name and its value
   pub at_mapped : (es : List (Name × X))
       → at_name name (map (λ e. (e.0, h e.0 e.1)) es) ≡ option_map (h name) (at_name name es)
   at_mapped [] = refl
@@ -36,7 +36,7 @@ module _ {X : Type 0} (f : Node → X) (name : Name) where
   at_each (entry k n es) = each_step (slice_cmp nat_cmp name k) n (at_name name (each_in f es)) (get name es)
       (at_each es)
 
--- what stands at a name among those that pass
+-- what is at a name among those that pass
 module _ {X : Type 0} (passes : Name → Bool) (id : Name) where
   filtered_step : (o : Ordering) (b c : Bool) (x : X) (rest found : Option X) → (o ≡ Equal → b ≡ c)
       → rest ≡ cond c found None

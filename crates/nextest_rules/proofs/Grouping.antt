@@ -7,7 +7,7 @@ use Rattle.nextest_elements.specs.declared.test_group.TestGroup.TheVariants as g
 use Rattle.nextest_tables.specs.Written.{Name}
 use Rattle.nextest_rules.specs.RuleFaults.{group_fault}
 
--- a group that is known is no fault, and any other custom one is
+-- a group that is known is not a fault, and any other custom one is
 pub group_known : (is_known : Name → Bool) (profile : Name) (o : Option TestGroup) (g : CustomTestGroup)
     → o ≡ Some (groups.Custom g)
     → is_known (custom_group_text g) ≡ true → group_fault is_known profile o ≡ None

@@ -75,7 +75,7 @@ all_together see f es default others all is d o =
     ((λ i. (sym (append-nil (map see default)) ∙ d) i ++ (sym (append-nil (map see others)) ∙ o) i)
     ∙ sym (together f es))
 
--- one profile more in an order: it stands in one of two parts
+-- one profile more in an order: it is in one of two parts
 pub one_more : {X Y : Type 0} (see : X → Y) (passes : Y → Bool) (so_far now : List X) (x : X) (es : List Y)
     (b : Bool) → now ≡ so_far ++ (if b then x ∷ [] else []) → passes (see x) ≡ b
     → map see now ++ filter passes es ≡ map see so_far ++ filter passes (see x ∷ es)

@@ -1,4 +1,4 @@
--- Steps without a fault, and lists that are empty exactly where each element has a fact.
+-- Steps without a fault, and lists that are empty exactly if each element has a fact.
 use Rattle.std.proofs.Common.{◌≡◌, ◌↔◌, List, [], ◌∷◌, ◌++◌, map, filter, flat_map, Bool, true, false, not, IsTrue, Option, Some, None, refl, sym, ◌∙◌}
 use Rattle.std.specs.Option.{option_or}
 use Rattle.std.proofs.lemmas.Bool.{false≢true}
@@ -27,7 +27,7 @@ no_more : {X : Type 0} (a b : Option X) → (option_or a b ≡ None) ↔ ((a ≡
 no_more None b = (λ h. (refl, h), λ p. p.1)
 no_more (Some x) b = (λ h. cc, λ p. p.0)
 
--- two lists of steps have no fault exactly where neither has one
+-- two lists of steps have no fault exactly if neither has one
 pub both_pass : (xs ys : List LoadStep)
     → (first_fault (xs ++ ys) ≡ None) ↔ ((first_fault xs ≡ None) × (first_fault ys ≡ None))
 both_pass xs ys =
@@ -35,7 +35,7 @@ both_pass xs ys =
     let same = first_fault-append xs ys in
     (λ h. split.0 (sym same ∙ h), λ p. same ∙ split.1 p)
 
--- a check has no fault exactly where it has no cause
+-- a check has no fault exactly if it has no cause
 pub check_passes : (s : Source) (c : Option LoadCause) (steps : List LoadStep)
     → (first_fault (check s c ∷ steps) ≡ None) ↔ ((c ≡ None) × (first_fault steps ≡ None))
 check_passes s None steps = (λ h. (refl, h), λ p. p.1)
@@ -88,7 +88,7 @@ pub each_map : {X Y : Type 0} (f : X → Y) (P : Y → Type 0) (xs : List X) →
 each_map f P [] = (λ h. h, λ h. h)
 each_map f P (x ∷ xs) = iff_both (λ h. h, λ h. h) (each_map f P xs)
 
--- what f gives for each element is nothing exactly where it gives nothing for any
+-- what f gives for each element is nothing exactly if it gives nothing for any
 pub flat_none : {X Y : Type 0} (f : X → List Y) (xs : List X) → (flat_map f xs ≡ []) ↔ Each (λ x. f x ≡ []) xs
 flat_none f [] = (λ h. tt, λ h. refl)
 flat_none f (x ∷ xs) = iff_trans (both_empty (f x) (flat_map f xs)) (iff_both (λ h. h, λ h. h) (flat_none f xs))

@@ -1,4 +1,4 @@
--- What is asked of one source: of what it defines, and of its rules.
+-- What is required of one source: of what it defines, and of its rules.
 use Rattle.std.specs.Prelude.{◌≡◌, ◌⊎◌, ℕ, List, [], true, Option, None, Some, Result, Ok, IsSome, IsTrue}
 use Rattle.nextest_tree.specs.Schema.{is_one_of}
 use Rattle.nextest_elements.specs.TestGroup.{custom_group_text}
@@ -60,18 +60,18 @@ IsAmong names (Some (groups.Custom group)) = is_one_of names (custom_group_text 
 IsAmong names (Some groups.Global) = Unit {0}
 IsAmong names None = Unit {0}
 
--- the scripts that a rule names are known, each of the kind that its use asks for
+-- the scripts that a rule names are known, each of the kind that its use requires
 pub record AreKnownScripts (known : KnownNames) (scripts : ScriptUse) : Type 0 where
   pub setup : Each (IsIn known.setup_scripts) scripts.setup
   pub list_wrapper : IfWritten scripts.list_wrapper (IsIn known.wrapper_scripts)
   pub run_wrapper : IfWritten scripts.run_wrapper (IsIn known.wrapper_scripts)
 
--- a rule with a list wrapper has a filter without parts that only a test can answer
+-- a rule with a list wrapper has a filter without parts that only a test can decide
 abbrev pub ListsWithoutTests : {M K P : Type 0} → Readings M K P → ScriptRuleText → Type 0
 ListsWithoutTests {M} engines r = IsSome r.scripts.list_wrapper → (t : List ℕ) (m : M)
     → r.filter ≡ Some t → engines.read_filter DefaultFilter t ≡ Ok m → engines.leaves m ≡ []
 
--- All that is asked of a profile of a source.
+-- All that is required of a profile of a source.
 pub record IsAcceptedProfile {M K P : Type 0} (engines : Readings M K P) (known : KnownNames)
     (p : ProfileText) : Type 0 where
   -- its default filter is read
@@ -83,10 +83,10 @@ pub record IsAcceptedProfile {M K P : Type 0} (engines : Readings M K P) (known 
   pub groups : Each (λ o. IsAmong known.groups o.settings.test_group) p.overrides
   -- each script that a rule names is known and of the right kind
   pub scripts : Each (λ r. AreKnownScripts known r.scripts) p.script_rules
-  -- each rule with a list wrapper can be answered without a test
+  -- each rule with a list wrapper can be decided without a test
   pub lists : Each (ListsWithoutTests engines) p.script_rules
 
--- All that is asked of what a source defines.
+-- All that is required of what a source defines.
 pub record AreAcceptedDefinitions (features : Features) (source : Source) (file : FileText)
     : Type 0 where
   -- it may define the groups and the scripts that it defines
@@ -100,7 +100,7 @@ pub record AreAcceptedDefinitions (features : Features) (source : Source) (file 
   -- no script is both a setup script and a wrapper script
   pub one_kind : Each (λ id. ¬ IsIn file.wrapper_scripts id) (setup_ids_of file)
 
--- All that is asked of the rules of a source over lower files.
+-- All that is required of the rules of a source over lower files.
 pub record AreAcceptedRules {M K P : Type 0} (engines : Readings M K P) (lower : NameSet)
     (known : KnownNames) (file : FileText) : Type 0 where
   -- its parents are sound beside the profiles of lower files

@@ -8,7 +8,7 @@ use Rattle.nextest_tables.specs.FileTexts.{FileText, setup_ids_of}
 use Rattle.nextest_tables.specs.Written.{Name}
 use Rattle.nextest_sources.specs.Sources.{SourceKind, owner_of_source}
 
--- A source may define a name exactly where the name's owner is the source's.
+-- A source may define a name exactly if the name's owner is the source's.
 abbrev pub MayDefine : SourceKind → Name → Type 0
 MayDefine kind name = owner_of_name name ≡ owner_of_source kind
 
@@ -24,7 +24,7 @@ source_class kind = owner_class (owner_of_source kind)
 abbrev pub forbidden_names : SourceKind → List Name → List Name
 forbidden_names kind names = filter (λ name. not (may_define kind name)) names
 
--- the names that stand in both lists
+-- the names that are in both lists
 abbrev pub common_names : List Name → List Name → List Name
 common_names xs ys = filter (is_one_of ys) xs
 
@@ -46,7 +46,7 @@ needs_feature f WrapperScripts = is_nonempty f.wrapper_scripts
 abbrev pub all_features : List ConfigExperimental
 all_features = SetupScripts ∷ WrapperScripts ∷ []
 
--- the features that a file needs and that are not switched on, in order
+-- the features that a file needs and that are not enabled, in order
 abbrev pub features_missing : Features → FileText → List ConfigExperimental
 features_missing features f =
     filter (λ feature. needs_feature f feature && not (features feature)) all_features

@@ -50,7 +50,7 @@ serves known uses.RunWrapper id = known.wrapper_scripts id
 abbrev pub is_known_script : KnownSets → Name → Bool
 is_known_script known id = known.setup_scripts id || known.wrapper_scripts id
 
--- the kind that a use does not ask for
+-- the kind that a use does not require
 abbrev pub other_kind : ProfileScriptType → ScriptType
 other_kind uses.Setup = kinds.Wrapper
 other_kind uses.ListWrapper = kinds.Setup
@@ -82,7 +82,7 @@ unknown_scripts_of known profile uses = filter_map (λ u. unknown_script known p
 abbrev pub wrong_scripts_of : KnownSets → Name → List (Name × ProfileScriptType) → List WrongScript
 wrong_scripts_of known profile uses = filter_map (wrong_script known profile) uses
 
--- the parts of a filter that only a test can answer, none where there is no filter
+-- the parts of a filter that only a test can decide, none where there is no filter
 abbrev pub test_parts : {M : Type 0} → (M → List (List ℕ)) → Option M → List (List ℕ)
 test_parts leaves None = []
 test_parts leaves (Some m) = leaves m

@@ -53,7 +53,7 @@ pub record Layer (M K : Type 0) : Type 0 where
   pub source : Source
   pub profiles : List (Name × LayerProfile M K)
 
--- what stands at a name
+-- what is at a name
 abbrev pub at_name : {X : Type 0} → Name → List (Name × X) → Option X
 at_name name es = lookup (is_at (slice_cmp nat_cmp name)) es
 

@@ -17,12 +17,12 @@ use Rattle.nextest_rules.specs.Known.{KnownSets, with_global, known_scripts}
 use Rattle.nextest_rules.specs.RuleFaults.{group_faults_in, script_faults_in, names_none}
 use Rattle.nextest_rules.specs.Rules.{LayerProfile, layer_of}
 
--- a cause that tells what was found, if anything was
+-- a cause with what was found, if anything was
 abbrev pub if_some : {X : Type 0} → (List X → LoadCause) → List X → Option LoadCause
 if_some cause [] = None
 if_some cause (x ∷ xs) = Some (cause (x ∷ xs))
 
--- a warning that tells what was found, if anything was
+-- a warning with what was found, if anything was
 abbrev pub warn_if_some : {X : Type 0} → (List X → Warning) → List X → List LoadStep
 warn_if_some warning [] = []
 warn_if_some warning (x ∷ xs) = warn (warning (x ∷ xs)) ∷ []
@@ -48,7 +48,7 @@ abbrev pub key_cause : FileText → Option LoadCause
 key_cause file = if_true both_script_keys
     (is_nonempty file.old_setup_scripts && is_nonempty (new_ids_of file))
 
--- features that a file needs and that are not switched on
+-- features that a file needs and that are not enabled
 abbrev pub feature_cause : Features → FileText → Option LoadCause
 feature_cause features file = if_some missing_features (features_missing features file)
 
@@ -91,7 +91,7 @@ abbrev pub compile_cause : {M K P : Type 0} → Readings M K P → List (Name ×
     → Option LoadCause
 compile_cause engines profiles = if_some compile_refusals (compile_faults engines profiles)
 
--- groups that rules write and that are not known, in the order of the profiles: told with those
+-- groups that rules write and that are not known, in the order of the profiles: reported with those
 -- that are known
 abbrev pub group_cause_in : {M K : Type 0} → NameSet → (order : List (Name × LayerProfile M K))
     → Option LoadCause
@@ -105,7 +105,7 @@ are_none faults =
     not (is_nonempty faults.unknown_scripts
     || (is_nonempty faults.wrong_scripts || is_nonempty faults.list_filters))
 
--- what is wrong with the scripts that rules name, in the order of the profiles: told with those
+-- what is wrong with the scripts that rules name, in the order of the profiles: reported with those
 -- that are known
 abbrev pub script_cause_in : {M K : Type 0} → (M → List (List ℕ)) → KnownSets
     → (order : List (Name × LayerProfile M K)) → Option LoadCause

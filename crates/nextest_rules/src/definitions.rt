@@ -22,7 +22,7 @@ use nextest_tables::FileTable;
 use std::alloc::{AllocError, Global};
 use std::collections::BTreeSet;
 
-/// Checks the names of groups, and under which keys scripts stand.
+/// Checks the names of groups, and under which keys scripts are.
 fn check_groups_and_keys(
     alloc: Global,
     source: &ConfigSource,

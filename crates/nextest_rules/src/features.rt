@@ -36,7 +36,7 @@ fn is_on(features: &BTreeSet<ConfigExperimental>, feature: ConfigExperimental) -
     features.contains(&feature)
 }
 
-/// Adds a feature that a file needs, if it is not switched on.
+/// Adds a feature that a file needs, if it is not enabled.
 fn add_if_missing(
     missing: &mut Vec<ConfigExperimental>,
     features: &BTreeSet<ConfigExperimental>,
@@ -53,7 +53,7 @@ fn add_if_missing(
     Ok(())
 }
 
-/// The features that a file needs and that are not switched on, in order.
+/// The features that a file needs and that are not enabled, in order.
 fn missing_features(
     alloc: Global,
     features: &BTreeSet<ConfigExperimental>,
@@ -78,7 +78,7 @@ fn missing_features(
     Ok(missing)
 }
 
-/// Refuses a file that needs features which are not switched on, with all of them.
+/// Refuses a file that needs features which are not enabled, with all of them.
 pub(crate) fn check_features(
     alloc: Global,
     features: &BTreeSet<ConfigExperimental>,

@@ -15,7 +15,7 @@ ghost use Rattle.nextest_tables.specs.FileTexts.{FileText, names_in};
 
 use nextest_engines::{Filters, ParseContext, Specs};
 
-/// What a source defines has no fault exactly where it is accepted.
+/// What a source defines has no fault exactly if it is accepted.
 pub fn law_accepted_definitions()
     ensures { (features : Features) (source : Source) (file : FileText)
         → (first_fault (definition_steps features source file) ≡ None)

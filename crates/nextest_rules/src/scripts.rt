@@ -1,4 +1,4 @@
-//! The scripts that rules name: each has to be known, and to be of the kind that its use asks for.
+//! The scripts that rules name: each has to be known, and to be of the kind that its use requires.
 ghost use Rattle.std.specs.Prelude.{◌≡◌, ◌∷◌, [], map, ℕ, List, IfOk, OnOk, option_map, option_to_list};
 ghost use Rattle.std.specs.BTreeSet.{contains_text};
 ghost use Rattle.nextest_scripts.specs.ScriptId.{script_text};
@@ -53,7 +53,7 @@ fn serves(known: &KnownNames, attempted: ProfileScriptType, id: &ScriptId) -> bo
     }
 }
 
-/// The kind that a use does not ask for.
+/// The kind that a use does not require.
 fn other_kind(attempted: ProfileScriptType) -> ScriptType
     ensures { result ≡ faults.other_kind attempted }
 {
@@ -104,7 +104,7 @@ fn wrong_script(
     }))
 }
 
-/// What is wrong with the filter of a rule of a profile that stands beside a list wrapper.
+/// What is wrong with the filter of a rule of a profile that is beside a list wrapper.
 fn list_filter<F: Filters>(
     alloc: Global,
     known: &KnownNames,

@@ -45,7 +45,7 @@ chars_pushed xs c u s =
 pub chars_none : chars [] ≡ []
 chars_none = chars-nil
 
--- One step of each reader, by the character that stands there.
+-- One step of each reader, by the character that is there.
 
 pub comment_nil : words_from_comment [] ≡ words_from None []
 unfolding words_from

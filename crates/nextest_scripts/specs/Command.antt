@@ -51,7 +51,7 @@ a_command = closed_struct a_command_line command_fields
 abbrev pub line_of : ScriptCommand → CommandLine
 line_of command = record { program = command.program; args = command.args }
 
--- The variables of the table that stands at a key, none where there is no table.
+-- The variables of the table that is at a key, none where there is no table.
 abbrev pub IsEnvAt : Option Node → ScriptCommandEnvMap → Type 0
 IsEnvAt None env = env_view env ≡ []
 IsEnvAt (Some n) env = IsEnvMap n env

@@ -29,8 +29,8 @@ pub record IsEnvVarKey (key : List ℕ) : Type 0 where
 abbrev pub is_env_var_key : List ℕ → Bool
 is_env_var_key key = starts_well key && is_plain key && not (is_reserved_key key)
 
--- An error names the key, and the first of the three conditions that fails; want of memory names
--- none.
+-- An error names the key, and the first of the three conditions that fails; a refusal of memory
+-- names none.
 abbrev pub IsFaultOf : List ℕ → EnvVarError → Type 0
 IsFaultOf key (InvalidKeyStartChar named) = (string_bytes named ≡ key) × IsFalse (starts_well key)
 IsFaultOf key (InvalidKey named) =

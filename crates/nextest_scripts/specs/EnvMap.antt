@@ -11,7 +11,7 @@ use Rattle.nextest_scripts.specs.declared.env_map.ScriptCommandEnvMap.{ScriptCom
 unfoldable pub env_key_expected : List ℕ
 env_key_expected = codes "the key of an environment variable"
 
--- A key that is no key of an environment variable is refused.
+-- A key that is not a key of an environment variable is refused.
 abbrev pub env_key_cause : List ℕ → Option FaultCause
 env_key_cause key = if is_env_var_key key then None else Some (bad_value key env_key_expected)
 

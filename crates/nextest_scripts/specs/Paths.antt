@@ -9,11 +9,11 @@ slash = 47
 abbrev pub is_absolute : List ℕ → Bool
 is_absolute path = slice_index path 0 == slash
 
--- A path is open if a name can follow it as it stands: it is empty, or ends with a slash.
+-- A path is open if a name can follow it as it is: it is empty, or ends with a slash.
 abbrev pub is_open_path : List ℕ → Bool
 is_open_path path = length path == 0 || slice_index path (length path - 1) == slash
 
--- Two paths joined: an absolute second one replaces the first; else a slash stands between, unless
+-- Two paths joined: an absolute second one replaces the first; else a slash is between, unless
 -- the first is open.
 abbrev pub joined_path : (first second : List ℕ) → List ℕ
 joined_path first second =

@@ -17,7 +17,7 @@ use Rattle.nextest_scripts.specs.declared.setup_timeout.SetupScriptSlowTimeout.{
 use Rattle.nextest_scripts.specs.declared.setup_timeout.SetupTimeoutResult.{SetupTimeoutResult}
 use Rattle.nextest_scripts.specs.declared.setup_timeout.SetupTimeoutResult.TheVariants.{Fail}
 
--- What comes of a setup script that is ended: it fails, and never passes.
+-- The result of a setup script that is terminated: it fails, and never passes.
 unfoldable pub setup_result_names : List (List ℕ × SetupTimeoutResult)
 setup_result_names = (codes "fail", Fail) ∷ []
 
@@ -25,11 +25,11 @@ setup_result_names = (codes "fail", Fail) ∷ []
 unfoldable pub setup_result_expected : List ℕ
 setup_result_expected = codes "`fail`"
 
--- What comes of a setup script that is ended, as a node spells it.
+-- The result of a setup script that is terminated, as a node spells it.
 abbrev pub setup_result_at : Node → Result SetupTimeoutResult FaultCause
 setup_result_at = name_at setup_result_names setup_result_expected
 
--- The one name of what comes of a setup script that is ended.
+-- The one name of the result of a setup script that is ended.
 unfoldable pub a_setup_result : Schema
 a_setup_result = value setup_result_at
 
@@ -90,7 +90,7 @@ setup_junit_table es = record {
 abbrev pub a_setup_junit : Schema
 a_setup_junit = struct setup_junit_fields
 
--- What the table that stands at a key says of a report, which keeps all where there is none.
+-- What the table that is at a key says of a report, which keeps all where there is none.
 abbrev pub setup_junit_at : Option Node → SetupScriptJunitConfig
 setup_junit_at (Some (table es)) = setup_junit_table es
 setup_junit_at _ = full_setup_junit
@@ -113,7 +113,7 @@ setup_script_fields = must keys.Command a_command setup_option_fields
 unfoldable pub a_setup_script : Schema
 a_setup_script = struct setup_script_fields
 
--- A setup script's table spells its command and its timeouts; outputs are captured only where it
+-- A setup script's table spells its command and its timeouts; outputs are captured only if it
 -- says so.
 pub record IsSetupScript (es : Entries) (script : SetupScriptConfig) : Type 0 where
   pub command : IsOptional IsCommand (get (key_text keys.Command) es) (Some script.command)

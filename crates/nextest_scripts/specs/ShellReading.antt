@@ -5,7 +5,7 @@
 use Rattle.std.specs.Prelude.{◌==◌, ◌&&◌, ◌∷◌, ◌++◌, ℕ, List, [], Option, Some, None, is_none, unwrap_or, option_map, if◌then◌else◌}
 use Rattle.nextest_scripts.specs.ShellWords.{is_delimiter, is_escapable, line_feed, double_quote, number_sign, single_quote, backslash}
 
--- The word that is begun, if one is, stands before the other words.
+-- The word that is begun, if one is, is before the other words.
 abbrev pub behind : Option (List ℕ) → Option (List (List ℕ)) → Option (List (List ℕ))
 behind None words = words
 behind (Some word) words = option_map (λ others. word ∷ others) words

@@ -36,14 +36,14 @@ is_escapable c = c == 36 || c == 96 || c == double_quote || c == backslash
 abbrev pub is_special : ℕ → Bool
 is_special c = is_delimiter c || c == backslash || c == single_quote || c == double_quote
 
--- The text behind a single quote: the characters up to the next single quote, as they stand, and
+-- The text behind a single quote: the characters up to the next single quote, as they are, and
 -- then the rest.
 pub data SingleQuoted : (text gives rest : List ℕ) → Type 0 where
   at_quote : {rest : List ℕ} → SingleQuoted (single_quote ∷ rest) [] rest
   literal : {c : ℕ} {text gives rest : List ℕ} → c ≢ single_quote → SingleQuoted text gives rest
       → SingleQuoted (c ∷ text) (c ∷ gives) rest
 
--- The text behind a double quote: characters as they stand, a backslash that escapes one, a
+-- The text behind a double quote: characters as they are, a backslash that escapes one, a
 -- backslash and a line feed that give nothing, or a backslash that stays with the character after
 -- it, up to the next double quote, and then the rest.
 pub data DoubleQuoted : (text gives rest : List ℕ) → Type 0 where
@@ -92,7 +92,7 @@ abbrev pub EndsWord : List ℕ → Type 0
 EndsWord [] = ⊤
 EndsWord (c ∷ rest) = IsTrue (is_delimiter c)
 
--- The text behind a number sign: what stands before the next line feed, or before the end, is the
+-- The text behind a number sign: what is before the next line feed, or before the end, is the
 -- comment.
 pub data Comment : (text rest : List ℕ) → Type 0 where
   at_end : Comment [] []
@@ -100,7 +100,7 @@ pub data Comment : (text rest : List ℕ) → Type 0 where
   more : {c : ℕ} {text rest : List ℕ} → c ≢ line_feed → Comment text rest → Comment (c ∷ text) rest
 
 -- The empty text has no word. A delimiter, a backslash and a line feed, or a comment leaves the
--- words of the rest. A word, before the end or a delimiter, stands before the words of the rest.
+-- words of the rest. A word, before the end or a delimiter, is before the words of the rest.
 pub data SplitsInto : (text : List ℕ) (words : List (List ℕ)) → Type 0 where
   no_word : SplitsInto [] []
   delimiter : {c : ℕ} {rest : List ℕ} {words : List (List ℕ)} → IsTrue (is_delimiter c)

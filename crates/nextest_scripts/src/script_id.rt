@@ -16,7 +16,7 @@ use uuid::Uuid;
 #[derive(Debug, Drop, PartialEq, Eq, PartialOrd, Ord, Hash)]
 pub struct ScriptId(pub ConfigIdentifier);
 
-/// Why a text is no id of a script.
+/// Why a text is not an id of a script.
 #[derive(Clone, Copy, Debug, PartialEq, Eq, Error)]
 #[error("invalid configuration script name: {0}")]
 pub struct InvalidConfigScriptName(pub InvalidIdentifier);

@@ -23,14 +23,14 @@ pub struct SetupScriptSlowTimeout {
     pub grace_period: u128,
 }
 
-/// What comes of a setup script that is ended.
+/// The result of a setup script that is terminated.
 #[derive(Clone, Copy)]
 enum SetupTimeoutResult {
     /// It fails.
     Fail,
 }
 
-/// The names of what may come of it.
+/// The names of the results.
 const SETUP_RESULT_NAMES: [(&str, SetupTimeoutResult); 1] = [("fail", SetupTimeoutResult::Fail)];
 
 impl SetupScriptSlowTimeout {

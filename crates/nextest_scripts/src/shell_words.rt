@@ -133,7 +133,7 @@ fn read_word(alloc: Global, first: char, text: &str) -> Result<(String, &str), S
     Ok((word, rest))
 }
 
-/// Reads the piece that begins with a character, and answers what follows it.
+/// Reads the piece that begins with a character, and returns what follows it.
 #[tactic(auto, using(crate::proofs::ShellSteps::some_steps))]
 fn read_piece<'a>(word: &mut String, first: char, text: &'a str) -> Result<&'a str, ShellWordsError>
     requires { IsFalse (is_delimiter first) }
@@ -155,7 +155,7 @@ fn read_piece<'a>(word: &mut String, first: char, text: &'a str) -> Result<&'a s
     }
 }
 
-/// Reads up to the next single quote, and answers what follows it.
+/// Reads up to the next single quote, and returns what follows it.
 #[tactic(auto, using(crate::proofs::ShellSteps::single_steps))]
 fn read_single_quoted<'a>(word: &mut String, text: &'a str) -> Result<&'a str, ShellWordsError>
     ensures read { IfOk result (λ rest.
@@ -176,7 +176,7 @@ fn read_single_quoted<'a>(word: &mut String, text: &'a str) -> Result<&'a str, S
     Err(ShellWordsError::Unclosed)
 }
 
-/// Reads up to the next double quote that no backslash escapes, and answers what follows it.
+/// Reads up to the next double quote that no backslash escapes, and returns what follows it.
 #[tactic(auto, using(crate::proofs::ShellSteps::double_steps))]
 fn read_double_quoted<'a>(word: &mut String, text: &'a str) -> Result<&'a str, ShellWordsError>
     ensures read { IfOk result (λ rest.

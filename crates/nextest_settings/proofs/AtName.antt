@@ -1,4 +1,4 @@
--- What stands at a name, through a view of the map's entries.
+-- What is at a name, through a view of the map's entries.
 use Rattle.std.proofs.Common.{◌≡◌, List, [], ◌∷◌, cond, Option, Some, None, option_map, String, Global, Ordering, Less, Equal, Greater, nat_cmp, string_bytes, is_eq, is_some, Bor, refl, ap, ◌∙◌, sym}
 use Rattle.std.specs.Cmp.Lexicographic.{slice_cmp}
 use Rattle.std.specs.Map.{lookup}

@@ -231,7 +231,7 @@ module _ {T U M W V : Type 0} (writes : T → W → Bool) (ts : List T)
             (evaluated_asked others_write us query others every (length rules) n e.0 e.1 e.2)
       ]
 
--- how many are asked
+-- how many are evaluated
 module _ {M W : Type 0} (things : List (W → Bool)) (query : QueryContext M) (first : ℕ) where
   asked_has : (before : List (EvaluatedRule M W)) (r : EvaluatedRule M W)
       → is_asked things query before r ≡ true → is_some r.filter ≡ true
@@ -277,7 +277,7 @@ module _ {M W : Type 0} (things : List (W → Bool)) (query : QueryContext M) (f
       subst (λ n. length (asked_from things first query [] rules) ≤ n)
       (with_filters rules ∙ length-filter is_some (map (λ r. r.filter) rules)) (few [] rules)
 
--- how many are asked of two lists of rules
+-- how many are evaluated of two lists of rules
 pub both_count : {M W V : Type 0} (things : List (W → Bool)) (more : List (V → Bool)) (query : QueryContext M)
     (rules : List (EvaluatedRule M W)) (others : List (EvaluatedRule M V))
     → length (asked_from things 0 query [] rules ++ asked_from more (length rules) query [] others) ≤ count_by

@@ -11,11 +11,11 @@ use Rattle.nextest_settings.specs.declared.setting.Setting.{Setting}
 use Rattle.nextest_settings.proofs.IsEvaluated.{both_evaluated, evaluated_both, both_count}
 use Rattle.nextest_settings.proofs.StandsOnce.{stands_once}
 
--- each setting stands among all
+-- each setting is among all
 each_there : (s : Setting) → (n : ℕ) × (slice_get settings n ≡ Some s)
 each_there s = ((stands_once s).place, (stands_once s).there)
 
--- the one thing that a script rule is asked for
+-- the one thing that a script rule is evaluated for
 pub one_there : (u : Unit {0}) → (n : ℕ) × (slice_get (tt ∷ []) n ≡ Some u)
 one_there u = (0, refl)
 

@@ -50,7 +50,7 @@ last_more f ts t id name = rw (filter-append (is_of_name id name) ts (t ∷ []))
       (first_cons (f t) (filter_map f (reverse (filter (is_of_name id name) ts))))
   cases false = rw (append-nil (filter (is_of_name id name) ts)) refl
 
--- the global group is no custom one
+-- the global group is not a custom one
 pub or_global : (o : Option TestGroup)
     → option_and_then custom_group (option_or o (Some groups.Global)) ≡ option_and_then custom_group o
 or_global None = refl

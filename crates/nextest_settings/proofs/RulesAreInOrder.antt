@@ -1,4 +1,4 @@
--- Rules that are gathered name by name and source by source stand in the order of their places.
+-- Rules that are gathered name by name and source by source are in the order of their places.
 use Rattle.std.proofs.Common.{◌≡◌, ◌≤◌, ◌+◌, inl, inr, ℕ, zero, suc, List, [], ◌∷◌, ◌++◌, map, length, Option, Some, None, option_and_then, slice_get, refl, sym, ◌∙◌, arith, append_assoc, length-append, add-zero}
 use Rattle.std.proofs.lemmas.List.{map-append}
 use Rattle.std.specs.List.{AllByRecursion, flat_map}
@@ -73,7 +73,7 @@ ascend_in p l i (r ∷ rs) = (
   ascend_in p l (i + 1) rs,
 )
 
--- which rules stand there
+-- which rules are there
 
 one_more : {X : Type 0} (before rest : List X) (x : X) → (before ++ x ∷ []) ++ rest ≡ before ++ x ∷ rest
 one_more before rest x = append_assoc before (x ∷ []) rest

@@ -10,7 +10,7 @@ use Rattle.nextest_scripts.specs.declared.script_id.ScriptId.{ScriptId}
 use Rattle.nextest_tables.specs.FileTexts.{names_in, IsIn}
 use Rattle.nextest_tables.specs.Written.{Name}
 
--- what stands at the text of an id is what a map finds of the id
+-- what is at the text of an id is what a map finds of the id
 pub at_script : {X Y : Type 0} (f : X → Y) (id : ScriptId) (es : List (ScriptId × X))
     → at_name (script_text id) (map (λ e. (script_text e.0, f e.1)) es)
     ≡ option_map f (lookup (λ k. bytes_eq (script_text id) (script_text k)) es)

@@ -10,7 +10,7 @@ pub head-found : {R : Type 0} (found : List (Option R)) (d o : Option R) → fou
 head-found [] d o e = absurd (apart e)
 head-found (f ∷ found) d o e = cc
 
--- the fact of an element that stands in a list seen by f
+-- the fact of an element that is in a list seen by f
 pub each-there : {A X : Type 0} (P : X → Type 0) (f : A → X) (xs : List A) (k : ℕ) (x : A) → Each P (map f xs)
     → slice_get xs k ≡ Some x → P (f x)
 each-there P f [] k x each at = absurd cc
@@ -19,7 +19,7 @@ each-there P f (y ∷ ys) zero x each at =
     rw (← same) each.0
 each-there P f (y ∷ ys) (suc k) x each at = each-there P f ys k x each.1 at
 
--- what stands in the list of a thing writes it
+-- what is in the list of a thing writes it
 pub writes-it : (on writes : Bool) → on && writes ≡ true → writes ≡ true
 writes-it true writes e = e
 writes-it false writes e = absurd cc

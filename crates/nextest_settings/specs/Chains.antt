@@ -35,7 +35,7 @@ fields_of profiles names =
 abbrev pub first_of : {X Y : Type 0} → (X → Option Y) → List X → Option Y
 first_of f xs = first (filter_map f xs)
 
--- where a default filter stands: at a profile, or at the override of an index
+-- where a default filter is: at a profile, or at the override of an index
 pub data FilterSection : Type 0 where
   at_profile : FilterSection
   at_override : (index : ℕ) → FilterSection
@@ -45,7 +45,7 @@ abbrev pub match_section : {X : Type 0} → FilterSection → X → X → X
 match_section at_profile at_profiles at_overrides = at_profiles
 match_section (at_override index) at_profiles at_overrides = at_overrides
 
--- a default filter: what it means, its text, and where it stands
+-- a default filter: what it means, its text, and where it is
 pub record FilterChoice (M : Type 0) : Type 0 where
   pub filter : M
   pub text : List ℕ

@@ -66,7 +66,7 @@ Rising P least (n ∷ ns) = (least ≤ n) × P n × Rising P (n + 1) ns
 abbrev pub HasFilterAt : {M : Type 0} → List (Option M) → ℕ → Type 0
 HasFilterAt {M} filters n = (m : M) × (slice_get filters n ≡ Some (Some m))
 
--- an element stands at the least number of those that pass a test
+-- an element is at the least number of those that pass a test
 abbrev pub StandsFirst : {X : Type 0} → (X → Bool) → List X → X → Type 0
 StandsFirst {X} passes xs x = (n : ℕ) × (slice_get xs n ≡ Some x) × (passes x ≡ true)
     × ((m : ℕ) (y : X) → m < n → slice_get xs m ≡ Some y → passes y ≡ false)

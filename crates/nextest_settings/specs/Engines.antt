@@ -1,4 +1,4 @@
--- What engines answer for what code holds: tests and binaries that are judged by what filters mean,
+-- The values of engines for what code holds: tests and binaries, by what filters mean,
 -- and platforms that meet specs.
 use Rattle.std.specs.Prelude.{Bool, Option}
 use Rattle.nextest_engines.specs.Engines.{test_view, binary_view}

@@ -4,7 +4,7 @@ use Rattle.nextest_settings.specs.declared.default_filter.CompiledDefaultFilter.
 use Rattle.nextest_settings.specs.declared.default_filter.CompiledDefaultFilterSection.{CompiledDefaultFilterSection}
 use Rattle.nextest_settings.specs.declared.default_filter.CompiledDefaultFilterSection.TheVariants.{Profile, Override}
 
--- where a default filter stands
+-- where a default filter is
 abbrev pub filter_section_view : CompiledDefaultFilterSection → FilterSection
 filter_section_view Profile = at_profile
 filter_section_view (Override index) = at_override index

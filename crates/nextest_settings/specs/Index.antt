@@ -1,4 +1,4 @@
--- Index lists: which rules stand in the list of a setting or a wrapper, and the tables of all
+-- Index lists: which rules are in the list of a setting or a wrapper, and the tables of all
 -- lists.
 use Rattle.std.specs.Prelude.{◌≡◌, ◌&&◌, ℕ, List, [], ◌∷◌, Bool, is_some, length, map}
 use Rattle.nextest_elements.specs.declared.run_mode.NextestRunMode.{NextestRunMode}
@@ -20,7 +20,7 @@ use Rattle.nextest_settings.specs.declared.index.Wrapper.TheVariants as wrappers
 use Rattle.nextest_settings.specs.declared.platforms.EvaluatedRule.{EvaluatedRule as EvaluatedRule'}
 use Rattle.nextest_settings.specs.declared.setting.Setting.{Setting}
 
--- a rule stands in the list of a thing for binaries of a platform: its platforms hold for them, and
+-- a rule is in the list of a thing for binaries of a platform: its platforms hold for them, and
 -- it writes the thing
 abbrev pub is_listed : {M W : Type 0} → BuildPlatform → (W → Bool) → EvaluatedRule M W → Bool
 is_listed platform wants rule = is_on rule platform && wants rule.writes
@@ -30,14 +30,14 @@ abbrev pub names_wrapper : Wrapper → ScriptRuleUse → Bool
 names_wrapper wrappers.Run uses = is_some uses.scripts.run_wrapper
 names_wrapper wrappers.List uses = is_some uses.scripts.list_wrapper
 
--- of each setting, which overrides stand in its list
+-- of each setting, which overrides are in its list
 abbrev pub override_tests : {F S E T N P : Type 0} → BuildPlatform → NextestRunMode
     → List (EvaluatedRule' (CompiledOverride F S E T N P) → Bool)
 override_tests platform mode = map
     (λ s rule. is_listed platform (λ w. is_set w.settings mode s) (evaluated_override_view rule))
     settings
 
--- which script rules stand in the one list of a wrapper
+-- which script rules are in the one list of a wrapper
 abbrev pub script_tests : {F S E T N P : Type 0} → BuildPlatform → Wrapper
     → List (EvaluatedRule' (CompiledProfileScripts F S E T N P) → Bool)
 script_tests platform wrapper = map

@@ -22,15 +22,15 @@ abbrev pub Ascend : List RulePlace → Type 0
 Ascend [] = Unit {0}
 Ascend (p ∷ ps) = AllByRecursion (Before p) ps × Ascend ps
 
--- what f has at a place, if anything stands there
+-- what f has at a place, if anything is there
 abbrev pub at_place : {M K X : Type 0} → (LayerProfile M K → List X) → List (Layer M K)
     → List Name → RulePlace → Option X
 at_place f layers names p = option_and_then
     (λ name. option_and_then (λ layer. slice_get (in_layer f name layer) p.index)
     (slice_get layers p.layer)) (slice_get names p.name)
 
--- Rules stand in the order of their places: there are places that ascend, at which these rules
--- stand in turn, and each place with a rule is one of them.
+-- Rules are in the order of their places: there are places that ascend, at which these rules
+-- are in turn, and each place with a rule is one of them.
 pub record RulesAreInOrder {M K X : Type 0} (f : LayerProfile M K → List X)
     (layers : List (Layer M K)) (names : List Name) (rules : List X) : Type 0 where
   pub places : List RulePlace

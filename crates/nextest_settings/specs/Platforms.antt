@@ -7,7 +7,7 @@ use Rattle.nextest_engines.specs.declared.queries.BuildPlatforms.{BuildPlatforms
 use Rattle.nextest_rules.specs.Rules.{Compiled, OverrideUse}
 use Rattle.nextest_settings.specs.Chains.{FilterChoice, at_override, chosen_at, first_of}
 
--- a spec on a platform: none and an unknown answer count as met
+-- a spec on a platform: none and an unknown value count as met
 abbrev pub spec_holds : {K P : Type 0} → (K → P → Option Bool) → Option K → P → Bool
 spec_holds meets None platform = true
 spec_holds meets (Some spec) platform = unwrap_or (meets spec platform) true
@@ -56,7 +56,7 @@ pub record RuleText (M W : Type 0) : Type 0 where
 abbrev pub rule_text : {M W : Type 0} → EvaluatedRule M W → RuleText M W
 rule_text rule = record { filter = rule.filter; writes = rule.writes }
 
--- an answer for binaries of the host, and one for those of the target
+-- a value for binaries of the host, and one for those of the target
 abbrev pub by_platform : Bool → Bool → BuildPlatform → Bool
 by_platform for_host for_target Host = for_host
 by_platform for_host for_target Target = for_target

@@ -1,4 +1,5 @@
--- What profiles answer: the settings of tests with their sources, wrappers, setup scripts, groups.
+-- The results of queries of profiles: the settings of tests with their sources, wrappers, setup
+-- scripts, groups.
 use Rattle.std.specs.Prelude.{◌≡◌, ◌⊎◌, ◌+◌, ℕ, List, [], ◌∷◌, ◌++◌, map, reverse, length, Bool, false, ◌&&◌, Option, None, Some, option_map, option_and_then, unwrap_or, is_some, IsSome, filter}
 use Rattle.std.specs.List.{list_any}
 use Rattle.std.specs.Option.{option_or}
@@ -29,7 +30,7 @@ abbrev pub test_query : {M : Type 0} → (M → Test → M → Bool) → (defaul
 test_query holds default test =
     record { platform = test.binary.platform; matches = λ m. holds m test default }
 
--- a binary, judged the same way: a filter that can't tell without a test does not match
+-- a binary, the same way: a filter that needs a test does not match
 abbrev pub binary_query : {M : Type 0} → (M → Binary → M → Option Bool) → (default : M) → Binary
     → QueryContext M
 binary_query holds default binary = record {
@@ -137,13 +138,13 @@ abbrev pub listing_rule : {M : Type 0} → QueryContext M → List (EvaluatedRul
     → Option (EvaluatedRule M ScriptRuleUse)
 listing_rule query script_rules = winner query (λ w. is_some w.scripts.list_wrapper) script_rules
 
--- a filter, if there is one, has an answer for each binary, whatever the default filter means
+-- a filter, if there is one, has a known value for each binary, whatever the default filter means
 abbrev pub HasBinaryAnswers : {M : Type 0} → BinaryMatch M → Option M → Type 0
 HasBinaryAnswers {M} matches filter =
     IfWritten filter (λ m. (binary : Binary) (default : M) → IsSome (matches m binary default))
 
--- Script rules answer for binaries: the filter of each rule with a list wrapper has an answer for
--- each binary, whatever the default filter means.
+-- Script rules have known values for binaries: the filter of each rule with a list wrapper has a
+-- known value for each binary, whatever the default filter means.
 abbrev pub AnswerForBinaries : {M : Type 0} → BinaryMatch M → List (EvaluatedRule M ScriptRuleUse)
     → Type 0
 AnswerForBinaries matches rules =

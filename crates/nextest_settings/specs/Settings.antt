@@ -94,7 +94,7 @@ index_of at.JunitStoreFailureOutput = 12
 index_of at.JunitReportSkipped = 13
 index_of at.JunitFlakyFailStatus = 14
 
--- a setting stands among settings once, at one place
+-- a setting is among settings once, at one place
 pub record StandsOnce (ss : List Setting) (s : Setting) : Type 0 where
   pub place : ℕ
   pub there : slice_get ss place ≡ Some s

@@ -25,12 +25,12 @@ named_setup_script_view s = (script_text s.id.now, setup_script_view s.config.no
 abbrev pub script_id_view : {F S E T N P : Type 0} → SetupScript F S E T N P → Name
 script_id_view s = script_text s.script.id.now
 
--- the rules among which those stand that name a setup script
+-- the rules among which are those that name a setup script
 abbrev pub setup_rules_view : {F S E T N P M : Type 0} → (E → M) → SetupScript F S E T N P
     → List (EvaluatedRule M ScriptRuleUse)
 setup_rules_view meaning s = map (numbered_rule_view meaning) s.rules.now
 
--- the rules among which those stand that name setup scripts
+-- the rules among which are those that name setup scripts
 abbrev pub setup_scripts_rules_view : {F S E T N P M : Type 0} → (E → M) → SetupScripts F S E T N P
     → List (EvaluatedRule M ScriptRuleUse)
 setup_scripts_rules_view meaning s = map (numbered_rule_view meaning) s.rules.items

@@ -6,21 +6,21 @@ use Rattle.nextest_settings.specs.Queries.{Origin, unwritten, by_profile, by_ove
 use Rattle.nextest_settings.specs.declared.source.SettingSource.{SettingSource}
 use Rattle.nextest_settings.specs.declared.source.SettingSource.TheVariants.{Default, Profile, Override, Script}
 
--- the origin that a source tells
+-- the origin of a source
 abbrev pub setting_source_view : {F S E T N P : Type 0} → SettingSource F S E T N P → Origin
 setting_source_view Default = unwritten
 setting_source_view Profile = by_profile
 setting_source_view (Override rule) = by_override (override_rule_view rule.now).writes.id
 setting_source_view (Script rule) = by_script
 
--- what the script rule writes that a source tells, if it tells one
+-- what the script rule of a source writes, if it has one
 abbrev pub source_use : {F S E T N P : Type 0} → SettingSource F S E T N P → Option ScriptRuleUse
 source_use (Script rule) = Some (script_rule_view rule.now).writes
 source_use Default = None
 source_use Profile = None
 source_use (Override rule) = None
 
--- the override that a source tells, if it tells one
+-- the override of a source, if it has one
 abbrev pub source_override : {F S E T N P : Type 0} → SettingSource F S E T N P
     → Option (Compiled E N (OverrideUse E))
 source_override (Override rule) = Some (override_rule_view rule.now)
@@ -28,7 +28,7 @@ source_override Default = None
 source_override Profile = None
 source_override (Script rule) = None
 
--- a mark is there exactly where an origin is, and is right for it
+-- a mark is there exactly if an origin is, and is right for it
 abbrev pub MarksOrigin : {Source : Type 0} → (Source → Origin → Type 0) → Option Source
     → Option Origin → Type 0
 MarksOrigin shows None None = Unit {0}
@@ -43,7 +43,7 @@ MarksOverride shows None mark = Unit {0}
 MarksOverride shows (Some rule) (Some source) = shows source rule
 MarksOverride shows (Some rule) None = ⊥
 
--- a mark is there exactly where a script rule is, and is right for what the rule writes
+-- a mark is there exactly if a script rule is, and is right for what the rule writes
 abbrev pub MarksScriptRule : {Source : Type 0} → (Source → ScriptRuleUse → Type 0) → Option Source
     → Option ScriptRuleUse → Type 0
 MarksScriptRule shows None None = Unit {0}

@@ -1,4 +1,4 @@
-//! The rules of a profile on the platforms of a build, and what they answer.
+//! The rules of a profile on the platforms of a build, and their values.
 ghost use Rattle.std.specs.Prelude.{◌≡◌, ◌++◌, length, map, option_map, IfOk};
 ghost use Rattle.nextest_elements.specs.declared.run_mode.NextestRunMode.{NextestRunMode};
 ghost use Rattle.nextest_engines.specs.declared.queries.BuildPlatform.{BuildPlatform};
@@ -29,7 +29,7 @@ pub struct EvaluatedRules<'cfg, F: Filters, S: Specs> {
     pub overrides: Vec<EvaluatedOverride<'cfg, F, S>>,
     /// Script rules; their numbers go on behind those of the overrides.
     pub script_rules: Vec<EvaluatedScriptRule<'cfg, F, S>>,
-    /// The filter that `default()` stands for in every one of them.
+    /// The filter that `default()` means in every one of them.
     pub default_filter: CompiledDefaultFilter<'cfg, F>,
     pub(crate) index: RuleIndex,
     /// The index is that of these rules.

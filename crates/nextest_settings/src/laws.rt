@@ -48,7 +48,7 @@ pub fn law_evaluated_exactly<F: Filters>()
 {}
 
 /// The override that decides something is the one at the least number that holds and writes it, and
-/// there is none exactly where no override does.
+/// there is none exactly if no override does.
 pub fn law_first_override<F: Filters>()
     ensures some { (query : QueryContext F.Meaning) (wants : OverrideUse F.Meaning → Bool)
         (rules : List (EvaluatedRule F.Meaning (OverrideUse F.Meaning)))
@@ -60,7 +60,7 @@ pub fn law_first_override<F: Filters>()
 {}
 
 /// The script rule that names a wrapper is the one at the least number that holds and names one,
-/// and there is none exactly where no script rule does.
+/// and there is none exactly if no script rule does.
 pub fn law_first_script_rule<F: Filters>()
     ensures some { (query : QueryContext F.Meaning) (wants : ScriptRuleUse → Bool)
         (rules : List (EvaluatedRule F.Meaning ScriptRuleUse))

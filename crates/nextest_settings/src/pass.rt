@@ -33,7 +33,7 @@ pub fn matches_test<F: Filters>(
     }
 }
 
-/// The settings of a test, as overrides are asked for them.
+/// The settings of a test, as overrides decide them.
 #[derive(Drop)]
 struct SettingsQuery<'q, F: Filters> {
     query: TestQuery<'q>,
@@ -69,7 +69,7 @@ impl<'cfg, F: Filters, S: Specs> Query<EvaluatedOverride<'cfg, F, S>> for Settin
 }
 
 /// For each setting the first rule that holds and writes it, by the rows of the overrides that count
-/// for the test. A filter is evaluated at most once, and only where a setting that its rule writes
+/// for the test. A filter is evaluated at most once, and only if a setting that its rule writes
 /// is open.
 #[tactic(auto, unfolding(crate::specs::Settings::settings))]
 pub(crate) fn winners<'cfg, F: Filters, S: Specs>(

@@ -45,7 +45,7 @@ impl<'cfg, R> EvaluatedRule<'cfg, R> {
     }
 }
 
-/// Whether a platform meets a spec: none and an unknown answer count as met.
+/// Whether a platform meets a spec: none and an unknown value count as met.
 fn spec_holds<S: Specs>(spec: &Option<S::Spec>, platform: &S::Platform) -> bool
     ensures { result
         ≡ spec_holds (meets_by S.Specs) spec.now

@@ -67,7 +67,7 @@ pub(crate) fn holds_for_test<F: Filters, S: Specs>(
         && matches_test::<F>(rule.rule.filter(), number, query, cx, tally)
 }
 
-/// The run wrapper of a test, as script rules are asked for it.
+/// The run wrapper of a test, as script rules decide it.
 #[derive(Drop)]
 struct RunWrapperQuery<'q, F: Filters> {
     query: TestQuery<'q>,
@@ -102,7 +102,7 @@ impl<'cfg, F: Filters, S: Specs> Query<EvaluatedScriptRule<'cfg, F, S>> for RunW
     }
 }
 
-/// The list wrapper of a binary, as script rules are asked for it.
+/// The list wrapper of a binary, as script rules decide it.
 #[derive(Drop)]
 struct ListWrapperQuery<'q, F: Filters> {
     query: BinaryQuery<'q>,

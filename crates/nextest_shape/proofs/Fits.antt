@@ -22,12 +22,12 @@ pub record Fits (s : Schema) (f : Form) : Type 0 where
 pub record FitsOver (s : Schema) (d : Node) (f : Form) : Type 0 where
   pub accepts : (p q : List ℕ) (n : Node) → faults s p (over n d) ≡ [] → unknown s q (over n d) ≡ [] → Accepts f n
 
--- the same over what stands at a key, if anything does
+-- the same over what is at a key, if anything is
 abbrev pub FitsUnder : Schema → Option Node → Form → Type 0
 FitsUnder s None f = Fits s f
 FitsUnder s (Some d) f = FitsOver s d f
 
--- a field may be required where the schema requires it and nothing stands there below
+-- a field may be required where the schema requires it and nothing is there below
 abbrev pub MayRequire : (Entries → Bool) → Option Node → Bool → Type 0
 MayRequire must lower false = Unit {0}
 MayRequire must None true = (es : Entries) → must es ≡ true
@@ -43,7 +43,7 @@ FieldsFit (field k must s fs) ds (a_field l r f gs) =
 
 -- ---- tables
 
--- what stands at a key of a table that may lie over another
+-- what is at a key of a table that may lie over another
 abbrev Lies : Entries → Entries → Entries → Type 0
 Lies es ds xs = (k : List ℕ) → get k xs ≡ laid_over (get k es) (get k ds)
 
@@ -187,7 +187,7 @@ fits_or_over how other fs across ds f gs fit fields_fit = record { accepts = go 
     go p q (bool b) h u = inl (fit.accepts p q (bool b) h u)
     go p q opaque h u = inl (fit.accepts p q opaque h u)
 
--- ---- over what is no table
+-- ---- over what is not a table
 
 abbrev pub IsFlat : Node → Type 0
 IsFlat (table es) = ⊥
@@ -260,7 +260,7 @@ fits_list s f each = record { accepts = go }
     go p q (bool b) h u = cc
     go p q opaque h u = cc
 
--- what stands at a key of a map has no unknown keys
+-- what is at a key of a map has no unknown keys
 pub entry_known : (test : List ℕ → Option FaultCause) (s : Schema) (q k : List ℕ) (es : Entries) (n : Node)
     → unknown (map_of test s) q (table es) ≡ [] → get k es ≡ Some n → (r : List ℕ) × (unknown s r n ≡ [])
 entry_known test s q k no_entries n h g = cc

@@ -31,7 +31,7 @@ FieldsKnow (field k must s fs) (a_field l r f gs) = (k ≡ l) × KnowsAll s f ×
 both_nil : {A : Type 0} (xs ys : List A) → xs ≡ [] → ys ≡ [] → xs ++ ys ≡ []
 both_nil xs ys h k = rw (h, k) refl
 
--- ---- what stands at a key
+-- ---- what is at a key
 
 pub found_sorted : (k : List ℕ) (es : Entries) (n : Node) → EntriesAreSorted es → get k es ≡ Some n → IsSorted n
 found_sorted k no_entries n s h = cc
@@ -105,7 +105,7 @@ knows_struct fs gs all = record { knows = go }
     go q (bool b) sorted met = absurd met
     go q opaque sorted met = absurd met
 
--- a table, or something else that is no table
+-- a table, or something else that is not a table
 pub knows_or : (how : Others) (other : Schema) (fs : Fields) (across : Entries → Option FaultCause) (f : Form)
     (gs : FieldForms) → KnowsAll other f → ((es : Entries) → Accepts f (table es) → ⊥) → FieldsKnow fs gs
     → KnowsAll (fields how other fs across) (one_or_other f (a_table gs))
@@ -168,7 +168,7 @@ knows_items other s across f g least rest no_array all = record { knows = go }
 
 -- ---- maps
 
--- what stands at the keys has no unknown keys
+-- what is at the keys has no unknown keys
 abbrev KnownAt : Schema → Entries → Type 0
 KnownAt s es = (k : List ℕ) → (n : Node) → get k es ≡ Some n → (q : List ℕ) → unknown s q n ≡ []
 

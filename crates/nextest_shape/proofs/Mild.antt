@@ -95,7 +95,7 @@ mild_struct fs gs all = record { mild = go }
     go p (bool b) sorted met = absurd met
     go p opaque sorted met = absurd met
 
--- a table, or something else that is no table
+-- a table, or something else that is not a table
 pub mild_or : (how : Others) (other : Schema) (fs : Fields) (across : Entries → Option FaultCause) (f : Form)
     (gs : FieldForms) → MildAll other f → ((es : Entries) → Accepts f (table es) → ⊥)
     → ((es : Entries) → IsMildIf (across es)) → FieldsMild fs gs
@@ -172,7 +172,7 @@ mild_items other s across f g least rest no_array sound all = record { mild = go
 abbrev entry_faults : (List ℕ → Option FaultCause) → Schema → List ℕ → List ℕ → Node → List Fault
 entry_faults test s p k n = at (below p k) (test k) ++ faults s (below p k) n
 
--- what stands at the keys is mild
+-- what is at the keys is mild
 abbrev MildAt : (List ℕ → Option FaultCause) → Schema → List ℕ → Entries → Type 0
 MildAt test s p es = (k : List ℕ) → (n : Node) → get k es ≡ Some n → AreMild (entry_faults test s p k n)
 

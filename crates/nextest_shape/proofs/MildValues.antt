@@ -87,7 +87,7 @@ mild_leak =
     mild_or _ _ leak_fields _ _ _ mild_duration (λ es a. a) (λ es. tt)
     (refl, mild_duration, (refl, mild_leak_result, tt))
 
--- whether or not it holds, what is told is that a value is out of its range
+-- whether or not it holds, what is reported is that a value is out of its range
 if_out : (b : Bool) → IsMildIf (if b then Some out_of_range else None)
 if_out true = tt
 if_out false = tt

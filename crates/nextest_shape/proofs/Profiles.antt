@@ -319,7 +319,7 @@ fits_default =
 abbrev profile_entries : Entries
 profile_entries = entry default_name profile_default (entry miri_name (table no_entries) no_entries)
 
--- a profile that lies over what stands at its name by default, and is not `default`
+-- a profile that lies over what is at its name by default, and is not `default`
 other_over : (k : List ℕ) (o : Ordering) → cmp k default_name ≡ o → (k ≡ default_name → ⊥)
     → FitsUnder a_profile (match_ordering o (get k (entry miri_name (table no_entries) no_entries))
     (Some profile_default) (get k (entry miri_name (table no_entries) no_entries))) (profile_form true)
@@ -345,7 +345,7 @@ under_met : (s : Schema) (f : Form) (p q : List ℕ) (n : Node) (lower : Option 
 under_met s f p q n None fit h u = fit.accepts p q n h u
 under_met s f p q n (Some d) fit h u = fit.accepts p q n h u
 
--- a profile of the file over what stands at its name by default
+-- a profile of the file over what is at its name by default
 profile_met : (k : List ℕ) (n : Node) (f : Form) (p q : List ℕ) (es : Entries) → get k es ≡ Some n
     → FitsUnder a_profile (get k profile_entries) f
     → faults (map_of any_key a_profile) p (table (entries_over es profile_entries)) ≡ []

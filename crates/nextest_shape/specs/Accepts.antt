@@ -24,7 +24,7 @@ HasPattern patterns.TestGroup s = IsTrue (bytes_eq s global_text || is_identifie
 HasPattern patterns.CommandLine s = words_cause s (words_in (chars s)) ≡ None
 HasPattern patterns.EnvironmentKey s = IsTrue (is_env_var_key s)
 
--- The text may stand where these texts may.
+-- The text may be where these texts may.
 abbrev pub AcceptsText : TextForm → List ℕ → Type 0
 AcceptsText any_text s = Unit {0}
 AcceptsText (one_of words) s = IsTrue (is_one_of words s)
@@ -50,7 +50,7 @@ abbrev pub IsNumberIn : (least greatest : Option ℤ) → Node → Type 0
 IsNumberIn least greatest (int z) = IsFrom least z × IsUpTo greatest z
 IsNumberIn least greatest _ = ⊥
 
--- The node is a text that may stand there.
+-- The node is a text that may be there.
 abbrev pub IsTextIn : TextForm → Node → Type 0
 IsTextIn form (text s) = AcceptsText form s
 IsTextIn form _ = ⊥
@@ -70,7 +70,7 @@ abbrev pub IsTableOf : (Entries → Type 0) → Node → Type 0
 IsTableOf P (table es) = P es
 IsTableOf P _ = ⊥
 
--- What stands at a key meets the condition, and something is there if it has to be.
+-- What is at a key meets the condition, and something is there if it has to be.
 abbrev pub MeetsAt : (is_required : Bool) → (Node → Type 0) → Option Node → Type 0
 MeetsAt is_required P None = IsFalse is_required
 MeetsAt is_required P (Some n) = P n
@@ -79,7 +79,7 @@ MeetsAt is_required P (Some n) = P n
 abbrev pub HasNoOthers : List Key → Entries → Type 0
 HasNoOthers known es = others known es ≡ []
 
--- Each name that is none of the keys may stand there, and what stands at it meets the condition.
+-- Each name that is none of the keys may be there, and what is at it meets the condition.
 abbrev pub MeetOthers : TextForm → (Node → Type 0) → List Key → Entries → Type 0
 MeetOthers names P known es = (name : List ℕ) → (n : Node) → get name es ≡ Some n
     → AcceptsText names name × (IsFalse (is_one_of (map key_text known) name) → P n)

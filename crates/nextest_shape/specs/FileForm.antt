@@ -86,7 +86,7 @@ retries_form =
     (may keys.MaxDelay duration_form
     no_fields))))))
 
--- what becomes of a flaky test
+-- the result of a flaky test
 abbrev pub flaky_result_form : Form
 flaky_result_form = words (codes "pass" ∷ codes "fail" ∷ [])
 
@@ -111,13 +111,13 @@ fail_fast_form =
     (may keys.Terminate anything
     no_fields)))
 
--- which tests are told of while they run
+-- which tests are shown while they run
 abbrev pub status_level_form : Form
 status_level_form =
     words (codes "none" ∷ codes "fail" ∷ codes "retry" ∷ codes "slow" ∷ codes "leak"
     ∷ codes "pass" ∷ codes "skip" ∷ codes "all" ∷ [])
 
--- which tests are told of at the end of a run
+-- which tests are shown at the end of a run
 abbrev pub final_status_level_form : Form
 final_status_level_form =
     words (codes "none" ∷ codes "fail" ∷ codes "flaky" ∷ codes "slow" ∷ codes "skip"

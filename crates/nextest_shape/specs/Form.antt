@@ -1,16 +1,16 @@
--- What may stand at a place of a file, as data.
+-- What may be at a place of a file, as data.
 use Rattle.std.specs.Prelude.{ℕ, ℤ, List, [], ◌∷◌, Bool, Option}
 use Rattle.nextest_tree.specs.declared.key.Key.{Key}
 use Rattle.nextest_shape.specs.declared.shape.Pattern.{Pattern}
 
--- Which texts may stand at a place: any, one of some words, or those of a pattern.
+-- Which texts may be at a place: any, one of some words, or those of a pattern.
 pub data TextForm : Type 0 where
   any_text : TextForm
   one_of : (words : List (List ℕ)) → TextForm
   of_pattern : Pattern → TextForm
 
 mutual
-  -- What may stand at a place.
+  -- What may be at a place.
   pub data Form : Type 0 where
     -- anything at all
     anything : Form
@@ -32,7 +32,7 @@ mutual
   -- The fields of a table.
   pub data FieldForms : Type 0 where
     no_fields : FieldForms
-    -- a key, whether a file has to write it, what may stand there, and the fields after it
+    -- a key, whether a file has to write it, what may be there, and the fields after it
     a_field : Key → (is_required : Bool) → Form → FieldForms → FieldForms
 
   -- Several forms.

@@ -15,7 +15,7 @@ or_others (t ∷ ts) others = t ∷ ts
 
 abbrev mutual
   -- The keys that a form has for the table at a path, whose parts are keys, names and positions: a
-  -- position stands for any item, and of several forms the first with keys there has them.
+  -- position means any item, and of several forms the first with keys there has them.
   pub keys_at : Form → List (List ℕ) → List (List ℕ)
   keys_at (a_table fs) [] = key_texts fs
   keys_at (a_table fs) (part ∷ path) = unwrap_or (field_keys_at fs part path) []

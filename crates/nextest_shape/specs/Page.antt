@@ -48,7 +48,7 @@ expression_of patterns.EnvironmentKey = codes "^(?!NEXTEST)[A-Za-z_][A-Za-z0-9_]
 
 -- ---- the schema of a form
 
--- the members of a schema that asks for values of this type
+-- the members of a schema for values of this type
 abbrev pub typed : List ℕ → Members
 typed name = member (codes "type") (string name) no_members
 

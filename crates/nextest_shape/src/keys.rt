@@ -20,7 +20,7 @@ fn own_keys(alloc: Global, fields: &[Field<Shape>]) -> Result<Vec<&'static str>,
 
 /// The keys that a shape has for the table at a path, whose parts are keys, names and positions.
 ///
-/// A position stands for any item, and of several shapes the first with keys there has them.
+/// A position means any item, and of several shapes the first with keys there has them.
 #[cycle(keys)]
 pub fn keys_of(alloc: Global, shape: &Shape, path: &[&str]) -> Result<Vec<&'static str>, AllocError>
     ensures { IfOk result (λ keys. map (λ key. key.now) keys.items

@@ -14,7 +14,7 @@ use crate::shape::{Field, Shape, TextShape};
 use serde_json::{Map, Value, put};
 use std::alloc::{AllocError, Global};
 
-/// The members of a schema that asks for values of a type.
+/// The members of a schema for values of a type.
 fn typed(alloc: Global, name: &str) -> Result<Map<String, Value>, AllocError>
     ensures { IfOk result (λ members. members_view members.entries ≡ typed name.now) }
 {

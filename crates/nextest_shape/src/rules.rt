@@ -12,7 +12,7 @@ use std::alloc::{AllocError, Global};
 
 const FLAKY_RESULTS: &[&str] = &["pass", "fail"];
 
-/// What becomes of a flaky test.
+/// The result of a flaky test.
 pub(crate) fn flaky_result() -> Shape
     ensures { shape_view result ≡ flaky_result_form }
 {

@@ -69,7 +69,7 @@ pub enum Shape {
         names: TextShape,
         /// The names with a shape of their own.
         fields: Vec<Field<Shape>>,
-        /// What stands at every other name.
+        /// What is at every other name.
         values: Box<Shape>,
     },
     /// One of several shapes.

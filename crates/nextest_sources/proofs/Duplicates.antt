@@ -174,12 +174,12 @@ none_after before [] one h = subst (λ xs. HaveOneFileEach xs) (sym (append-nil 
 none_after before (t ∷ ts) one h =
     none_more before t ts one (find (λ x. bytes_eq x.tool t.tool) before) refl h (none_after (before ++ t ∷ []) ts)
 
--- the fault that is told is that of the first duplicate
+-- the fault that is reported is that of the first duplicate
 pub first_duplicate : (ts : List ToolFile) (fault : LoadFault) → first_fault (tool_steps [] ts) ≡ Some fault
     → IsFirstDuplicate ts fault
 first_duplicate ts fault h = some_after [] ts fault none_twice (sym (tools_fault [] ts) ∙ h)
 
--- none is told exactly where no tool has two files
+-- none is reported exactly if no tool has two files
 pub duplicates_from : (ts : List ToolFile) → first_fault (tool_steps [] ts) ≡ None → HaveOneFileEach ts
 duplicates_from ts h = none_after [] ts none_twice (sym (tools_fault [] ts) ∙ h)
 
@@ -221,7 +221,7 @@ passed_over done (x ∷ xs) ys one =
     ∙ passed_over (done ++ x ∷ []) xs ys (subst (λ zs. HaveOneFileEach zs) (sym (append_assoc done (x ∷ []) xs)) one)
     ∙ ap (λ d. duplicate_fault d ys) (append_assoc done (x ∷ []) xs)
 
--- the first duplicate is what is told
+-- the first duplicate is what is reported
 pub duplicate_is : (ts : List ToolFile) (fault : LoadFault) → IsFirstDuplicate ts fault
     → first_fault (tool_steps [] ts) ≡ Some fault
 duplicate_is ts fault d =

@@ -20,7 +20,7 @@ refused_found f malformed h = absurd h
 pub refusal_found : (f : LoadFault) (e : ConfigParseError) → Refuses e (Some f) → Found (Some f) (error_view e)
 refusal_found f e h = refused_found f (error_view e) h
 
--- want of memory is what any check may end with
+-- a refusal of memory is what any check may end with
 pub memory_found : (o : Option LoadFault) (e : ConfigParseError) → error_view e ≡ no_memory → Found o (error_view e)
 memory_found o e h = rw h tt
 

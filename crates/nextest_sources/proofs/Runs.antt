@@ -111,12 +111,12 @@ check_at s None old new no_memory same h = ([], ([], refl), same ∙ sym (append
 check_at s (Some c) old new no_memory same h = ([], ([], refl), same ∙ sym (append-nil old))
 check_at s c old new malformed same h = absurd h
 
--- a check ran, and told nothing
+-- a check ran, and reported nothing
 pub ran_check : (s : Source) (c : Option LoadCause) (old new : List Warning) (o : Ending) → new ≡ old
     → Found (fault_at_source s c) o → Ran (check s c ∷ []) old new o
 ran_check s c old new o same found = record { is = check_at s c old new o same found }
 
--- a warning was told
+-- a warning was reported
 pub ran_warned : (w : Warning) (old new : List Warning) → new ≡ old ++ w ∷ [] → Ran (warn w ∷ []) old new passed
 ran_warned w old new is = record { is = (refl, is) }
 

@@ -12,7 +12,7 @@ use Rattle.nextest_sources.specs.Sources.{Source, Outcome}
 abbrev pub NameSet : Type 0
 NameSet = List ℕ → Bool
 
--- where in a profile a fault of compilation stands
+-- where in a profile a fault of compilation is
 pub data RuleSection : Type 0 where
   in_default_filter : RuleSection
   in_override : (index : ℕ) → RuleSection
@@ -50,7 +50,7 @@ pub record WrongScript : Type 0 where
   pub attempted : ProfileScriptType
   pub actual : ScriptType
 
--- a rule of a profile with a list wrapper has a filter with parts that only a test can answer
+-- a rule of a profile with a list wrapper has a filter with parts that only a test can decide
 pub record ListFilter : Type 0 where
   pub profile : List ℕ
   pub script : List ℕ
@@ -68,16 +68,16 @@ pub data LoadCause : Type 0 where
   duplicate_tool : (tool path : List ℕ) → LoadCause
   -- the file was not read
   no_text : Outcome → LoadCause
-  -- its text is no document
+  -- its text is not a document
   no_document : LoadCause
-  -- a value is not what may stand there
+  -- a value is not what may be there
   bad_element : Fault → LoadCause
   -- groups and scripts that the source may not define, and the class of its owner
   ill_named_groups : OwnerClass → NameSet → LoadCause
   ill_named_scripts : OwnerClass → NameSet → LoadCause
   -- scripts under `script` and under `scripts`
   both_script_keys : LoadCause
-  -- features that it needs and that are not switched on
+  -- features that it needs and that are not enabled
   missing_features : List ConfigExperimental → LoadCause
   -- scripts of both kinds
   both_script_kinds : NameSet → LoadCause

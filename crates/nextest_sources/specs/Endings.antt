@@ -1,4 +1,4 @@
--- How calls of a load end: what they tell, and which steps they went through.
+-- How calls of a load end: what they report, and which steps they went through.
 use Rattle.std.specs.Prelude.{◌≡◌, List, ◌++◌, Option, Some, None, Result, Ok, Err}
 use Rattle.nextest_sources.specs.Causes.{LoadCause, LoadFault, at_source}
 use Rattle.nextest_sources.specs.Errors.{cause_view, source_of}
@@ -9,8 +9,8 @@ use Rattle.nextest_sources.specs.declared.error.ConfigParseError.{ConfigParseErr
 use Rattle.nextest_sources.specs.declared.error.ConfigParseErrorKind.{ConfigParseErrorKind}
 use Rattle.nextest_sources.specs.declared.error.ConfigParseErrorKind.TheVariants as kinds
 
--- how a call ended: with no fault, with this one, or for want of memory; no call ends with a
--- malformed refusal, which tells no fault
+-- how a call ended: with no fault, with this one, or because memory ran out; no call ends with a
+-- malformed refusal, which has no fault
 pub data Ending : Type 0 where
   passed : Ending
   refused : LoadFault → Ending
@@ -44,18 +44,18 @@ Found fault (refused f) = fault ≡ Some f
 Found fault no_memory = Unit {0}
 Found fault malformed = ⊥
 
--- an ending is a refusal with this fault, or want of memory
+-- an ending is a refusal with this fault, or a refusal of memory
 abbrev pub IsRefusal : Option LoadFault → Ending → Type 0
 IsRefusal fault passed = ⊥
 IsRefusal fault (refused f) = fault ≡ Some f
 IsRefusal fault no_memory = Unit {0}
 IsRefusal fault malformed = ⊥
 
--- a refusal tells this fault, or want of memory
+-- a refusal has this fault, or a refusal of memory
 abbrev pub Refuses : ConfigParseError → Option LoadFault → Type 0
 Refuses e fault = IsRefusal fault (error_view e)
 
--- a refusal is want of memory
+-- a refusal is one of memory
 abbrev pub IsMemory : ConfigParseError → Type 0
 IsMemory e = error_view e ≡ no_memory
 
@@ -75,7 +75,7 @@ WentThrough steps old new (refused f) =
 WentThrough steps old new no_memory = IsFollowedInPart old new (warnings_before steps)
 WentThrough steps old new malformed = ⊥
 
--- A call ran over steps: it ended with their first fault, if there is one, and told the warnings
--- before it; where memory ran out, a beginning of them.
+-- A call ran over steps: it ended with their first fault, if there is one, and reported the
+-- warnings before it; where memory ran out, a beginning of them.
 pub record Ran (steps : List LoadStep) (old new : List Warning) (end : Ending) : Type 0 where
   pub is : WentThrough steps old new end

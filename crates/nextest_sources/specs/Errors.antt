@@ -69,7 +69,7 @@ wrong_script_view e = record {
   actual = e.actual;
 }
 
--- a list wrapper beside a filter that only a test can answer
+-- a list wrapper beside a filter that only a test can decide
 abbrev pub list_filter_view : ProfileListScriptUsesRunFiltersError → ListFilter
 list_filter_view e = record {
   profile = string_bytes e.profile_name;
@@ -93,7 +93,7 @@ group_names_view set = is_one_of (map custom_group_text set.keys)
 abbrev pub script_names_view : BTreeSet ScriptId → NameSet
 script_names_view set = is_one_of (map script_text set.keys)
 
--- the cause that a kind tells: a message for people is no part of it, and want of memory is none
+-- the cause of a kind: a message for people is not part of it, and a refusal of memory has none
 abbrev pub cause_view : ConfigParseErrorKind → Option LoadCause
 cause_view (kinds.DuplicateToolConfigFile tool first) =
     Some (duplicate_tool (tool_name_text tool) (path_view first))

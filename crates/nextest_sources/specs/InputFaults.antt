@@ -1,4 +1,4 @@
--- What is asked of the files that a load is given, before their texts: one file a tool, and which
+-- What is required of the files of a load, before their texts: one file a tool, and which
 -- files may be missing.
 use Rattle.std.specs.Prelude.{◌≡◌, ℕ, IsTrue, List, [], ◌∷◌, ◌++◌, Option, None, Some, option_map, find, if◌then◌else◌}
 use Rattle.std.specs.Str.{bytes_eq}

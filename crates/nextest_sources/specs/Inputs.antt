@@ -34,7 +34,7 @@ load_inputs_view shared selection tools = record {
 abbrev pub inputs_view : ConfigInputs → LoadInputs
 inputs_view i = load_inputs_view i.shared.now i.selection i.tools.now
 
--- a source, and what came of reading its file
+-- a source, and the outcome of reading its file
 pub record Input : Type 0 where
   pub source : Source
   pub outcome : Outcome
@@ -66,14 +66,14 @@ abbrev pub organisation_inputs : Option InputFile → List Input
 organisation_inputs (Some file) = file_input organisation_file file ∷ []
 organisation_inputs None = []
 
--- what stands above the files of tools, the lowest first: the organisation's file, if there is one,
+-- what is above the files of tools, the lowest first: the organisation's file, if there is one,
 -- and the repository's
 abbrev pub selected_inputs : LoadInputs → List Input
 selected_inputs files =
     organisation_inputs files.organisation ++ repository_input files.shared files.explicit ∷ []
 
 -- What a load reads, the lowest first: the files of tools from the last argument to the first, and
--- then what stands above them.
+-- then what is above them.
 abbrev pub inputs_of : LoadInputs → List Input
 inputs_of files = reverse (map tool_input files.tools) ++ selected_inputs files
 

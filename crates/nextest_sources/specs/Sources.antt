@@ -59,7 +59,7 @@ pub record Source : Type 0 where
 abbrev pub source_view : ConfigSource → Source
 source_view s = record { path = path_view s.path; kind = source_kind_view s.kind }
 
--- what came of reading a file
+-- the outcome of reading a file
 pub data Outcome : Type 0 where
   text : List ℕ → Outcome
   not_found : Outcome
@@ -73,7 +73,7 @@ outcome_view outcomes.NotFound = not_found
 outcome_view outcomes.NotADirectory = not_a_directory
 outcome_view (outcomes.Failed message) = failed (string_bytes message)
 
--- a file: its path, and what came of reading it
+-- a file: its path, and the outcome of reading it
 pub record InputFile : Type 0 where
   pub path : List ℕ
   pub outcome : Outcome

@@ -36,7 +36,7 @@ pub enum ConfigParseErrorKind {
     },
     /// The file could not be read.
     ReadError(ReadOutcome),
-    /// The text is no TOML document. The message is for people.
+    /// The text is not a TOML document. The message is for people.
     BuildError(String),
     /// A value is not one that is allowed there.
     DeserializeError(ElementFault),
@@ -48,7 +48,7 @@ pub enum ConfigParseErrorKind {
     InvalidTestGroupsDefinedByOrganisation(BTreeSet<CustomTestGroup>),
     /// There are scripts under the old key `script` and under `scripts`.
     BothScriptAndScriptsDefined,
-    /// The file needs experimental features that are not switched on.
+    /// The file needs experimental features that are not enabled.
     ExperimentalFeaturesNotEnabled {
         /// Those features, in their order.
         missing_features: Vec<ConfigExperimental>,
@@ -81,7 +81,7 @@ pub enum ConfigParseErrorKind {
         /// The scripts that the file and those below it define.
         known_scripts: BTreeSet<String>,
     },
-    /// Want of memory. It says nothing of any source.
+    /// A refusal of memory. It says nothing of any source.
     Memory,
 }
 
@@ -153,7 +153,7 @@ fn write_details<W: fmt::Write>(f: &mut fmt::Formatter<W>, message: &str) -> fmt
     Ok(())
 }
 
-/// Writes what came of reading a file, where it says more than the kind's name.
+/// Writes the outcome of reading a file, where it says more than the kind's name.
 fn write_outcome<W: fmt::Write>(f: &mut fmt::Formatter<W>, outcome: &ReadOutcome) -> fmt::Result {
     match outcome {
         ReadOutcome::Failed(message) => write_details(f, message.as_str()),
@@ -265,7 +265,7 @@ impl ConfigParseError {
     ghost use Rattle.nextest_sources.specs.Errors.{source_of, cause_view, is_organisation_source};
     ghost use Rattle.nextest_sources.specs.Sources.{path_view, source_view, tool_of_source};
 
-    /// The file that is refused: `None` exactly for want of memory.
+    /// The file that is refused: `None` exactly if memory was refused.
     pub fn config_file(&self) -> Option<&ConfigPath>
         ensures path { option_map (λ path. path_view path.now) result
             ≡ option_map (λ source. source.path) (source_of self.now) }
@@ -307,7 +307,7 @@ impl ConfigParseError {
         &self.kind
     }
 
-    /// Want of memory.
+    /// Memory was refused.
     pub fn memory() -> ConfigParseError
         ensures { error_view result ≡ no_memory }
     {
@@ -317,7 +317,7 @@ impl ConfigParseError {
         }
     }
 
-    /// The fault of a source, or want of memory for its copy.
+    /// The fault of a source, or a refusal of memory for its copy.
     pub fn at(source: &ConfigSource, kind: ConfigParseErrorKind) -> ConfigParseError
         requires { IsSome (cause_view kind) }
         ensures { Refuses result
@@ -332,7 +332,7 @@ impl ConfigParseError {
         }
     }
 
-    /// The fault of an element of a source, or want of memory.
+    /// The fault of an element of a source, or a refusal of memory.
     pub fn element(source: &ConfigSource, fault: ElementFault) -> ConfigParseError
         ensures fault { Refuses result
             (option_map (λ f. at_source (source_view source.now) (bad_element f))

@@ -79,7 +79,7 @@ fn add_organisation<'a>(
     Ok(())
 }
 
-/// Adds what stands above the files of tools, the lowest first.
+/// Adds what is above the files of tools, the lowest first.
 fn add_selected<'a>(
     inputs: &mut Vec<SourceInput<'a>>,
     files: &ConfigInputs<'a>,

@@ -6,7 +6,7 @@ ghost use Rattle.nextest_sources.specs.Sources.{ToolFile};
 ghost use Rattle.nextest_sources.specs.Steps.{first_fault};
 
 /// The fault of a tool's second file is at the first argument that has an earlier one of its
-/// tool, and names the first file of that tool; and there is none exactly where no tool has two
+/// tool, and names the first file of that tool; and there is none exactly if no tool has two
 /// files.
 pub fn law_first_duplicate()
     ensures some { (tools : List ToolFile) (fault : LoadFault)

@@ -1,7 +1,7 @@
 //! Where configuration comes from: files with their outcomes, the sources that a load makes of
 //! them, why they are refused and what is warned of.
 //!
-//! Nothing here reads a file: a caller reads them and hands the outcomes in.
+//! Nothing here reads a file: a caller reads them and passes the outcomes in.
 #![tactic(auto)]
 
 mod error;

@@ -1,7 +1,7 @@
 //! Where configuration comes from: files with their outcomes, and the sources that a load makes of
 //! them.
 //!
-//! Nothing here reads a file. A caller reads them and hands the outcomes in.
+//! Nothing here reads a file. A caller reads them and passes the outcomes in.
 ghost use Rattle.std.specs.Prelude.{◌≡◌, IfOk, Some, option_map};
 ghost use Rattle.nextest_sources.specs.Inputs.{selecting};
 ghost use Rattle.nextest_sources.specs.Sources.{path_view, source_view, source_kind_view, tool_of_source};
@@ -14,7 +14,7 @@ use std::alloc::{AllocError, Global};
 use std::collections::BTreeSet;
 use std::fmt;
 
-/// The resolved path of a configuration file, as it was handed in.
+/// The resolved path of a configuration file, as it was passed in.
 #[derive(Clone, Debug, Drop, PartialEq, Eq, Hash)]
 pub struct ConfigPath {
     path: String,
@@ -30,7 +30,7 @@ impl ConfigPath {
         })
     }
 
-    /// The path as it was handed in.
+    /// The path as it was passed in.
     pub fn absolute_path(&self) -> &str
         ensures { result.now ≡ path_view self.now }
     {

@@ -196,7 +196,7 @@ escape_within multi text p e = elim (cases_Bool (cuts_line multi text)) [
 gap_value : (delim : ℕ) (multi : Bool) (text : List ℕ) → starts_escape delim text ≡ true → is_gap delim multi text ≡ cuts_line multi (drop 1 text)
 gap_value delim multi text hit = ap (λ (b : Bool). b && cuts_line multi (drop 1 text)) hit
 
--- the bytes that the code skips behind a backslash, where an escape stands there
+-- the bytes that the code skips behind a backslash, where an escape is there
 pub escape_stops : (multi : Bool) (text : List ℕ) (len byte : ℕ) → IsEscape multi text → cuts_line multi text ≡ false → byte ≡ first text → len ≡ 1 + hex_len byte
     → (0 < get_or text (len - 1) 0) × (get_or text (len - 1) 0 < 128) × ((p : List ℕ × List ℕ) → escape multi text ≡ Some p → drop len text ≡ p.1)
 escape_stops multi text len byte (p, found) miss first_is len_is =

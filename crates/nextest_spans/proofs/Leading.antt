@@ -1,4 +1,4 @@
--- What an item leads to stands at its path.
+-- What an item leads to is at its path.
 use Rattle.std.proofs.Common.{◌≡◌, ◌<◌, ◌+◌, ℕ, zero, suc, false, List, [], ◌∷◌, ◌++◌, length, map, take, Option, Some, None, refl, sym, ap, ◌∙◌, subst, arith, append_assoc, string_bytes, inl, inr}
 use Rattle.std.specs.List.{slice_get}
 use Rattle.std.specs.Option.{option_and_then}
@@ -15,7 +15,7 @@ use Rattle.nextest_spans.specs.declared.item.Role.TheVariants as role
 use Rattle.nextest_spans.specs.Paths.{IsAtPath, LeadsTo, PathStep, at_root, inner_steps, key, own_steps, path_step, position, through}
 use Rattle.nextest_spans.specs.Spans.{data_at, data_into, is_key}
 
--- ---- what stands at the steps of a path
+-- ---- what is at the steps of a path
 
 abbrev into : PathStep → Data → Option Data
 into (key k) node = get k node
@@ -144,7 +144,7 @@ inner_of (role.Key name kind element) steps sort is = absurd (cc)
 inner_of (role.Value None container) steps sort is = is
 inner_of (role.Value (Some i) container) steps sort is = is
 
--- a value that stands at a path leads to what stands there
+-- a value that is at a path leads to what is there
 pub stands : (root : Data) (items : List Item) (i : ℕ) (item : Item) (path : List Step) (node : Data) → slice_get items i ≡ Some item
     → is_key item.role ≡ false → IsAtPath items item (map path_step path) → slice_get (nodes_of root items) i ≡ Some (Some node)
     → data_at path root ≡ Some node

@@ -61,7 +61,7 @@ readable text items root nodes marks document is are i item marked here =
 pub none_readable : IsUnmarked []
 none_readable text items i item marked here = absurd (none-some true marked)
 
--- a marked item at a path is a value that reads as what stands there
+-- a marked item at a path is a value that reads as what is there
 pub value_of : (text : List ℕ) (items : List Item) (marks : List Bool) (path : List Step) (lines : Lines) (found : Option Span)
     → AreReadable text items marks → IfSome found (IsMarkedAt text items marks path lines)
     → IfSome found (λ span. (node : Data) × StandsAt path text node × IsValueOf text items path lines node span)

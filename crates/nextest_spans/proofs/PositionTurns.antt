@@ -137,7 +137,7 @@ closing delim multi text bytes is done on =
       shown = no_gap delim multi text (ap (λ (b : Bool). b && (delim == 34)) apart);
     }
 
--- ---- a character that stands for itself
+-- ---- a character that means itself
 
 delim_char : (delim : ℕ) (multi : Bool) (c : ℕ) (rest bytes : List ℕ) → is_plain delim multi c ≡ false → (c == delim) ≡ true
     → closes delim multi (c ∷ rest) ≡ false → ReadsOn delim multi (c ∷ rest) bytes

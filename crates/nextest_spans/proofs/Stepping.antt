@@ -194,7 +194,7 @@ before_all unit text p a b utf8 at_a at_b less h =
     apart : (a b : ℕ) → a ≤ b → (a < b) ⊎ (a ≡ b)
     apart a b less = grind arith
 
--- the walk ends where the next place stands behind the position
+-- the walk ends where the next place is behind the position
 pub stops : (unit : ColumnUnit) (text : List ℕ) (p at : TextPosition) (byte len : ℕ) (next : TextPosition) → IsUtf8 text → IsPlace text byte
     → at ≡ position_of unit text byte → ¬ IsBefore p at → Stepped unit text byte len next → IsBefore p next → IsByteAt unit text p byte
 stops unit text p at byte len next utf8 here at_is reached step beyond = record {

@@ -60,7 +60,7 @@ abbrev pub IsNamedSort : List ℕ → Sort → Type 0
 IsNamedSort bytes (key_part name) = IsNamed bytes name
 IsNamedSort bytes (value container) = Unit {0}
 
--- ---- where items stand
+-- ---- where items are
 
 -- what begins at a byte, and where it ends; of a list or a table the end is left open
 abbrev pub end_by_sort : Sort → Span → Option ℕ

@@ -12,7 +12,7 @@ PositionsRise = (unit : ColumnUnit) (text : List ℕ) (a b : ℕ) → IsUtf8 tex
     → IsCharBoundary text a → IsCharBoundary text b → a < b
     → IsBefore (position_of unit text a) (position_of unit text b)
 
--- what opens a string of the token's kind, with a newline that is left out where it may stand
+-- what opens a string of the token's kind, with a newline that is left out where it may be
 abbrev pub opening : List ℕ → List ℕ
 opening token =
     if is_multi token then first token ∷ first token ∷ first token ∷ line_feed ∷ []

@@ -32,7 +32,7 @@ inner_steps (role.Key (Some name) kind (Some i)) =
 inner_steps (role.Value None container) = Some []
 inner_steps (role.Value (Some i) container) = Some (position i ∷ [])
 
--- these steps end a path, and so many stand before them
+-- these steps end a path, and so many are before them
 abbrev pub IsEndedBy : List Step → List PathStep → ℕ → Type 0
 IsEndedBy path steps n =
     (n ≤ length path) × (map path_step path ≡ map path_step (take n path) ++ steps)

@@ -49,7 +49,7 @@ pub record IsPlace (text : List ℕ) (byte : ℕ) : Type 0 where
   pub boundary : IsCharBoundary text byte
   pub whole : ¬ IsInLineEnd text byte
 
--- the last place that does not stand behind the position
+-- the last place that is not behind the position
 pub record IsByteAt (unit : ColumnUnit) (text : List ℕ) (position : TextPosition) (byte : ℕ)
     : Type 0 where
   pub place : IsPlace text byte

@@ -32,7 +32,7 @@ IsNamed text (Some name) = IsKey text (string_bytes name)
 abbrev pub is_separator : ℕ → Bool
 is_separator byte = ((byte == dot || byte == equals) || byte == comma) || byte == right_bracket
 
--- what may stand between tokens: white space, newlines and comments, or one separator
+-- what may be between tokens: white space, newlines and comments, or one separator
 abbrev pub is_gap : List ℕ → Bool
 is_gap bytes = length (skip_blank bytes) == 0 || (length bytes == 1 && is_separator (first bytes))
 
@@ -71,7 +71,7 @@ IsRightPiece text (Some kind) = IsRightKind text kind
 abbrev pub text_at : List ℕ → Span → List ℕ
 text_at text span = between span.start span.end text
 
--- nothing but gaps stands between two bytes of a text
+-- nothing but gaps is between two bytes of a text
 pub record AreGaps (text : List ℕ) (low high : ℕ) : Type 0 where
   pub gaps : List (List ℕ)
   pub order : low ≤ high

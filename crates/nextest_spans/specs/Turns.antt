@@ -28,7 +28,7 @@ abbrev pub IsKept : ℕ → Option ℕ → Option ℕ → Type 0
 IsKept index wanted kept = IfSome kept (λ i. i < index)
     × (IfSome wanted (λ i. i < index) → kept ≡ wanted)
 
--- what is read of sections is the same, and no part of a key stands before what follows
+-- what is read of sections is the same, and no part of a key is before what follows
 abbrev pub IsBehind : Reader → Reader → Type 0
 IsBehind old new =
     (new.key ≡ None) × (new.section ≡ old.section) × (new.kind ≡ old.kind)

@@ -7,7 +7,7 @@ use crate::token::Container;
 use toml_parser::starts_string;
 use toml_parser::text::{first, skip_blank};
 
-/// Whether the text may stand between tokens: white space, newlines and comments, or a separator.
+/// Whether the text may be between tokens: white space, newlines and comments, or a separator.
 pub(crate) fn is_gap(text: &str) -> bool
     ensures { result ≡ spec.is_gap text.now }
 {

@@ -20,7 +20,7 @@ pub(crate) fn bare_len(text: &str) -> usize {
     text.as_bytes().iter().take_while(|b| is_bare(**b)).count()
 }
 
-/// The length of a value that is no string, list or table, without the blanks at its end.
+/// The length of a value that is not a string, list or table, without the blanks at its end.
 pub(crate) fn word_len(text: &str) -> usize {
     let mut len = 0;
     for (i, byte) in text.as_bytes().iter().enumerate() {
@@ -87,7 +87,7 @@ pub(crate) fn multi_string_len(text: &str) -> usize {
     text.len()
 }
 
-/// How many delimiters stand right before a place in a string. The last three of at most five close
+/// How many delimiters are right before a place in a string. The last three of at most five close
 /// it.
 #[derive(Clone, Copy, PartialEq, Eq)]
 enum Run {

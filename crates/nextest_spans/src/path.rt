@@ -6,7 +6,7 @@ ghost use Rattle.nextest_spans.specs.Paths.{IsAtPath, IsEndedBy, LeadsTo, PathSt
 use crate::{Item, Role};
 use nextest_places::Step;
 
-/// How many steps stand before the last one of a path, if that is this key.
+/// How many steps are before the last one of a path, if that is this key.
 fn before_key(path: &[Step], name: &str) -> Option<usize>
     ensures { IfSome result (IsEndedBy path.now (key name.now ∷ [])) }
 {
@@ -17,7 +17,7 @@ fn before_key(path: &[Step], name: &str) -> Option<usize>
     }
 }
 
-/// How many stand before it, if it is this position.
+/// How many are before it, if it is this position.
 fn before_position(path: &[Step], index: usize) -> Option<usize>
     ensures { IfSome result (IsEndedBy path.now (position index ∷ [])) }
 {
@@ -62,7 +62,7 @@ fn before_inner(role: &Role, path: &[Step]) -> Option<usize>
     }
 }
 
-/// How many steps of a path stand before its last two, if these are a key and a position.
+/// How many steps of a path are before its last two, if these are a key and a position.
 fn before_element(path: &[Step], name: &str, index: usize) -> Option<usize>
     ensures { IfSome result (IsEndedBy path.now (key name.now ∷ position index ∷ [])) }
 {

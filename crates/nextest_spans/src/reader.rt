@@ -26,7 +26,7 @@ pub(crate) enum Turn {
     Closes(usize),
 }
 
-/// Where a token stands.
+/// Where a token is.
 #[derive(Clone, Copy)]
 pub(crate) struct Place {
     /// How many items there are by now.
@@ -53,7 +53,7 @@ pub(crate) struct Reader {
     kind: KeyKind,
     /// The last part of the last header's key.
     section: Option<usize>,
-    /// The part of a key that stands right before, if one does.
+    /// The part of a key that is right before, if one is.
     key: Option<usize>,
     held: Vec<Holder>,
     sections: Sections,

@@ -33,7 +33,7 @@ pub fn tokens_of(alloc: Global, text: &str) -> Result<Vec<Token>, AllocError>
     Ok(tokens)
 }
 
-/// The token at the front of what is left of a text, if one stands there, with the bytes that were
+/// The token at the front of what is left of a text, if one is there, with the bytes that were
 /// read, and what follows them.
 pub(crate) fn next_token<'a>(
     alloc: Global,

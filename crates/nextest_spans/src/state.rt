@@ -57,7 +57,7 @@ enum Next {
 #[derive(Drop)]
 pub(crate) struct State {
     next: Next,
-    /// Whether a dot stands right before, so that a part goes on a key.
+    /// Whether a dot is right before, so that a part continues a key.
     is_dotted: bool,
     /// The lists and tables that are not closed, from the outermost.
     nest: Vec<Container>,

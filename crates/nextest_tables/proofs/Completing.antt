@@ -25,7 +25,7 @@ use Rattle.nextest_tables.specs.declared.profile_table.ProfileTable.{ProfileTabl
 use Rattle.nextest_tables.proofs.Form.{junit_form, bench_form, profile_form, profiles_form, file_form, merged_form}
 use Rattle.nextest_tables.proofs.Kept.{Keeps}
 
--- a value is written where something stands at its key
+-- a value is written where something is at its key
 some_of : {X Y : Type 0} (P : Node → X → Type 0) (show : X → Y) (o : Option Node) (x : Option X)
     → IsSomeAnd o (Keeps opaque) → IsOptional P o x → IsSome (option_map show x)
 some_of P show (Some n) (Some x) g h = refl

@@ -175,7 +175,7 @@ profile_is es x h =
       script_rules = script_rules i;
     }
 
--- what stands at a key of the table of scripts
+-- what is at a key of the table of scripts
 pub under_scripts : (k : Key) (o : Option Node)
     → nodes_under k (unwrap_or (option_and_then as_table o) no_entries) ≡ entries_at k (unwrap_or o (table no_entries))
 under_scripts k None = refl

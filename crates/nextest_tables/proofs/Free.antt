@@ -29,7 +29,7 @@ all_free (field k must s fs) p es h =
 pub struct_free : (fs : Fields) (p : List ℕ) (es : Entries) → faults (struct fs) p (table es) ≡ [] → AllFree fs p es
 struct_free fs p es h = all_free fs p es (left_nil (fields_faults fs p es) [] h)
 
--- what stands at a key of a map has no fault
+-- what is at a key of a map has no fault
 pub entry_free : (test : List ℕ → Option FaultCause) (s : Schema) (p k : List ℕ) (es : Entries) (n : Node)
     → faults (map_of test s) p (table es) ≡ [] → get k es ≡ Some n → (q : List ℕ) × (faults s q n ≡ [])
 entry_free test s p k no_entries n h g = cc

@@ -6,7 +6,7 @@ use Rattle.nextest_tree.specs.Key.{key_text}
 use Rattle.nextest_tree.specs.Node.{Node, table, array, text, int, bool, no_nodes, Entries, no_entries, entry, put}
 use Rattle.nextest_tables.specs.Written.{default_name}
 
--- a row of a table: a key, what stands there, and the rows after it
+-- a row of a table: a key, what is there, and the rows after it
 abbrev pub row : Key → Node → Entries → Entries
 row k n es = entry (key_text k) n es
 

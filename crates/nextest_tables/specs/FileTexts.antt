@@ -136,7 +136,7 @@ file_text n = record {
   profiles = each_in profile_text (entries_at keys.Profile n);
 }
 
--- the names of what stands in a table
+-- the names of what is in a table
 abbrev pub names_in : {X : Type 0} → List (Name × X) → List Name
 names_in es = map (λ e. e.0) es
 

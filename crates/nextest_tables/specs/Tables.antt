@@ -1,5 +1,5 @@
 -- The schema of a whole file: which keys each table knows, in the order in which they are read, and
--- what may stand at each.
+-- what may be at each.
 use Rattle.std.specs.Prelude.{None}
 use Rattle.nextest_tree.specs.declared.key.Key.TheVariants as keys
 use Rattle.nextest_tree.specs.Leaf.{a_text, any_key}

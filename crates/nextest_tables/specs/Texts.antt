@@ -34,7 +34,7 @@ use Rattle.nextest_elements.specs.TestThreads.{test_threads_at}
 use Rattle.nextest_elements.specs.ThreadsRequired.{threads_required_at}
 use Rattle.nextest_tables.specs.Written.{Name, Arguments, WrittenSettings, WrittenReport, WrittenFields}
 
--- what stands at a key of a table
+-- what is at a key of a table
 abbrev pub at_key : Key → Node → Option Node
 at_key k n = member_of (key_text k) n
 
@@ -124,7 +124,7 @@ bench_override_table es =
 abbrev pub bench_override_in : Node → Option BenchOverride
 bench_override_in n = option_map bench_override_table (as_table n)
 
--- what the fields of an override write; what is no table writes what an empty one would
+-- what the fields of an override write; what is not a table writes what an empty one would
 abbrev pub settings_in : Node → WrittenSettings
 settings_in n = record {
   priority = option_and_then priority_in (at_key keys.Priority n);
@@ -141,7 +141,7 @@ settings_in n = record {
   bench = option_and_then bench_override_in (at_key keys.Bench n);
 }
 
--- what the fields of a profile write; what is no table writes what an empty one would
+-- what the fields of a profile write; what is not a table writes what an empty one would
 abbrev pub fields_in : Node → WrittenFields
 fields_in n = record {
   retries = option_and_then policy_in (at_key keys.Retries n);

@@ -1,4 +1,4 @@
--- The function of durations gives a number of nanoseconds exactly where the grammar does.
+-- The function of durations gives a number of nanoseconds exactly if the grammar does.
 use Rattle.std.proofs.Common.{◌≡◌, ◌↔◌, ℕ, ◌+◌, ◌*◌, ◌<◌, ◌≤◌, zero, suc, Bool, true, false, cond, ◌&&◌, List, [], ◌∷◌, ◌++◌, length, get_or, refl, sym, ap, subst, ◌∙◌, inl, inr, append_assoc, arith, All, nat_lt}
 use Rattle.std.specs.Prelude.{Option, Some, None, option_map, option_and_then, flat_map, sum_by, codes, nat_eq, nat_le, Result, Ok, Err, IfOk}
 use Rattle.std.specs.Option.{ok_or}
@@ -311,7 +311,7 @@ Row-found digits between unit size text (Some m) n number found rows e =
     subst (Row (digits ++ (spaces between ++ (unit ++ text)))) (same_Some (digits_value 10 digits * size + m) n e)
     (Row-item digits between unit size text m number (IsUnit-from_unit_size unit size found) (rows m refl))
 
--- what runs say whose sum is known: as they stand, and behind the digits of an item and spaces
+-- what runs say whose sum is known: as they are, and behind the digits of an item and spaces
 record Reads (rs : List ByteRun) : Type 0 where
   row : (n : ℕ) → sum_of (without_spaces rs) ≡ Some n → Row (flat rs) n
   behind : (digits : List ℕ) (between n : ℕ) → IsNumeral 10 digits
@@ -359,7 +359,7 @@ unfolding some_sum_of
 some_sum_of-some [] n e = absurd (none-some n e)
 some_sum_of-some (r ∷ rs) n e = e
 
--- the digit 0 alone is no row of items
+-- the digit 0 alone is not a row of items
 zero_alone : some_sum_of (words_of (codes "0")) ≡ None
 unfolding some_sum_of sum_of words_of runs without_spaces
 zero_alone = refl
@@ -394,7 +394,7 @@ sum-from_IsRow : (items : List Item) (after : ℕ) (text : List ℕ) (n : ℕ) �
 sum-from_IsRow items after text n l is =
     ap (λ t. some_sum_of (words_of t)) is.spelled ∙ some_sum_of-items items after l is.each ∙ ap Some (sym is.total)
 
--- The function gives n nanoseconds exactly where the text means n nanoseconds.
+-- The function gives n nanoseconds exactly if the text means n nanoseconds.
 pub grammar : (text : List ℕ) (n : ℕ) → (duration_of text ≡ Some n) ↔ IsDuration text n
 grammar text n = (read (bytes_eq text (codes "0")) refl, written)
   where

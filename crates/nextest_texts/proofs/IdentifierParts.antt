@@ -1,4 +1,4 @@
--- What the characters of a part are, which characters stand in no part, and where the first colon stands.
+-- What the characters of a part are, which characters are in no part, and where the first colon stands.
 use Rattle.std.proofs.Common.{◌≡◌, ◌≢◌, ◌↔◌, ℕ, ◌+◌, ◌<◌, Bool, true, false, ◌||◌, eqb, IsTrue, List, [], ◌∷◌, ◌++◌, All, length, take, drop, get_or, encode_utf8_all, sym, ◌∙◌, ap, subst, inl, inr, ⊎_elim, arith}
 use Rattle.std.proofs.Math.Seq.{take-append_seam, drop-append-add, get_or-append_seam}
 use Rattle.std.proofs.lemmas.Bool.{false≢true, and_parts, and_from, or_cases, or_left, or_right, eqb-true, eq-eqb, ne_eqb}
@@ -63,13 +63,13 @@ is_part-from_IsPart text part =
     and_from (is_utf8 text) _ (is_utf8-from_IsUtf8 text utf8)
     (subst (λ cs. are_part_characters cs ≡ true) same (characters_of_part text part))
 
--- A text passes the test of parts exactly where it is a part.
+-- A text passes the test of parts exactly if it is a part.
 pub is_part_law : (text : List ℕ) → IsTrue (is_part text) ↔ IsPart text
 is_part_law text = (IsPart-from_is_part text, is_part-from_IsPart text)
 
--- ---- what stands in no part
+-- ---- what is in no part
 
--- such a character stands in no part
+-- such a character is in no part
 abbrev LacksCharacter : ℕ → Type 0
 LacksCharacter c = (c < 128) × (is_xid_start c ≡ false) × (is_xid_continue c ≡ false) × (c ≢ 45)
 

@@ -27,13 +27,13 @@ prefix_then text h = (starts_is Decides-eqb text (codes "@tool:") _ refl).0 h
 prefix_of : (text rest : List ℕ) → text ≡ codes "@tool:" ++ rest → has_tool_prefix text ≡ true
 prefix_of text rest e = (starts_is Decides-eqb text (codes "@tool:") _ refl).1 rest e
 
--- a text that begins with an at sign is no part
+-- a text that begins with an at sign is not a part
 at_sign_is_no_part : (text : List ℕ) → get_or text 0 0 ≡ 64 → is_part text ≡ false
 at_sign_is_no_part text h =
     false_from_ne_true (is_part text) (λ part.
     lacks_byte 64 at_sign text (IsPart-from_is_part text part) 0 (part_fills text (IsPart-from_is_part text part)) h)
 
--- A text with the prefix of tools is no part.
+-- A text with the prefix of tools is not a part.
 pub prefix_is_no_part : (text : List ℕ) → has_tool_prefix text ≡ true → is_part text ≡ false
 prefix_is_no_part text h = at_sign_is_no_part text (ap (λ t. get_or t 0 0) (prefix_then text h))
 
@@ -45,7 +45,7 @@ regroup tool name = append_assoc (codes "@tool:" ++ tool) (codes ":") name
 after_prefix : (text tool name : List ℕ) → HasToolParts text tool name → drop 6 text ≡ tool ++ 58 ∷ name
 after_prefix text tool name parts = ap (λ t. drop 6 t) (parts.spelled ∙ regroup tool name)
 
--- The parts of a tool's identifier are what stands around the first colon after the prefix.
+-- The parts of a tool's identifier are what is around the first colon after the prefix.
 pub tool_of_parts : (text tool name : List ℕ) → HasToolParts text tool name → tool_of text ≡ tool
 tool_of_parts text tool name parts =
     ap (λ t. before_first (λ b. eqb b 58) t) (after_prefix text tool name parts)
@@ -67,7 +67,7 @@ no_colon_no_name text past =
     drop_all (position_or_len (λ b. eqb b 58) (drop 6 text) + 1) (drop 6 text) (omega arith) in
     subst (λ t. is_part t ≡ false) (sym none) empty_is_no_part
 
--- a text of a tool's form is no part
+-- a text of a tool's form is not a part
 tool_form_is_no_part : (text : List ℕ) → has_tool_form text ≡ true → is_part text ≡ false
 tool_form_is_no_part text h = prefix_is_no_part text (and_parts (has_tool_prefix text) _ h).0
 
@@ -100,7 +100,7 @@ form_by_tool_parts text tool name parts =
     (subst (λ t. is_part t ≡ true) (sym (name_of_parts text tool name parts))
     (is_part-from_IsPart name parts.name_is_part)))
 
--- A text has a tool's form exactly where it is a tool's identifier.
+-- A text has a tool's form exactly if it is a tool's identifier.
 pub tool_form_law : (text : List ℕ) → IsTrue (has_tool_form text) ↔ IsToolIdentifier text
 tool_form_law text = (
   λ h. (tool_of text, name_of text, tool_parts_by_form text h),
@@ -117,7 +117,7 @@ organisation_prefix_then text h = (starts_is Decides-eqb text (codes "@org:") _ 
 organisation_prefix_of : (text rest : List ℕ) → text ≡ codes "@org:" ++ rest → has_organisation_prefix text ≡ true
 organisation_prefix_of text rest e = (starts_is Decides-eqb text (codes "@org:") _ refl).1 rest e
 
--- A text with the prefix of the organisation is no part.
+-- A text with the prefix of the organisation is not a part.
 pub organisation_prefix_is_no_part : (text : List ℕ) → has_organisation_prefix text ≡ true → is_part text ≡ false
 organisation_prefix_is_no_part text h =
     at_sign_is_no_part text (ap (λ t. get_or t 0 0) (organisation_prefix_then text h))
@@ -130,7 +130,7 @@ one_prefix text tool =
     let o : get_or text 1 0 ≡ 111 = ap (λ t. get_or t 1 0) (organisation_prefix_then text organisation) in
     omega (arith, t, o))
 
--- a text of the organisation's form is no part
+-- a text of the organisation's form is not a part
 organisation_form_is_no_part : (text : List ℕ) → has_organisation_form text ≡ true → is_part text ≡ false
 organisation_form_is_no_part text h =
     organisation_prefix_is_no_part text (and_parts (has_organisation_prefix text) _ h).0
@@ -160,7 +160,7 @@ form_by_organisation_part text name part =
     (subst (λ t. is_part t ≡ true) (sym (organisation_name_of_part text name part))
     (is_part-from_IsPart name part.name_is_part))
 
--- A text has the organisation's form exactly where it is an identifier of the organisation.
+-- A text has the organisation's form exactly if it is an identifier of the organisation.
 pub organisation_form_law : (text : List ℕ) → IsTrue (has_organisation_form text) ↔ IsOrganisationIdentifier text
 organisation_form_law text = (
   λ h. (organisation_name_of text, organisation_part_by_form text h),
@@ -232,7 +232,7 @@ form_from text (of_tool tool name) parts =
     ∙ ap (λ t. Some (of_tool t (name_of text))) (tool_of_parts text tool name parts)
     ∙ ap (λ n. Some (of_tool tool n)) (name_of_parts text tool name parts)
 
--- A text passes the test of identifiers exactly where it is one.
+-- A text passes the test of identifiers exactly if it is one.
 pub is_identifier_law : (text : List ℕ) → IsTrue (is_identifier text) ↔ IsIdentifier text
 unfolding is_identifier
 is_identifier_law text = (
@@ -272,12 +272,12 @@ organisation_prefixed_identifier text tool h =
     ∙ ap (λ b. has_organisation_form text || (b && (is_part (tool_of text) && is_part (name_of text)))) tool
     ∙ or-false (has_organisation_form text))
 
--- With the prefix of tools, what stands around the colon says whether it is one of a tool.
+-- With the prefix of tools, what is around the colon says whether it is one of a tool.
 pub tool_form_by_parts : (text : List ℕ) → has_tool_prefix text ≡ true
     → (is_part (tool_of text) && is_part (name_of text)) ≡ has_tool_form text
 tool_form_by_parts text h = sym (ap (λ b. b && (is_part (tool_of text) && is_part (name_of text))) h)
 
--- With it and no colon a text is no tool's identifier.
+-- With it and no colon a text is not a tool's identifier.
 pub unsplit_tool_form : (text : List ℕ)
     → (IsTrue (has_tool_prefix text) → position_or_len (λ b. eqb b 58) (drop 6 text) ≡ length (drop 6 text))
     → false ≡ has_tool_form text
@@ -303,7 +303,7 @@ unfolding is_part
 part_by_characters text cs utf8 e =
     sym (ap (λ b. b && are_part_characters (chars text)) (is_utf8-from_IsUtf8 text utf8) ∙ ap are_part_characters e)
 
--- A text with no character is no part.
+-- A text with no character is not a part.
 pub empty_no_part : (text : List ℕ) → length text ≡ 0 → false ≡ is_part text
 empty_no_part text e = sym
     (false_from_ne_true (is_part text)
@@ -331,7 +331,7 @@ parts_of_prefixed : (text : List ℕ) → IsIdentifier text → has_tool_prefix 
 parts_of_prefixed text identifier prefix =
     tool_parts_by_form text (tool_prefixed_identifier text prefix ∙ (is_identifier_law text).1 identifier)
 
--- Where nothing is split off, the text is no tool's identifier.
+-- Where nothing is split off, the text is not a tool's identifier.
 pub unsplit_is_no_tool : (text : List ℕ) (r : Option (Bor (List ℕ) × Bor (List ℕ)))
     → IfNone r (IsTrue (has_tool_prefix text)
     → position_or_len (λ b. eqb b 58) (drop 6 text) ≡ length (drop 6 text)) → IfNone r (¬ IsToolIdentifier text)
@@ -349,7 +349,7 @@ split_is_parts text (Some parts) identifier prefix tool name =
     subst (λ t. HasToolParts text t parts.1.now) (sym tool)
     (subst (λ n. HasToolParts text (tool_of text) n) (sym name) (parts_of_prefixed text identifier prefix))
 
--- Where nothing is split off behind the prefix of the organisation, the text is no identifier of it.
+-- Where nothing is split off behind the prefix of the organisation, the text is not an identifier of it.
 pub unsplit_is_no_organisation : (text : List ℕ) (r : Option (Bor (List ℕ)))
     → IfNone r (has_organisation_prefix text ≡ false) → IfNone r (¬ IsOrganisationIdentifier text)
 unsplit_is_no_organisation text None none =
@@ -425,7 +425,7 @@ pub flaws_of_part : {X : Type 0} (text : List ℕ) (r : Result X InvalidIdentifi
 flaws_of_part text (Ok x) unprefixed flaw = flaw
 flaws_of_part text (Err e) unprefixed flaw = flaw_of_part text e unprefixed flaw
 
--- A refusal of a text with the prefix of tools tells that it is no tool's identifier.
+-- A refusal of a text with the prefix of tools tells that it is not a tool's identifier.
 pub flaws_of_tool_form : {X : Type 0} (text : List ℕ) (r : Result X InvalidIdentifier)
     → has_tool_prefix text ≡ true → is_ok r ≡ has_tool_form text
     → IfErr r (λ e. e ≡ causes.BadToolForm) → IfErr r (HasFlaw text)
@@ -433,7 +433,7 @@ flaws_of_tool_form text (Ok x) prefix verdict cause = cause
 flaws_of_tool_form text (Err e) prefix verdict cause =
     subst (HasFlaw text) (sym cause) (prefix, λ tool. false≢true (verdict ∙ (tool_form_law text).1 tool))
 
--- A refusal of a text with the prefix of the organisation tells that it is no identifier of it.
+-- A refusal of a text with the prefix of the organisation tells that it is not an identifier of it.
 pub flaws_of_organisation_form : {X : Type 0} (text : List ℕ) (r : Result X InvalidIdentifier)
     → has_organisation_prefix text ≡ true → is_ok r ≡ has_organisation_form text
     → IfErr r (λ e. e ≡ causes.BadOrganisationForm) → IfErr r (HasFlaw text)
@@ -441,7 +441,7 @@ flaws_of_organisation_form text (Ok x) prefix verdict cause = cause
 flaws_of_organisation_form text (Err e) prefix verdict cause =
     subst (HasFlaw text) (sym cause) (prefix, λ found. false≢true (verdict ∙ (organisation_form_law text).1 found))
 
--- A refusal for one of these causes is none for want of memory.
+-- A refusal for one of these causes is not one of memory.
 pub not_memory : {X : Type 0} (cause : InvalidIdentifier) (r : Result X InvalidIdentifier)
     → (causes.Memory ≡ cause → ⊥) → IfErr r (λ e. e ≡ cause) → r ≢ Err causes.Memory
 not_memory cause (Ok x) differs is same = cc

@@ -29,12 +29,12 @@ pub record TakesItem (text : List ℕ) (amount : Option ℕ) (rest : List ℕ) :
   pub tight : words_of rest ≡ [] → rest ≡ []
   pub shorter : length rest < length text
 
--- An item is read where the text begins with one, and else the text is no duration.
+-- An item is read where the text begins with one, and else the text is not a duration.
 abbrev pub ReadsItem : List ℕ → Result (Option ℕ × Bor (List ℕ)) DurationError → Type 0
 ReadsItem text (Ok found) = TakesItem text found.0 found.1.now
 ReadsItem text (Err e) = (e ≡ Malformed) × (some_sum_of (words_of text) ≡ None)
 
--- The items of a text are read where they are one or more, and else the text is no duration.
+-- The items of a text are read where they are one or more, and else the text is not a duration.
 abbrev pub ReadsItems : List ℕ → Result (Option ℕ) DurationError → Type 0
 ReadsItems text (Ok total) =
     (n : ℕ) × (total ≡ within_limit n) × (some_sum_of (words_of text) ≡ Some n)

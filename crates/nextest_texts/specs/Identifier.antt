@@ -66,11 +66,11 @@ are_part_characters (first ∷ others) = is_xid_start first
 unfoldable pub is_part : List ℕ → Bool
 is_part text = is_utf8 text && are_part_characters (chars text)
 
--- What stands between the six bytes of `@tool:` and the first colon that follows them.
+-- What is between the six bytes of `@tool:` and the first colon that follows them.
 abbrev pub tool_of : List ℕ → List ℕ
 tool_of text = before_first (λ byte. byte == 58) (drop 6 text)
 
--- What stands after the first colon that follows the six bytes of `@tool:`.
+-- What is after the first colon that follows the six bytes of `@tool:`.
 abbrev pub name_of : List ℕ → List ℕ
 name_of text = after_first (λ byte. byte == 58) (drop 6 text)
 
@@ -82,7 +82,7 @@ has_tool_prefix text = starts_with nat_eq text (codes "@tool:")
 abbrev pub has_tool_form : List ℕ → Bool
 has_tool_form text = has_tool_prefix text && (is_part (tool_of text) && is_part (name_of text))
 
--- What stands after the five bytes of `@org:`.
+-- What is after the five bytes of `@org:`.
 abbrev pub organisation_name_of : List ℕ → List ℕ
 organisation_name_of text = drop 5 text
 
@@ -115,7 +115,7 @@ form_of text = option_or (plain_form text) (option_or (organisation_form text) (
 unfoldable pub is_identifier : List ℕ → Bool
 is_identifier text = is_some (form_of text)
 
--- The first character of the text is no XID_Start character.
+-- The first character of the text is not a XID_Start character.
 pub record StartsBadly (text : List ℕ) : Type 0 where
   pub first : ℕ
   pub others : List ℕ
@@ -144,7 +144,7 @@ HasPartFlaw text causes.Memory = ⊥
 abbrev pub has_owner_prefix : List ℕ → Bool
 has_owner_prefix text = has_tool_prefix text || has_organisation_prefix text
 
--- What keeps a text from being an identifier: with the prefix of tools, that it is no tool's
+-- What keeps a text from being an identifier: with the prefix of tools, that it is not a tool's
 -- identifier, with that of the organisation, that it is none of the organisation, and without a
 -- prefix a flaw of a part.
 abbrev pub HasFlaw : List ℕ → InvalidIdentifier → Type 0

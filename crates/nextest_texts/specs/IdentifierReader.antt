@@ -11,7 +11,7 @@ use Rattle.nextest_texts.specs.IdentifierText.{identifier_text}
 unfoldable pub identifier_expected : List ℕ
 identifier_expected = codes "an identifier"
 
--- a text that is no identifier is refused
+-- a text that is not an identifier is refused
 abbrev pub identifier_cause : List ℕ → Option FaultCause
 identifier_cause s = if is_identifier s then None else Some (bad_value s identifier_expected)
 

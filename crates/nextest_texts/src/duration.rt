@@ -31,7 +31,7 @@ const YEAR: u128 = 31_557_600 * SECOND;
 
 const LONGEST: u128 = 18_446_744_073_709_551_615 * SECOND;
 
-// The names of the units, each with its size in nanoseconds. In `µs` stands U+00B5.
+// The names of the units, each with its size in nanoseconds. `µs` is written with U+00B5.
 #[rattlefmt::skip]
 const UNITS: [(&str, u128); 40] = [
     ("ns", 1), ("nsec", 1), ("nanos", 1),
@@ -46,7 +46,7 @@ const UNITS: [(&str, u128); 40] = [
     ("y", YEAR), ("yr", YEAR), ("yrs", YEAR), ("year", YEAR), ("years", YEAR),
 ];
 
-/// Why a text is no duration.
+/// Why a text is not a duration.
 #[derive(Clone, Copy, Debug, PartialEq, Eq, Error)]
 pub enum DurationError {
     /// The text is neither `0` nor a row of numbers with units.

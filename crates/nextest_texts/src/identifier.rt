@@ -193,7 +193,7 @@ fn has_organisation_prefix(text: &str) -> bool
     text.starts_with("@org:")
 }
 
-/// What stands behind `@org:`.
+/// What is behind `@org:`.
 fn split_organisation(text: &str) -> Option<&str>
     ensures none { IfNone result (IsFalse (has_organisation_prefix text.now)) }
     ensures prefix { IfSome result (λ _. IsTrue (has_organisation_prefix text.now)) }
@@ -202,7 +202,7 @@ fn split_organisation(text: &str) -> Option<&str>
     text.strip_prefix("@org:")
 }
 
-/// What stands before and after the first colon that follows `@tool:`.
+/// What is before and after the first colon that follows `@tool:`.
 fn split_tool(text: &str) -> Option<(&str, &str)>
     ensures none { IfNone result (IsTrue (has_tool_prefix text.now)
         → position_or_len (λ byte. byte == 58) (drop 6 text.now) ≡ length (drop 6 text.now)) }

@@ -9,7 +9,7 @@ use crate::identifier::{ConfigIdentifier, InvalidIdentifier};
 use nextest_tree::{Element, ElementCause, ElementFault, Name, Tree, Walk};
 use std::alloc::Global;
 
-/// The identifier of the text that stands at the walk's path.
+/// The identifier of the text that is at the walk's path.
 #[tactic(auto, unfolding(nextest_tree::specs::Reads::walk_view, crate::specs::IdentifierReader::identifier_expected))]
 fn identifier_of(alloc: Global, text: &str, walk: &Walk) -> Result<ConfigIdentifier, ElementFault>
     ensures value { IfOk result (λ identifier. identifier_text identifier ≡ text.now) }

@@ -121,7 +121,7 @@ mutual
 
 -- ---- the places ascend
 
--- each of the first stands before all of the second
+-- each of the first is before all of the second
 abbrev AllStandBefore : List SitedCause → List SitedCause → Type 0
 AllStandBefore [] ys = Unit {0}
 AllStandBefore (x ∷ xs) ys = StandsBeforeAll x.place ys × AllStandBefore xs ys

@@ -101,7 +101,7 @@ pub refusing_first : (names : List Key) (es : Entries) (at : ReadState)
 unfolding refusing_others
 refusing_first names es at = first_by (others names es) at
 
--- one field, by what stands at its key
+-- one field, by what is at its key
 abbrev pub by_entry : Key → Bool → Schema → Option Node → ReadState → Result ReadState Fault
 by_entry k must s (Some n) at = reading_below (key_text k) s n at
 by_entry k false s None at = Ok at
@@ -222,7 +222,7 @@ leaf_read read (Some n) (Some x) h = rw h
 leaf_read read None (Some x) h = absurd h
 leaf_read read (Some n) None h = absurd h
 
--- the value of a field that may be absent, or what stands for it
+-- the value of a field that may be absent, or what means it
 pub defaulted : {X : Type 0} (P : Node → X → Type 0) (d : X) (o : Option Node) (x : Option X)
     → IsOptional P o x → IsDefaulted d P o (unwrap_or x d)
 defaulted P d None None h = refl
@@ -309,7 +309,7 @@ reading_any n at = ap (λ s. Ok s) (noting_none at)
 
 -- ---- going down a path, and back
 
--- the path of what stands at a key begins with the path
+-- the path of what is at a key begins with the path
 pub below_front : (p k : List ℕ) → take (length p) (below p k) ≡ p
 below_front [] k = refl
 below_front (c ∷ p) k = ap (take (length (c ∷ p))) (append_assoc (c ∷ p) (codes ".") k)
@@ -335,7 +335,7 @@ pub reading_stays : (s : Schema) (n : Node) (at mid : ReadState) → reading s n
 unfolding reading
 reading_stays s n at mid h = outcome_stays (faults s at.path n) (unknown s at.path n) at mid h
 
--- after what stands at a key was read, the walk can go back
+-- after what is at a key was read, the walk can go back
 pub can_go_back : (s : Schema) (n : Node) (k : List ℕ) (outer : ℕ) (at down mid : ReadState)
     → outer ≡ length at.path → down ≡ inside k at → reading s n down ≡ Ok mid → IsSplitPoint mid.path outer
 can_go_back s n k outer at down mid o d h =
@@ -343,7 +343,7 @@ can_go_back s n k outer at down mid o d h =
     subst (λ p. IsSplitPoint p outer) path
     (subst (λ m. IsSplitPoint (below at.path k) m) (sym o) (below_splits at.path k))
 
--- and then it stands where it stood before
+-- and then it stands where it was before
 pub went_back : (s : Schema) (n : Node) (k : List ℕ) (outer : ℕ) (at down mid last : ReadState)
     → outer ≡ length at.path → down ≡ inside k at → reading s n down ≡ Ok mid
     → last ≡ back_at (take outer mid.path) mid → last ≡ back_at at.path mid
@@ -353,7 +353,7 @@ went_back s n k outer at down mid last o d h b =
     ∙ ap (take (length at.path)) (reading_stays s n down mid h ∙ ap (λ a. a.path) d) ∙ below_front at.path k in
     b ∙ ap (λ p. back_at p mid) path
 
--- so reading what stands at a key is read whole
+-- so reading what is at a key is read whole
 pub read_below_whole : (s : Schema) (n : Node) (k : List ℕ) (outer : ℕ) (at down mid last : ReadState)
     → outer ≡ length at.path → down ≡ inside k at → reading s n down ≡ Ok mid
     → last ≡ back_at (take outer mid.path) mid → reading_below k s n at ≡ Ok last

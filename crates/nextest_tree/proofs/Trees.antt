@@ -1,4 +1,4 @@
--- Trees beside the nodes that they stand for.
+-- Trees beside the nodes that they mean.
 use Rattle.std.proofs.Common.{◌≡◌, ℕ, List, [], ◌∷◌, ◌++◌, map, String, Global, Ordering, Less, Equal, Greater, nat_cmp, string_bytes, refl, ap, ◌∙◌, Option, Some, None, option_map, Bor, cond, is_eq}
 use Rattle.std.specs.Cmp.Lexicographic.{slice_cmp}
 use Rattle.std.specs.List.{AllByRecursion}

@@ -52,11 +52,11 @@ bool_at _ = Err wrong_kind
 unfoldable pub a_bool : Schema
 a_bool = value bool_at
 
--- the names of a slice and what they stand for, as plain lists
+-- the names of a slice and what they mean, as plain lists
 abbrev pub name_pairs : {X : Type 0} → List (Bor (List ℕ) × X) → List (List ℕ × X)
 name_pairs names = map (λ p. (p.0.now, p.1)) names
 
--- what one of these names stands for; a refusal says what was expected
+-- what one of these names means; a refusal says what was expected
 abbrev pub name_at : {X : Type 0} → List (List ℕ × X) → List ℕ → Node → Result X FaultCause
 name_at names expected (text s) = ok_or (lookup (bytes_eq s) names) (bad_value s expected)
 name_at names expected _ = Err wrong_kind

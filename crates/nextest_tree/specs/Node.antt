@@ -20,17 +20,17 @@ mutual
     no_nodes : Nodes
     node : Node → Nodes → Nodes
 
-  -- the entries of a table: a key, and the node that stands there
+  -- the entries of a table: a key, and the node that is there
   pub data Entries : Type 0 where
     no_entries : Entries
     entry : List ℕ → Node → Entries → Entries
 
--- what stands at a key
+-- what is at a key
 abbrev pub get : List ℕ → Entries → Option Node
 get k no_entries = None
 get k (entry l n es) = match_ordering (slice_cmp nat_cmp k l) (get k es) (Some n) (get k es)
 
--- the entries with a node at a key: in place of what stood there, or before the first greater key
+-- the entries with a node at a key: in place of what was there, or before the first greater key
 abbrev pub put : List ℕ → Node → Entries → Entries
 put k n no_entries = entry k n no_entries
 put k n (entry l m es) = match_ordering (slice_cmp nat_cmp k l)

@@ -17,7 +17,7 @@ pub data Step : Type 0 where
   in_field : ℕ → Step
   -- several fields of a table at once
   all_fields : Step
-  -- what stands at this key
+  -- what is at this key
   at_key : List ℕ → Step
   -- of an entry of a map its key, and its value
   the_key : Step
@@ -44,7 +44,7 @@ pub data IsFirstStep : Step → Step → Type 0 where
   by_position : {i j : ℕ} → i < j → IsFirstStep (at_position i) (at_position j)
   item_before_all : {i : ℕ} → IsFirstStep (at_position i) all_items
 
--- one place stands before another: at the first step where they differ, its step comes first
+-- one place is before another: at the first step where they differ, its step comes first
 pub data StandsBefore : Place → Place → Type 0 where
   here : {a b : Step} {p q : Place} → IsFirstStep a b → StandsBefore (a ∷ p) (b ∷ q)
   later : {a : Step} {p q : Place} → StandsBefore p q → StandsBefore (a ∷ p) (a ∷ q)
@@ -54,12 +54,12 @@ pub record SitedCause : Type 0 where
   pub place : Place
   pub cause : FaultCause
 
--- the place stands before all of these
+-- the place is before all of these
 abbrev pub StandsBeforeAll : Place → List SitedCause → Type 0
 StandsBeforeAll p [] = Unit {0}
 StandsBeforeAll p (x ∷ xs) = StandsBefore p x.place × StandsBeforeAll p xs
 
--- the places strictly ascend: each stands before all that follow it
+-- the places strictly ascend: each is before all that follow it
 abbrev pub Ascends : List SitedCause → Type 0
 Ascends [] = Unit {0}
 Ascends (x ∷ xs) = StandsBeforeAll x.place xs × Ascends xs

@@ -6,7 +6,7 @@ use Rattle.nextest_tree.specs.Node.{Node, Nodes, no_nodes, node, Entries, no_ent
 use Rattle.nextest_tree.specs.Schema.{FaultCause, Fault, Others, are_refused, names_of, others_faults, others_unknown, Schema, Fields}
 use Rattle.nextest_tree.specs.Reads.{ReadState, noting, inside, back_at, outcome, reading, reading_fields, test_outcome, ◌>>=◌}
 
--- reading what stands at a key, and going back
+-- reading what is at a key, and going back
 unfoldable pub reading_below : List ℕ → Schema → Node → ReadState → Result ReadState Fault
 reading_below k s n at = reading s n (inside k at) >>= λ mid. Ok (back_at at.path mid)
 

@@ -1,4 +1,4 @@
--- What a reader answers, and where it leaves the walk.
+-- What a reader returns, and where it leaves the walk.
 use Rattle.std.specs.Prelude.{◌≡◌, ℕ, List, [], ◌∷◌, Bool, false, ◌||◌, Option, Some, None, Result, Ok, Err, string_bytes}
 use Rattle.std.specs.BTreeSet.{contains_text}
 use Rattle.nextest_tree.specs.declared.key.Key.{Key}
@@ -10,7 +10,7 @@ use Rattle.nextest_tree.specs.Key.{key_text}
 use Rattle.nextest_tree.specs.Node.{Node, array, Nodes, no_nodes, node, table, Entries, no_entries, entry, get}
 use Rattle.nextest_tree.specs.Schema.{FaultCause, wrong_kind, missing, bad_value, out_of_range, unknown_field, Fault, is_one_of, below, Schema, Fields, no_more, field, faults, unknown, field_faults, field_unknown}
 
--- a walk: the path where it stands, and which paths it has noted
+-- a walk: the path where it is, and which paths it has noted
 pub record ReadState : Type 0 where
   pub path : List ℕ
   pub is_noted : List ℕ → Bool
@@ -27,7 +27,7 @@ walk_view w = record { path = string_bytes w.path; is_noted = contains_text w.un
 abbrev pub noting : List (List ℕ) → ReadState → ReadState
 noting paths at = record { path = at.path; is_noted = λ q. at.is_noted q || is_one_of paths q }
 
--- the walk one step on, at what stands at a key
+-- the walk one step on, at what is at a key
 abbrev pub inside : List ℕ → ReadState → ReadState
 inside k at = record { path = below at.path k; is_noted = at.is_noted }
 
@@ -35,13 +35,13 @@ inside k at = record { path = below at.path k; is_noted = at.is_noted }
 abbrev pub back_at : List ℕ → ReadState → ReadState
 back_at p at = record { path = p; is_noted = at.is_noted }
 
--- With no fault, the unknown paths are noted and the walk stands where it stood; else the first
--- fault is told.
+-- With no fault, the unknown paths are noted and the walk is where it was; else the first
+-- fault is reported.
 abbrev pub outcome : List Fault → List (List ℕ) → ReadState → Result ReadState Fault
 outcome [] paths at = Ok (noting paths at)
 outcome (f ∷ fs) paths at = Err f
 
--- what reading a node by a schema gives where a walk stands: this is the contract of every reader
+-- what reading a node by a schema gives where a walk is: this is the contract of every reader
 unfoldable pub reading : Schema → Node → ReadState → Result ReadState Fault
 reading s n at = outcome (faults s at.path n) (unknown s at.path n) at
 
@@ -63,12 +63,12 @@ reading_fields no_more es at = Ok at
 reading_fields (field k must s fs) es at =
     reading_field k (must es) s es at >>= reading_fields fs es
 
--- what a test gives where the walk stands
+-- what a test gives where the walk is
 abbrev pub test_outcome : Option FaultCause → ReadState → Result ReadState Fault
 test_outcome None at = Ok at
 test_outcome (Some c) at = Err (record { path = at.path; cause = c })
 
--- the fault of a cause at a path; want of memory is none
+-- the fault of a cause at a path; a refusal of memory has none
 abbrev pub fault_at : List ℕ → ElementCause → Option Fault
 fault_at p causes.WrongKind = Some (record { path = p; cause = wrong_kind })
 fault_at p (causes.Missing k) = Some (record { path = p; cause = missing (string_bytes k) })
@@ -78,20 +78,20 @@ fault_at p causes.OutOfRange = Some (record { path = p; cause = out_of_range })
 fault_at p causes.UnknownField = Some (record { path = p; cause = unknown_field })
 fault_at p causes.Memory = None
 
--- the fault that a reader's refusal tells
+-- the fault of a reader's refusal
 unfoldable pub fault_view : ElementFault → Option Fault
 fault_view e = fault_at (string_bytes e.path) e.cause
 
--- a refusal tells a fault only if reading meets that fault
+-- a refusal has a fault only if reading meets that fault
 abbrev pub Fails : ElementFault → Result ReadState Fault → Type 0
 Fails e read = (f : Fault) → fault_view e ≡ Some f → read ≡ Err f
 
--- What a reader answered and where it left the walk is what reading gives, unless memory ran out.
+-- What a reader returned and where it left the walk is what reading gives, unless memory ran out.
 abbrev pub Gives : {X : Type 0} → Result X ElementFault → Walk → Result ReadState Fault → Type 0
 Gives (Ok x) new read = read ≡ Ok (walk_view new)
 Gives (Err e) new read = Fails e read
 
--- the value at a key is there exactly where the key is
+-- the value at a key is there exactly if the key is
 abbrev pub IsOptional : {X : Type 0} → (Node → X → Type 0) → Option Node → Option X → Type 0
 IsOptional P None None = Unit {0}
 IsOptional P (Some n) (Some x) = P n x

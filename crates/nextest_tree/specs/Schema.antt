@@ -1,4 +1,4 @@
--- What may stand at each place of a tree: all its faults in the order of places, and its unknown
+-- What may be at each place of a tree: all its faults in the order of places, and its unknown
 -- keys.
 use Rattle.std.specs.Prelude.{ℕ, List, [], ◌∷◌, ◌++◌, ◌+◌, map, filter, codes}
 use Rattle.std.specs.Prelude.{Bool, true, false, not, Option, Some, None, if◌then◌else◌}
@@ -27,7 +27,7 @@ abbrev pub first : {A : Type 0} → List A → Option A
 first [] = None
 first (x ∷ xs) = Some x
 
--- the path of what stands at a key of a path: keys and positions are joined by dots, and the root
+-- the path of what is at a key of a path: keys and positions are joined by dots, and the root
 -- is the empty text
 abbrev pub below : List ℕ → List ℕ → List ℕ
 below [] k = k
@@ -39,25 +39,25 @@ pub data Others : Type 0 where
   are_refused : Others
 
 mutual
-  -- what may stand at a place, and below it
+  -- what may be at a place, and below it
   pub data Schema : Type 0 where
     -- known, and never looked into
     any : Schema
     -- a value of one test
     leaf : (Node → Option FaultCause) → Schema
-    -- a table of these fields, with a test over several of them; what is no table has the other
+    -- a table of these fields, with a test over several of them; what is not a table has the other
     -- schema
     fields : Others → Schema → Fields → (Entries → Option FaultCause) → Schema
     -- a table with one test for its keys and one schema for all its values
     map_of : (List ℕ → Option FaultCause) → Schema → Schema
-    -- an array with one schema for its items and a test of the whole; what is no array has the
+    -- an array with one schema for its items and a test of the whole; what is not an array has the
     -- other schema
     items_of : Schema → Schema → (Nodes → Option FaultCause) → Schema
 
   -- the fields of a table, in their order
   pub data Fields : Type 0 where
     no_more : Fields
-    -- a key, whether it must be there, what may stand there, and the fields after it
+    -- a key, whether it must be there, what may be there, and the fields after it
     field : Key → (Entries → Bool) → Schema → Fields → Fields
 
 -- the text is one of these
@@ -94,7 +94,7 @@ abbrev pub each_entry : {A : Type 0} → (List ℕ → Node → List A) → Entr
 each_entry f no_entries = []
 each_entry f (entry k n es) = f k n ++ each_entry f es
 
--- the faults at one field: one if it is missing and must be there, else those of what stands there
+-- the faults at one field: one if it is missing and must be there, else those of what is there
 unfoldable pub field_faults :
     Key → Bool → (List ℕ → Node → List Fault) → List ℕ → Option Node → List Fault
 field_faults k must f p None = if must then at p (Some (missing (key_text k))) else []
@@ -161,12 +161,12 @@ abbrev mutual
   fields_unknown (field k must s fs) p es =
       field_unknown k (unknown s) p (get (key_text k) es) ++ fields_unknown fs p es
 
--- what is no table is of the wrong kind
+-- what is not a table is of the wrong kind
 abbrev pub not_table : Node → Option FaultCause
 not_table (table es) = None
 not_table _ = Some wrong_kind
 
--- what is no array is of the wrong kind
+-- what is not an array is of the wrong kind
 abbrev pub not_array : Node → Option FaultCause
 not_array (array ns) = None
 not_array _ = Some wrong_kind
@@ -187,6 +187,6 @@ may k s fs = field k (λ es. false) s fs
 abbrev pub must : Key → Schema → Fields → Fields
 must k s fs = field k (λ es. true) s fs
 
--- a table of fields that refuses its other keys; what is no table has the other schema
+-- a table of fields that refuses its other keys; what is not a table has the other schema
 abbrev pub closed_struct : Schema → Fields → Schema
 closed_struct other fs = fields are_refused other fs (λ es. None)

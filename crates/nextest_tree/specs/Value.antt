@@ -1,4 +1,4 @@
--- The node that a document's value stands for.
+-- The node that a document's value means.
 use Rattle.toml.specs.Data.{Data, Items, Members}
 use Rattle.toml.specs.Data as toml
 use Rattle.nextest_tree.specs.Node.{Node, table, array, text, int, bool, opaque, Nodes, no_nodes, node, Entries, no_entries, entry}

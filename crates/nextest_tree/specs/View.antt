@@ -1,4 +1,4 @@
--- The node that a `Tree` stands for.
+-- The node that a `Tree` means.
 use Rattle.std.specs.Prelude.{List, [], ◌∷◌, map, String, string_bytes}
 use Rattle.std.specs.declared.alloc.Global.{Global}
 use Rattle.nextest_tree.specs.Node.{Node, table, array, text, int, bool, opaque, Nodes, no_nodes, node, Entries, no_entries, entry}
@@ -24,14 +24,14 @@ node_step (Tree-F.Int z) = int z
 node_step (Tree-F.Bool b) = bool b
 node_step Tree-F.Opaque = opaque
 
--- the node that a tree stands for
+-- the node that a tree means
 abbrev pub tree_view : Tree → Node
 tree_view = fold-Tree Node node_step
 
--- the items that some trees stand for
+-- the items that some trees mean
 abbrev pub nodes_view : List Tree → Nodes
 nodes_view ts = nodes_of (map tree_view ts)
 
--- the entries that some keys with their trees stand for
+-- the entries that some keys with their trees mean
 abbrev pub entries_view : List (String Global × Tree) → Entries
 entries_view es = entries_of (map (λ e. (e.0, tree_view e.1)) es)

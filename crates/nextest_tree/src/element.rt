@@ -1,9 +1,9 @@
 //! What a reader is: of a value, of a table of fields, and of a name that keys a map.
 //!
 //! The contract of every reader is one equation,
-//! `Gives result walk.new (reading schema node walk)`. Its answer is Ok exactly where the tree has
-//! no fault (want of memory aside), and then the walk has noted exactly the tree's unknown paths
-//! and is where it was. Any other refusal but want of memory is the tree's first fault.
+//! `Gives result walk.new (reading schema node walk)`. Its result is Ok exactly if the tree has
+//! no fault (unless memory runs out), and then the walk has noted exactly the tree's unknown paths
+//! and is where it was. Any other refusal but one of memory is the tree's first fault.
 ghost use Rattle.std.specs.Prelude.{◌≡◌, IfOk, IfErr, OnOk, List, Option, ℕ, None};
 ghost use Rattle.std.specs.Ordering.{nat_cmp};
 ghost use Rattle.std.specs.Cmp.Lexicographic.{slice_cmp};

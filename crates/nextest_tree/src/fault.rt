@@ -26,9 +26,9 @@ pub enum ElementCause {
     /// A text or a key outside its list of names or its grammar.
     #[error("invalid value `{given}`, expected {expected}")]
     BadValue {
-        /// The text or the key that stands there.
+        /// The text or the key that is there.
         given: String,
-        /// What may stand there.
+        /// What may be there.
         expected: &'static str,
     },
     /// A number outside its range, or a list that is empty and must not be.
@@ -37,7 +37,7 @@ pub enum ElementCause {
     /// A key that its table refuses.
     #[error("unknown field")]
     UnknownField,
-    /// Want of memory. No path comes with it.
+    /// A refusal of memory. No path comes with it.
     #[error("out of memory")]
     Memory,
 }
@@ -46,7 +46,7 @@ impl ElementFault {
     ghost use Rattle.std.specs.Prelude.{◌≡◌, None};
     ghost use Rattle.nextest_tree.specs.Reads.{fault_view};
 
-    /// Want of memory.
+    /// Memory was refused.
     #[tactic(auto, unfolding(crate::specs::Reads::fault_view))]
     pub fn memory(alloc: Global) -> ElementFault
         ensures { fault_view result ≡ None }

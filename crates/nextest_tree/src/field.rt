@@ -14,7 +14,7 @@ use crate::walk::Walk;
 use std::alloc::Global;
 use std::collections::BTreeMap;
 
-/// What stands at a key.
+/// What is at a key.
 fn member<'a>(members: &'a BTreeMap<String, Tree>, key: &str) -> Option<&'a Tree>
     ensures { option_map (λ tree. tree_view tree.now) result
         ≡ get key.now (entries_view members.now.entries) }

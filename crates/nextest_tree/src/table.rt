@@ -1,4 +1,4 @@
-//! Readers of a table of fields, and what becomes of its other keys.
+//! Readers of a table of fields, and how its other keys are treated.
 ghost use Rattle.std.specs.Prelude.{◌≡◌, [], IfOk, IfErr, OnOk, None, map};
 ghost use Rattle.std.specs.Option.{option_copied};
 ghost use Rattle.nextest_tree.specs.Node as Node;
@@ -19,7 +19,7 @@ use std::collections::BTreeMap;
 /// Reads a table of fields that refuses its other keys: the first of them is refused before any
 /// field is looked at.
 ///
-/// What stands for a value that is no table says the other schema, and is not read here.
+/// The other schema says what may be in place of a table, which is not read here.
 #[tactic(auto, using(crate::proofs::Reading::closed_table), unfolding(crate::specs::ReadSteps::reading_closed))]
 pub fn read_closed_record<T: Record>(
     alloc: Global,

@@ -29,7 +29,7 @@ fn push_key(path: &mut String, key: &str) -> Result<(), AllocError>
     path.push_str(key)
 }
 
-// The path of what stands at a key.
+// The path of what is at a key.
 fn join_key(alloc: Global, path: &str, key: &str) -> Result<String, AllocError>
     ensures { IfOk result (λ text. string_bytes text ≡ below path.now key.now) }
 {
@@ -52,7 +52,7 @@ impl Walk {
         }
     }
 
-    /// The fault of this cause at the path, or want of memory.
+    /// The fault of this cause at the path, or a refusal of memory.
     pub fn fault(&self, alloc: Global, cause: ElementCause) -> ElementFault
         ensures { (f : Fault) → fault_view result ≡ Some f
             → fault_at (walk_view self.now).path cause ≡ Some f }
@@ -63,7 +63,7 @@ impl Walk {
         }
     }
 
-    /// That the text or key at the path is refused, or want of memory.
+    /// That the text or key at the path is refused, or a refusal of memory.
     pub fn bad_value(&self, alloc: Global, given: &str, expected: &'static str) -> ElementFault
         ensures { Fails result (Err (record {
           path = (walk_view self.now).path;
@@ -76,7 +76,7 @@ impl Walk {
         }
     }
 
-    /// That the table at the path lacks a key, or want of memory.
+    /// That the table at the path lacks a key, or a refusal of memory.
     pub fn missing(&self, alloc: Global, key: &str) -> ElementFault
         ensures { Fails result
             (Err (record { path = (walk_view self.now).path; cause = missing key.now })) }

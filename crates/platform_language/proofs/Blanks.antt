@@ -93,7 +93,7 @@ get_own : (xs ys : List ℕ) (c : ℕ) → get_or (xs ++ (c ∷ ys)) (length xs)
 get_own [] ys c = refl
 get_own (x ∷ xs) ys c = get_own xs ys c
 
--- What stands behind blanks is a text.
+-- What is behind blanks is a text.
 rest_utf8 : (blanks rest : List ℕ) (c : ℕ) → c < 128 → IsUtf8 (blanks ++ (c ∷ rest)) → IsUtf8 (c ∷ rest)
 rest_utf8 blanks rest c small utf8 =
     let size : length (blanks ++ (c ∷ rest)) ≡ length blanks + length (c ∷ rest) = length-append blanks (c ∷ rest) in

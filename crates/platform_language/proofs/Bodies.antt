@@ -1,4 +1,4 @@
--- A body is read to an expression exactly where it writes one.
+-- A body is read to an expression exactly if it writes one.
 use Rattle.std.proofs.Common.{◌≡◌, inl, inr, ℕ, zero, suc, ◌+◌, ◌≤◌, List, [], ◌∷◌, ◌++◌, Result, Ok, Err, length, refl, sym, ◌∙◌, ap, subst, arith, append-nil, length-append}
 use Rattle.std.specs.Str.{IsUtf8, trim_start}
 use Rattle.platform_language.specs.declared.fault.Place.{Place}

@@ -1,4 +1,4 @@
--- What marks still have to spell, at a point among the parts of what stands open.
+-- What marks still have to spell, at a point among the parts of what is open.
 use Rattle.std.proofs.Common.{◌≡◌, ◌⊎◌, inl, inr, ℕ, zero, suc, List, [], ◌∷◌, ◌++◌, Some, refl, sym, ◌∙◌, ap, subst, append_assoc, append-nil}
 use Rattle.platform_language.specs.declared.fault.Place.{Place}
 use Rattle.platform_language.specs.Expressions.{Expression, parts_of}
@@ -10,7 +10,7 @@ use Rattle.platform_language.specs.Reading.{Level, call}
 abbrev pub put : Mark → Place → Placed
 put m at = record { mark = m; place = at }
 
--- All parts of what stands open are read: behind them it ends, and so does what stands around it.
+-- All parts of what is open are read: behind them it ends, and so does what is around it.
 abbrev pub Ends : ℕ → List Expression → List Level → List Placed → Expression → Type 0
 Ends d qs [] last e = (last ≡ []) × (qs ≡ e ∷ [])
 Ends d qs (l ∷ ls) last e = (rest : List Placed) × (x : Expression)

@@ -1,4 +1,4 @@
--- A text begins with a mark exactly where it spells one in front.
+-- A text begins with a mark exactly if it spells one in front.
 use Rattle.std.proofs.Common.{◌≡◌, ◌⊎◌, inl, inr, ℕ, suc, ◌+◌, ◌<◌, ◌==◌, ◌&&◌, Bool, true, false, not, List, [], ◌∷◌, ◌++◌, Option, None, Some, option_map, length, take, drop, codes, bytes_eq, if◌then◌else◌, refl, sym, ◌∙◌, ap, subst, arith, append_assoc, lit<, get_or, length-append}
 use Rattle.std.proofs.lemmas.Bool.{eqb-true}
 use Rattle.std.proofs.lemmas.Bool.Decides.{nat_tests}
@@ -64,7 +64,7 @@ first_word c text is =
 
 -- Values.
 
--- What stands before a `"` and behind it is cut there.
+-- What is before a `"` and behind it is cut there.
 cut_value : (value rest : List ℕ) → list_all is_inside_quotes value ≡ true
     → cut (value ++ (34 ∷ rest)) ≡ Some (value, rest)
 cut_value [] rest all = refl
@@ -170,7 +170,7 @@ front_begun (c ∷ text) m rest e =
 
 -- What is spelled in front of a text is what it begins with.
 
--- It begins so, with a byte of ASCII that is no blank, and what follows is a text.
+-- It begins so, with a byte of ASCII that is not a blank, and what follows is a text.
 abbrev pub Fronts : Mark → List ℕ → List ℕ → Type 0
 Fronts m spelling rest = (c : ℕ) × (more : List ℕ) × (spelling ≡ c ∷ more) × (c < 128) × (is_whitespace c ≡ false)
     × (front (spelling ++ rest) ≡ FrontMark m rest) × (IsUtf8 (spelling ++ rest) → IsUtf8 rest)

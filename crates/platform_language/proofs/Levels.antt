@@ -12,6 +12,6 @@ onto outer (l ∷ levels) =
     ≡ length levels + length (level_view l ∷ outer) = onto (level_view l ∷ outer) levels in
     known ∙ omega arith
 
--- As many are seen as stand in memory.
+-- There are as many as in memory.
 pub levels_len : (levels : List level.Level) → length (levels_view levels) ≡ length levels
 levels_len levels = onto [] levels ∙ omega arith

@@ -1,4 +1,4 @@
--- Lines are sought in memory as in what they stand for.
+-- Lines are sought in memory as in what they mean.
 use Rattle.std.proofs.Common.{◌≡◌, ℕ, ◌||◌, Bool, true, List, [], ◌∷◌, map, Some, codes, refl, ◌∙◌, ap}
 use Rattle.std.specs.List.{list_any}
 use Rattle.platform_table.specs.declared.CfgLine.{CfgLine}

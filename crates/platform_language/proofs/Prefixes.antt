@@ -20,7 +20,7 @@ after_is (c ∷ prefix) (d ∷ text) rest e =
       | inr other ↦ absurd (let none : None ≡ Some rest = rw other.0 at e in cc)
     ]
 
--- A text that is no prefix and a rest has nothing after the prefix.
+-- A text that is not a prefix and a rest has nothing after the prefix.
 pub after_none : (prefix text : List ℕ) → ((rest : List ℕ) → text ≡ prefix ++ rest → ⊥)
     → after_prefix prefix text ≡ None
 after_none prefix text none =

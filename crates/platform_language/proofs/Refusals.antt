@@ -1,4 +1,4 @@
--- How a text that is no spec is refused.
+-- How a text that is not a spec is refused.
 use Rattle.std.proofs.Common.{◌≡◌, ℕ, List, Option, None, Some, Err, IfSome, MatchOption, ap, ◌∙◌, subst, arith}
 use Rattle.std.specs.Result.{result_map_both}
 use Rattle.nextest_engines.specs.Engines.{refusal_message, PointsInto}

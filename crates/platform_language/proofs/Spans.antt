@@ -114,7 +114,7 @@ before_lower n m AfterOpen less fits = tt
 before_lower n m AfterComma less fits = tt
 before_lower n m AfterClose less fits = tt
 
--- What comes of a mark.
+-- The result of a mark.
 abbrev Sound : ℕ → Result Reading BodyFault → Type 0
 Sound n (Ok next) = Fits n next
 Sound n (Err fault) = fault.place.to ≤ fault.place.from

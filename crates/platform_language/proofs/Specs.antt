@@ -1,4 +1,4 @@
--- A text is read to a spec exactly where it writes one.
+-- A text is read to a spec exactly if it writes one.
 use Rattle.std.proofs.Common.{◌≡◌, ◌⊎◌, inl, inr, ℕ, suc, ◌+◌, ◌<◌, ◌==◌, ltb, Bool, true, false, not, cond, List, [], ◌∷◌, ◌++◌, Option, None, Some, Result, Ok, Err, IfOk, IfErr, length, get_or, codes, if◌then◌else◌, refl, sym, ◌∙◌, ap, subst, arith, lit<, length-append}
 use Rattle.std.proofs.lemmas.Bool.{ltb-true, lt-ltb}
 use Rattle.std.proofs.lemmas.Bool.Decides.{eqb_tells}
@@ -86,7 +86,7 @@ some_length xs e =
     elim (eqb_tells (length xs) 0)
     [ inl is ↦ absurd (let clash : true ≡ false = sym is.0 ∙ e in cc) | inr other ↦ omega (arith, other.1) ]
 
--- A triple is no expression.
+-- A triple is not an expression.
 no_cfg : (xs : List ℕ) (found : Option (List ℕ)) → after_prefix (codes "cfg(") xs ≡ found
     → list_all is_triple_byte xs ≡ true → found ≡ None
 no_cfg xs None is all = refl

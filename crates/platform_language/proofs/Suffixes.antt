@@ -1,4 +1,4 @@
--- What stands before the `)` that ends a text.
+-- What is before the `)` that ends a text.
 use Rattle.std.proofs.Common.{◌≡◌, ◌≢◌, ◌==◌, ◌+◌, ◌-◌, ℕ, Bool, true, false, List, [], ◌∷◌, ◌++◌, Option, None, Some, option_map, length, take, MatchOption, Bor, if◌then◌else◌, refl, sym, ◌∙◌, ap, lit<}
 use Rattle.std.proofs.lemmas.Bool.{eqb-true}
 use Rattle.std.specs.Str.Pattern.{FindsCharSuffix}

@@ -9,14 +9,14 @@ use Rattle.platform_language.specs.declared.expression.Expression.TheOpen.{Expre
 use Rattle.platform_language.specs.declared.expression.TargetSpec as spec
 use Rattle.platform_language.specs.declared.expression.TargetSpec.TheVariants as said
 
--- What is asked of a platform: a line, a feature, or what no platform has.
+-- What is tested of a platform: a line, a feature, or what no platform has.
 pub data Leaf : Type 0 where
   Has : Line → Leaf
   Feature : List ℕ → Leaf
   Nowhere : Leaf
 
 mutual
-  -- An expression asks one thing, or says that every part holds, that some part holds, or that its
+  -- An expression tests one thing, or says that every part holds, that some part holds, or that its
   -- part does not.
   pub data Expression : Type 0 where
     Asks : Leaf → Expression
@@ -39,7 +39,7 @@ abbrev pub parts_of : List Expression → Expressions
 parts_of [] = no_parts
 parts_of (e ∷ es) = part e (parts_of es)
 
--- the leaf that stands in memory
+-- the leaf that is in memory
 abbrev pub leaf_view : leaf.Leaf → Leaf
 leaf_view (asked.Has line) = Has (line_view line)
 leaf_view (asked.Feature name) = Feature (string_bytes name)
@@ -52,15 +52,15 @@ expression_step (Expression-F.All parts) = Every (parts_of parts.items)
 expression_step (Expression-F.Any parts) = Some_of (parts_of parts.items)
 expression_step (Expression-F.Not inner) = Negated inner.value
 
--- the expression that stands in memory
+-- the expression that is in memory
 abbrev pub expression_view : expression.Expression → Expression
 expression_view = fold-Expression Expression expression_step
 
--- the parts that stand in memory
+-- the parts that are in memory
 abbrev pub parts_view : List expression.Expression → Expressions
 parts_view parts = parts_of (map expression_view parts)
 
--- the spec that stands in memory
+-- the spec that is in memory
 abbrev pub spec_view : spec.TargetSpec → Spec
 spec_view (said.Triple triple) = OfTriple (string_bytes triple)
 spec_view (said.Expression e) = OfExpression (expression_view e)

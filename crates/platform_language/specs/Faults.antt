@@ -1,4 +1,4 @@
--- Faults, and what comes of reading where one may come.
+-- Faults, and the result of reading where one may come.
 use Rattle.std.specs.Prelude.{ℕ, ◌-◌, None, Some, Result, Ok, Err}
 use Rattle.platform_language.specs.declared.fault.FaultKind.{FaultKind}
 use Rattle.platform_language.specs.declared.fault.Expected.{Expected}
@@ -8,7 +8,7 @@ use Rattle.platform_language.specs.declared.fault.TargetSpecFault.{TargetSpecFau
 use Rattle.platform_language.specs.declared.fault.Stop.{Stop}
 use Rattle.platform_language.specs.declared.fault.Stop.TheVariants.{Fault, Memory}
 
--- where something stands: so many bytes are left where it begins, and so many where it ends
+-- where something is: so many bytes are left where it begins, and so many where it ends
 abbrev pub place : ℕ → ℕ → Place
 place from to = record { from = from; to = to }
 
@@ -16,7 +16,7 @@ place from to = record { from = from; to = to }
 abbrev pub fault_at : FaultKind → Place → BodyFault
 fault_at kind at = record { kind = kind; place = at; expected = None }
 
--- a fault at a place where something else may stand
+-- a fault at a place where something else may be
 abbrev pub expecting_at : FaultKind → Place → Expected → BodyFault
 expecting_at kind at expected = record { kind = kind; place = at; expected = Some expected }
 
@@ -28,12 +28,12 @@ in_text len fault = record {
   expected = fault.expected;
 }
 
--- what comes of a further step, unless a fault came before
+-- the result of a further step, unless a fault came before
 abbrev pub and_then : {A B E : Type 0} → (A → Result B E) → Result A E → Result B E
 and_then step (Ok x) = step x
 and_then step (Err fault) = Err fault
 
--- what comes of a value, unless a fault came before
+-- the result of a value, unless a fault came before
 abbrev pub map_ok : {A B E : Type 0} → (A → B) → Result A E → Result B E
 map_ok f (Ok x) = Ok (f x)
 map_ok f (Err fault) = Err fault

@@ -8,11 +8,11 @@ use Rattle.platform_language.specs.Leaves.{Piece, leaf_alone, leaf_with}
 use Rattle.platform_language.specs.Marks.{Mark, OpenMark, CloseMark, CommaMark, EqualsMark, FunctionMark, NameMark, ValueMark, Placed, Writes}
 use Rattle.platform_language.specs.Reading.{value_piece}
 
--- Marks begin with one that stands somewhere, and go on with others.
+-- Marks begin with one at some place, and go on with others.
 abbrev pub Begins : Mark → Place → List Placed → List Placed → Type 0
 Begins mark at marks rest = marks ≡ record { mark = mark; place = at } ∷ rest
 
--- Marks begin with one, wherever it stands, and go on with others.
+-- Marks begin with one, wherever it is, and go on with others.
 abbrev pub BeginsSomewhere : Mark → List Placed → List Placed → Type 0
 BeginsSomewhere mark marks rest = (at : Place) × Begins mark at marks rest
 
@@ -63,7 +63,7 @@ abbrev mutual
   SpellsParts depth (part e es) marks rest =
       (more : List Placed) × Spells depth e marks more × SpellsFurther depth es more rest
 
-  -- Behind a part, marks begin with further ones, and go on with others. In front of each stands a
+  -- Behind a part, marks begin with further ones, and go on with others. In front of each is a
   -- comma or more, and behind the last any number.
   pub SpellsFurther : ℕ → Expressions → List Placed → List Placed → Type 0
   SpellsFurther depth no_parts marks rest = BeginsAnyCommas marks rest
@@ -72,7 +72,7 @@ abbrev mutual
       × BeginsSomewhere CommaMark marks more × BeginsAnyCommas more inside
       × Spells depth e inside last × SpellsFurther depth es last rest
 
--- Marks spell an expression: it stands first, with any number of commas behind it, and its
+-- Marks spell an expression: it is first, with any number of commas behind it, and its
 -- functions nest at most 128 deep.
 abbrev pub SpellsBody : Expression → List Placed → Type 0
 SpellsBody e marks = (more : List Placed) × Spells 128 e marks more × BeginsAnyCommas more []

@@ -1,4 +1,4 @@
--- What the keys of leaves ask, by their names.
+-- What the keys of leaves test, by their names.
 use Rattle.std.specs.Prelude.{ℕ, ◌||◌, eqb, Bool, List, codes, bytes_eq, if◌then◌else◌}
 use Rattle.std.specs.List.{starts_with}
 use Rattle.platform_language.specs.declared.keys.KeyKind.{KeyKind}
@@ -24,7 +24,7 @@ is_free name = is_free_system name
     || bytes_eq name (codes "target_env") || bytes_eq name (codes "target_vendor")
     || bytes_eq name (codes "target_abi") || bytes_eq name (codes "panic")
 
--- what any other name asks
+-- what any other name tests
 abbrev pub other_key : List ℕ → KeyKind
 other_key name =
     if bytes_eq name (codes "feature") then CrateFeature else
@@ -34,7 +34,7 @@ other_key name =
     (if bytes_eq name (codes "target_feature") then TargetFeature else
     (if starts_with eqb name (codes "target_") then UnknownTarget else Other)))))
 
--- what a name asks
+-- what a name tests
 abbrev pub key_kind : List ℕ → KeyKind
 key_kind name =
     if is_family name then Family else

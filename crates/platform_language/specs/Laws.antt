@@ -30,12 +30,12 @@ AllIsLeast = (values : List (Option Bool)) → IsLeast values (least values)
 abbrev pub AnyIsGreatest : Type 0
 AnyIsGreatest = (values : List (Option Bool)) → IsGreatest values (greatest values)
 
--- A platform has a line exactly where it is among its lines.
+-- A platform has a line exactly if it is among its lines.
 abbrev pub LinesAreAmong : Type 0
 LinesAreAmong = (platform : PlatformData) (line : Line)
     → (has platform line ≡ true) ↔ Contains platform.lines line
 
--- whether an expression asks for a feature
+-- whether an expression tests a feature
 abbrev mutual
   pub asks_feature : Expression → Bool
   asks_feature (Asks (Feature name)) = true
@@ -49,12 +49,12 @@ abbrev mutual
   some_asks_feature no_parts = false
   some_asks_feature (part e es) = asks_feature e || some_asks_feature es
 
--- whether a spec does; a triple asks for none
+-- whether a spec does; a triple tests none
 abbrev pub spec_asks_feature : Spec → Bool
 spec_asks_feature (OfTriple triple) = false
 spec_asks_feature (OfExpression e) = asks_feature e
 
--- Where features are given, or none is asked for, the value of a spec is known.
+-- If features are given, or none is named, the value of a spec is known.
 abbrev pub ValuesAreKnown : Type 0
 ValuesAreKnown = (platform : PlatformData) (spec : Spec)
     → (platform.features_given ≡ true) ⊎ (spec_asks_feature spec ≡ false)

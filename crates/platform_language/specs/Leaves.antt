@@ -17,7 +17,7 @@ pub record Piece : Type 0 where
   pub text : List ℕ
   pub place : Place
 
--- the piece that stands in memory
+-- the piece that is in memory
 abbrev pub piece_view : piece.Piece → Piece
 piece_view p = record { text = p.text.now; place = p.place }
 

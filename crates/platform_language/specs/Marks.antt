@@ -22,7 +22,7 @@ pub data Mark : Type 0 where
   NameMark : List ℕ → Mark
   ValueMark : List ℕ → Mark
 
--- the mark that stands in memory
+-- the mark that is in memory
 abbrev pub mark_view : mark.Mark → Mark
 mark_view said.Open = OpenMark
 mark_view said.Close = CloseMark
@@ -81,7 +81,7 @@ SpellsMark (ValueMark value) spelling rest =
 abbrev pub AreBlanks : List ℕ → Type 0
 AreBlanks text = IsUtf8 text × (list_all is_whitespace (chars text) ≡ true)
 
--- A mark and where it stands.
+-- A mark and where it is.
 pub record Placed : Type 0 where
   pub mark : Mark
   pub place : Place
@@ -101,7 +101,7 @@ pub data Front : Type 0 where
   UnclosedFront : Front
   ForeignFront : Front
 
--- the front that stands in memory
+-- the front that is in memory
 abbrev pub front_view : found.Front → Front
 front_view (first.Mark m behind) = FrontMark (mark_view m) behind.now
 front_view first.Unclosed = UnclosedFront
@@ -115,7 +115,7 @@ word_len text = position_or_len (λ c. not (is_word_byte c)) text
 abbrev pub word_front : List ℕ → Front
 word_front text = FrontMark (word_mark (take (word_len text) text)) (drop (word_len text) text)
 
--- what stands before the first `"` of a text, and behind it
+-- what is before the first `"` of a text, and behind it
 abbrev pub cut : List ℕ → Option (List ℕ × List ℕ)
 cut [] = None
 cut (c ∷ text) = if c == 34 then Some ([], text) else option_map (λ p. (c ∷ p.0, p.1)) (cut text)
@@ -125,7 +125,7 @@ abbrev pub value_behind : Option (List ℕ × List ℕ) → Front
 value_behind None = UnclosedFront
 value_behind (Some p) = FrontMark (ValueMark p.0) p.1
 
--- the value whose first `"` stands before a text, as a front
+-- the value whose first `"` is before a text, as a front
 abbrev pub value_front : List ℕ → Front
 value_front text = value_behind (cut text)
 

@@ -1,4 +1,4 @@
--- What is told of faults.
+-- The messages for faults.
 use Rattle.std.specs.Prelude.{ℕ, List, ◌++◌, Option, Some, Result, codes, decimal}
 use Rattle.std.specs.Result.{result_map_both}
 use Rattle.platform_language.specs.declared.fault.FaultKind.{FaultKind}
@@ -9,7 +9,7 @@ use Rattle.platform_language.specs.declared.fault.TargetSpecFault.{TargetSpecFau
 use Rattle.platform_language.specs.Expressions.{Spec}
 use Rattle.platform_language.specs.Texts.{spec_in}
 
--- what may stand there, with blanks between
+-- what may be there, with blanks between
 abbrev pub words : Expected → List ℕ
 words wanted.Expression = codes "<key> all any not"
 words wanted.Parenthesis = codes "("
@@ -21,7 +21,7 @@ words wanted.ValueAtEnd = codes "\"<value>\""
 words wanted.BehindValue = codes ", )"
 words wanted.BehindClose = codes ") ,"
 
--- what is told where something else stands
+-- the message if something else is there
 abbrev pub expected_label : Expected → List ℕ
 expected_label wanted.Expression = codes "expected one of `<key>`, `all`, `any`, `not` here"
 expected_label wanted.Parenthesis = codes "expected a `(` here"
@@ -33,7 +33,7 @@ expected_label wanted.ValueAtEnd = codes "expected a `\"<value>\"` here"
 expected_label wanted.BehindValue = codes "expected one of `,`, `)` here"
 expected_label wanted.BehindClose = codes "expected one of `)`, `,` here"
 
--- what is told of a kind of fault, where nothing else is expected
+-- the message for a kind of fault, if nothing else is expected
 abbrev pub kind_label : FaultKind → List ℕ
 kind_label kind.EmptyText = codes "expected a triple or `cfg(`"
 kind_label kind.BadTripleCharacter = codes "expected a letter, a digit, `_`, `-` or `.`"
@@ -45,7 +45,7 @@ kind_label kind.UnclosedParens = codes "unclosed parentheses"
 kind_label (kind.NotTakesOne n) = codes "`not` takes one part"
 kind_label kind.Empty = codes "expected an expression"
 kind_label kind.SeveralRoots = codes "expected one expression, and not several"
-kind_label kind.TooDeep = codes "functions stand more than 128 deep"
+kind_label kind.TooDeep = codes "functions nest more than 128 deep"
 kind_label kind.ValueWanted = codes "expected `= \"<value>\"` behind this key"
 kind_label kind.UnknownTargetKey = codes "unknown key"
 kind_label kind.ValueNotAllowed = codes "this key takes no value"
@@ -60,12 +60,12 @@ subject kind.EmptyText = codes "invalid triple"
 subject kind.BadTripleCharacter = codes "invalid triple"
 subject _ = codes "error parsing cfg() expression"
 
--- what is told of a fault, but for its place
+-- the message for a fault, without its place
 abbrev pub label_of : FaultKind → Option Expected → List ℕ
 label_of kind.Unexpected (Some expected) = expected_label expected
 label_of kind _ = kind_label kind
 
--- what is told of a fault
+-- the message for a fault
 abbrev pub message : TargetSpecFault → List ℕ
 message fault = subject fault.kind ++ codes ": " ++ label_of fault.kind fault.expected
     ++ codes " at bytes " ++ decimal fault.span.start ++ codes ".." ++ decimal fault.span.end

@@ -1,4 +1,4 @@
--- Reading a body, mark by mark, with what stands open on a stack.
+-- Reading a body, mark by mark, with what is open on a stack.
 use Rattle.std.specs.Prelude.{nat_lt, ℕ, zero, suc, ◌+◌, ◌-◌, ◌==◌, Bool, true, false, not, List, [], ◌∷◌, ◌++◌, Option, None, Some, Result, Ok, Err, length, map, if◌then◌else◌}
 use Rattle.std.specs.List.{fold}
 use Rattle.std.specs.Str.{trim_start}
@@ -29,7 +29,7 @@ pub data Before : Type 0 where
   AfterValue : Piece → Piece → Before
   AfterClose : Before
 
--- A function that is open: where its name and its `(` stand, and the parts before it.
+-- A function that is open: where its name and its `(` are, and the parts before it.
 pub record Level : Type 0 where
   pub function : Function
   pub name : Place
@@ -43,9 +43,9 @@ pub record Reading : Type 0 where
   pub parts : List Expression
   pub levels : List Level
 
--- ---- what stands in memory
+-- ---- what is in memory
 
--- the mark before that stands in memory
+-- the mark before that is in memory
 abbrev pub before_view : before.Before → Before
 before_view last.Nothing = Nothing
 before_view (last.Function f at) = AfterFunction f at
@@ -56,7 +56,7 @@ before_view (last.Equals key) = AfterEquals (piece_view key)
 before_view (last.Value key value) = AfterValue (piece_view key) (piece_view value)
 before_view last.Close = AfterClose
 
--- the open function that stands in memory
+-- the open function that is in memory
 abbrev pub level_view : level.Level → Level
 level_view l = record {
   function = l.function;
@@ -65,11 +65,11 @@ level_view l = record {
   outside = map expression_view l.outside.items;
 }
 
--- the open functions that stand in memory, the innermost last
+-- the open functions that are in memory, the innermost last
 abbrev pub levels_view : List level.Level → List Level
 levels_view levels = fold (λ outer l. level_view l ∷ outer) [] levels
 
--- the reading that stands in memory
+-- the reading that is in memory
 abbrev pub reading_view : reader.Reader → Reading
 reading_view r = record {
   before = before_view r.before;
@@ -151,7 +151,7 @@ separated r = map_ok
 abbrev pub not_one : ℕ → Level → Place → BodyFault
 not_one count level at = fault_at (NotTakesOne count) (place level.name.from at.to)
 
--- a function that ends is one more part of what stands around it
+-- a function that ends is one more part of what is around it
 abbrev pub ended : Level → List Level → BodyFault → Option Expression → Result Reading BodyFault
 ended level levels bad (Some e) =
     Ok (record { before = AfterClose; parts = level.outside ++ (e ∷ []); levels = levels })

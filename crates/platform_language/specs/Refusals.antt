@@ -1,4 +1,4 @@
--- How a text that is no spec is refused: by its first fault.
+-- How a text that is not a spec is refused: by its first fault.
 use Rattle.std.specs.Prelude.{◌≡◌, List, ℕ, Err, MatchOption, string_bytes}
 use Rattle.nextest_engines.specs.Engines.{refusal_message}
 use Rattle.nextest_engines.specs.declared.refusal.LabeledSpan.{LabeledSpan}

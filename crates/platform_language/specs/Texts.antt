@@ -15,7 +15,7 @@ use Rattle.platform_language.specs.Faults.{in_text}
 use Rattle.platform_language.specs.Grammar.{IsBody}
 use Rattle.platform_language.specs.Reading.{read_body}
 
--- whether a byte may stand in a triple: a letter or a digit of ASCII, `_`, `-` or `.`
+-- whether a byte may be in a triple: a letter or a digit of ASCII, `_`, `-` or `.`
 abbrev pub is_triple_byte : ℕ → Bool
 is_triple_byte c = is_ascii_alphanumeric c || ((c == 95) || ((c == 45) || (c == 46)))
 
@@ -30,7 +30,7 @@ IsSpec text (OfExpression e) =
 
 -- ---- reading
 
--- a fault that lies in a text, where something else may stand
+-- a fault that lies in a text, where something else may be
 abbrev pub text_fault : FaultKind → ℕ → ℕ → Option Expected → TargetSpecFault
 text_fault kind start end expected =
     record { kind = kind; span = record { start = start; end = end }; expected = expected }
@@ -41,13 +41,13 @@ after_prefix [] text = Some text
 after_prefix (c ∷ prefix) [] = None
 after_prefix (c ∷ prefix) (d ∷ text) = if c == d then after_prefix prefix text else None
 
--- what stands before the `)` that ends a text, or none where the text does not end so
+-- what is before the `)` that ends a text, or none where the text does not end so
 abbrev pub before_close : List ℕ → Option (List ℕ)
 before_close [] = None
 before_close (c ∷ []) = if c == 41 then Some [] else None
 before_close (c ∷ d ∷ rest) = option_map (λ front. c ∷ front) (before_close (d ∷ rest))
 
--- where the first byte stands that no triple has, if any
+-- where the first byte is that no triple has, if any
 abbrev pub first_bad : List ℕ → Option ℕ
 first_bad text = position (λ c. not (is_triple_byte c)) text
 

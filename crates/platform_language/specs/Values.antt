@@ -1,4 +1,4 @@
--- The values of specs. False, unknown and true stand in this order.
+-- The values of specs. False, unknown and true are in this order.
 use Rattle.std.specs.Prelude.{ℕ, Bool, true, false, not, ◌&&◌, List, [], ◌∷◌, Option, None, Some, option_map, codes, bytes_eq, if◌then◌else◌}
 use Rattle.std.specs.List.{list_any}
 use Rattle.platform_table.specs.Platforms.{Line, PlatformData}

@@ -1,10 +1,10 @@
-//! Why a text is no spec.
+//! Why a text is not a spec.
 ghost use Rattle.std.specs.Prelude.{◌≡◌};
 ghost use Rattle.platform_language.specs.Faults.{in_text, fault_at, expecting_at};
 
 use std::alloc::AllocError;
 
-/// Why a text is no spec, by name.
+/// Why a text is not a spec, by name.
 #[derive(Clone, Copy, Debug, PartialEq, Eq)]
 pub enum FaultKind {
     /// The text is empty.
@@ -77,7 +77,7 @@ pub struct Span {
     pub end: usize,
 }
 
-/// Why a text is no spec, and where.
+/// Why a text is not a spec, and where.
 #[derive(Clone, Copy, Debug, PartialEq, Eq, Drop)]
 pub struct TargetSpecFault {
     /// Why it is none.
@@ -95,7 +95,7 @@ pub struct Place {
     pub to: usize,
 }
 
-/// Why a body is no expression, and where.
+/// Why a body is not an expression, and where.
 #[derive(Clone, Copy, Debug, Drop)]
 pub struct BodyFault {
     pub kind: FaultKind,

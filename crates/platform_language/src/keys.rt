@@ -55,7 +55,7 @@ fn is_free_system(name: &str) -> bool
     name == "target_arch" || name == "target_os" || name == "target_family"
 }
 
-/// What a name asks that is `feature` or begins `target_`, or is any other.
+/// What a name means that is `feature` or begins with `target_`, or is any other.
 fn other_key(name: &str) -> KeyKind
     ensures { result ≡ other_key_of name.now }
 {

@@ -4,7 +4,7 @@ ghost use Rattle.platform_language.specs.Expressions.{Spec};
 ghost use Rattle.platform_language.specs.Texts.{IsSpec, spec_in};
 ghost use Rattle.platform_language.specs.Laws.{AllIsLeast, AnyIsGreatest, LinesAreAmong, ValuesAreKnown, FeaturesChangeNothingKnown, OrderIsFree, OppositesChangePlaces};
 
-/// A text is read to a spec exactly where it writes it.
+/// A text is read to a spec exactly if it writes it.
 pub fn law_grammar(text: &str)
     ensures { (s : Spec) → (spec_in text.now ≡ Ok s) ↔ IsSpec text.now s }
 {
@@ -28,7 +28,7 @@ pub fn law_greatest()
     ensures { AnyIsGreatest }
 {}
 
-/// A platform has a line exactly where it is among its lines.
+/// A platform has a line exactly if it is among its lines.
 pub fn law_lines()
     ensures { LinesAreAmong }
 {}

@@ -55,7 +55,7 @@ fn behind_byte(text: &str) -> &str
     &text[1..]
 }
 
-/// Where the first byte stands that no word has, if any.
+/// Where the first byte is that no word has, if any.
 fn word_end(text: &str) -> Option<usize>
     ensures { result ≡ position (λ c. not (word_byte_test c)) text.now }
 {
@@ -101,14 +101,14 @@ fn word_front(text: &str) -> Front<'_>
     Front::Mark(word_mark(word), behind)
 }
 
-/// What stands before the first `"` of a text, and behind it.
+/// What is before the first `"` of a text, and behind it.
 fn split_quote(text: &str) -> Option<(&str, &str)>
     ensures { option_map (λ parts. (parts.0.now, parts.1.now)) result ≡ cut text.now }
 {
     text.split_once('"')
 }
 
-/// The value whose first `"` stands before the text.
+/// The value whose first `"` is before the text.
 fn value_front(text: &str) -> Front<'_>
     ensures { front_view result ≡ value_front_of text.now }
 {

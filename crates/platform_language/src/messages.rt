@@ -23,7 +23,7 @@ impl Expected {
         }
     }
 
-    /// What is told where something else stands.
+    /// The message if something else is there.
     fn label(self) -> &'static str
         ensures { result.now ≡ expected_label self }
     {
@@ -42,7 +42,7 @@ impl Expected {
 }
 
 impl FaultKind {
-    /// What is told of it, where nothing else is expected.
+    /// The message for it, if nothing else is expected.
     fn label(self) -> &'static str
         ensures { result.now ≡ kind_label self }
     {
@@ -57,7 +57,7 @@ impl FaultKind {
             FaultKind::NotTakesOne(_) => "`not` takes one part",
             FaultKind::Empty => "expected an expression",
             FaultKind::SeveralRoots => "expected one expression, and not several",
-            FaultKind::TooDeep => "functions stand more than 128 deep",
+            FaultKind::TooDeep => "functions nest more than 128 deep",
             FaultKind::ValueWanted => "expected `= \"<value>\"` behind this key",
             FaultKind::UnknownTargetKey => "unknown key",
             FaultKind::ValueNotAllowed => "this key takes no value",

@@ -26,7 +26,7 @@ enum Before<'t> {
     Function(Function, Place),
     Open,
     Comma,
-    /// A key that stands alone, unless `=` follows.
+    /// A key that is alone, unless `=` follows.
     Key(Piece<'t>),
     /// A key waits for its value.
     Equals(Piece<'t>),
@@ -39,11 +39,11 @@ enum Before<'t> {
 #[derive(Drop)]
 struct Level {
     function: Function,
-    /// Where its name stands.
+    /// Where its name is.
     name: Place,
-    /// Where its `(` stands.
+    /// Where its `(` is.
     open: Place,
-    /// The parts before it, of what stands around it.
+    /// The parts before it, of what is around it.
     outside: Vec<Expression>,
 }
 

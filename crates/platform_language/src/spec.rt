@@ -13,7 +13,7 @@ use thiserror::Error;
 /// Why a spec was not read.
 #[derive(Debug, Drop, Error)]
 pub enum TargetSpecError {
-    /// The text is no spec.
+    /// The text is not a spec.
     #[error("{0}")]
     Refused(TargetSpecFault),
     /// A growth of memory was refused.
@@ -37,7 +37,7 @@ fn is_triple_byte(byte: u8) -> bool
     byte.is_ascii_alphanumeric() || matches!(byte, b'_' | b'-' | b'.')
 }
 
-/// Where the first byte stands that no triple has.
+/// Where the first byte is that no triple has.
 fn first_bad(text: &str) -> Option<usize>
     ensures bad { result ≡ first_bad_of text.now }
     ensures below { IfSome result (λ at. at < length text.now) }
@@ -79,7 +79,7 @@ fn after_cfg(text: &str) -> Option<&str>
     text.strip_prefix("cfg(")
 }
 
-/// What stands before the `)` that ends a text.
+/// What is before the `)` that ends a text.
 fn before_last(text: &str) -> Option<&str>
     ensures { option_map (λ front. front.now) result ≡ before_close text.now }
 {

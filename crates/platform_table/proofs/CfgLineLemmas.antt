@@ -30,7 +30,7 @@ equals_at : (key rest : List ℕ) → get_or (key ++ (61 ∷ rest)) (length key)
 equals_at [] rest = refl
 equals_at (x ∷ key) rest = equals_at key rest
 
--- a text with `=` is no word
+-- a text with `=` is not a word
 no_word : (key rest text : List ℕ) → text ≡ key ++ (61 ∷ rest) → is_word text ≡ true → ⊥
 no_word key rest text spelled word =
     word_no_equals (key ++ (61 ∷ rest)) (subst (λ t. is_word t ≡ true) spelled word) (length key)
@@ -77,7 +77,7 @@ pub writes_value : (text : List ℕ) (parts : Bor (List ℕ) × Bor (List ℕ)) 
 writes_value text parts value split word behind =
     (word, (split_parts 61 text (Some parts) split (lit< tt)).0 ∙ ap (λ rest. parts.0.now ++ (61 ∷ rest)) behind)
 
--- ---- lines are told apart by how they are printed
+-- ---- lines are distinguished by how they are printed
 
 same_cut : (xs ys a b : List ℕ) → HasNoEquals xs → HasNoEquals ys → xs ++ (61 ∷ a) ≡ ys ++ (61 ∷ b)
     → (xs ≡ ys) × (a ≡ b)
@@ -168,7 +168,7 @@ WritesLines-empty texts lines text so_far none = record {
 
 -- ---- a place more
 
--- the texts that are lent
+-- the texts that are borrowed
 abbrev pub texts_at : List (Bor (List ℕ)) → List (List ℕ)
 texts_at = map (λ text. text.now)
 

@@ -16,7 +16,7 @@ use Rattle.platform_table.specs.Targets.{TriplesRise, RowsAreFound}
 abbrev compare : List ℕ → List ℕ → Ordering
 compare = slice_cmp nat_cmp
 
--- whether each text stands before the next
+-- whether each text is before the next
 rises : List (List ℕ) → Bool
 rises [] = true
 rises (x ∷ []) = true
@@ -45,7 +45,7 @@ targets_rise = refl
 pub triples_rise : TriplesRise targets
 triples_rise = sorted_from_all_adjacent nat_list_cmp_total _ [] (adjacent _ [] targets_rise)
 
--- a text that stands before another is another
+-- a text that is before another is another
 differs : (x y : List ℕ) → compare x y ≡ Less → bytes_eq x y ≡ false
 differs x y before = false_from_ne_true (bytes_eq x y) (λ same.
     let itself : compare x x ≡ Less = subst (λ t. compare x t ≡ Less) (sym ((bytes_eq-Decides x y).0 same)) before in

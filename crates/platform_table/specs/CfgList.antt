@@ -23,7 +23,7 @@ with_empty key lines =
 abbrev pub completed : List Line → List Line
 completed lines = with_empty (codes "target_abi") (with_empty (codes "target_env") lines)
 
--- whether the lines tell an architecture and a system
+-- whether the lines have an architecture and a system
 abbrev pub tells_target : List Line → Bool
 tells_target lines = has_value (codes "target_arch") lines && has_value (codes "target_os") lines
 
@@ -35,7 +35,7 @@ platform_with triple lines = record {
   features_given = false;
 }
 
--- The text writes lines that tell a target, and the platform is that of the triple and these lines.
+-- The text writes lines of a target, and the platform is that of the triple and these lines.
 pub record IsPlatformOf (triple text : List ℕ) (platform : PlatformData) : Type 0 where
   pub read : List Line
   pub written : WritesLines (lines text) read
@@ -54,13 +54,13 @@ pub record IsFirstBad (texts : List (List ℕ)) (number : ℕ) : Type 0 where
   pub is_no_line : IsNoLine bad
   pub not_empty : bad ≢ []
 
--- The text writes lines that tell no target.
+-- The text writes lines without a target.
 pub record TellsNoTarget (text : List ℕ) : Type 0 where
   pub read : List Line
   pub written : WritesLines (lines text) read
   pub untold : IsFalse (tells_target read)
 
--- Why a text is refused. Of want of memory it says nothing.
+-- Why a text is refused. Of a refusal of memory it says nothing.
 abbrev pub IsRefusedFor : List ℕ → PlatformFault → Type 0
 IsRefusedFor text UnknownTriple = ⊥
 IsRefusedFor text (BadLine number) = IsFirstBad (lines text) number

@@ -27,6 +27,6 @@ platform_view platform = record {
   features_given = platform.features_given;
 }
 
--- the line of a key and the value that is lent, if there is one
+-- the line of a key and the value that is borrowed, if there is one
 abbrev pub line_of : List ℕ → Option (Bor (List ℕ)) → Line
 line_of key value = record { key = key; value = option_map (λ text. text.now) value }

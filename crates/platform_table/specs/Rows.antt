@@ -59,7 +59,7 @@ row_view row = record {
   names = row.names.now;
 }
 
--- two texts that are lent
+-- two texts that are borrowed
 abbrev pub texts_of : Bor (List ℕ) × Bor (List ℕ) → List ℕ × List ℕ
 texts_of pair = (pair.0.now, pair.1.now)
 
@@ -71,7 +71,7 @@ value_line column = record { key = column.0; value = Some column.1 }
 abbrev pub name_line : List ℕ → Line
 name_line name = record { key = name; value = None }
 
--- what stands between the commas of a cell; an empty cell has nothing
+-- what is between the commas of a cell; an empty cell has nothing
 abbrev pub parts_of : List ℕ → List (List ℕ)
 parts_of cell = if length cell == 0 then [] else slice_split (λ byte. byte == 44) cell
 

@@ -10,7 +10,7 @@ use Rattle.platform_table.specs.Rows.{Row}
 abbrev pub row_of : List Row → List ℕ → Option Row
 row_of rows triple = find (λ row. bytes_eq row.triple triple) rows
 
--- The triple of each row stands before those of all later rows, byte by byte. So no two are the
+-- The triple of each row is before those of all later rows, byte by byte. So no two are the
 -- same.
 abbrev pub TriplesRise : List Row → Type 0
 TriplesRise rows = IsStrictlySortedBy (slice_cmp nat_cmp) (map (λ row. row.triple) rows)

@@ -97,7 +97,7 @@ fn read_line(line: &str) -> Option<(&str, Option<&str>)>
     }
 }
 
-// What stands between two quotes, which begin and end the text.
+// What is between two quotes, which begin and end the text.
 fn unquoted(text: &str) -> Option<&str>
     ensures { MatchOption result ((value : List ℕ) → text.now ≢ quoted value)
         (λ value. text.now ≡ quoted value.now) }

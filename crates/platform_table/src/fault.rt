@@ -11,7 +11,7 @@ pub enum PlatformFault {
     UnknownTriple,
 
     /// The line of this number, counted from 1, is none that the compiler prints.
-    #[error("line {0} is none of `rustc --print cfg`")]
+    #[error("line {0} is not one that `rustc --print cfg` prints")]
     BadLine(usize),
 
     /// No line says what `target_arch` is, or none what `target_os` is.

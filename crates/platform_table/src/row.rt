@@ -1,4 +1,4 @@
-// Rows of a table of platforms, and the lines that a row stands for.
+// Rows of a table of platforms, and the lines that a row means.
 
 ghost use Rattle.std.specs.Prelude.{◌≡◌, ◌++◌, map, flat_map, IfOk, OnOk};
 ghost use Rattle.platform_table.specs.Platforms.{line_view, platform_view};
@@ -142,7 +142,7 @@ fn push_names(alloc: Global, lines: &mut Vec<CfgLine>, cell: &str) -> Result<(),
     Ok(())
 }
 
-// What stands between the commas of a cell.
+// What is between the commas of a cell.
 fn parts_of(alloc: Global, cell: &str) -> Result<Vec<&str>, AllocError>
     ensures { IfOk result (λ parts. map (λ part. part.now) parts.items ≡ parts_of cell.now) }
 {

@@ -28,14 +28,14 @@ use crate::change::Comparison;
 use crate::classes::ClassRule;
 use rinqebo_report::{Origin, Value};
 
-/// The values of a setting are the same exactly where they are equal: as values, not as they are
+/// The values of a setting are the same exactly if they are equal: as values, not as they are
 /// kept.
 pub fn law_values(a: &Option<Value>, b: &Option<Value>)
     ensures { Decides (option_eq same_value a.now b.now)
         (option_map value_view a.now ≡ option_map value_view b.now) }
 {}
 
-/// The origins of a value of one side are the same exactly where they are equal.
+/// The origins of a value of one side are the same exactly if they are equal.
 pub fn law_origins(a: &[Origin], b: &[Origin])
     ensures { Decides (same_origins a.now b.now) (map origin_view a.now ≡ map origin_view b.now) }
 {}

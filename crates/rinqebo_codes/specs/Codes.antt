@@ -89,7 +89,7 @@ code_meaning variants.OldScriptTable =
 code_meaning variants.EmptyScriptRule =
     codes "A rule under `scripts` of a profile names no script, so it has no effect."
 code_meaning variants.JunitWithoutPath =
-    codes "A setting of the JUnit report has no effect where no `junit.path` is set."
+    codes "A setting of the JUnit report has no effect if no `junit.path` is set."
 code_meaning variants.SecondToolFile =
     codes "Two `--tool-config-file` options name one tool, which may provide one file."
 code_meaning variants.UnreadableFile = codes "A file that an option names cannot be read."
@@ -97,11 +97,11 @@ code_meaning variants.NotToml = codes "The text of the file is not a TOML docume
 code_meaning variants.WrongKind = codes "A value has another kind than its key takes."
 code_meaning variants.MissingKey = codes "A table lacks a key that it has to have."
 code_meaning variants.InvalidValue =
-    codes "A string is none that its key takes, or has another form."
+    codes "A string is not one that its key takes, or has another form."
 code_meaning variants.OutOfRange = codes "A value is too small, too large or empty."
 code_meaning variants.MaxDelayBelowDelay =
     codes "Delays grow from `delay` up to `max-delay`, which may not be the shorter one."
-code_meaning variants.RefusedKey = codes "A table that takes no keys but its own has another one."
+code_meaning variants.RefusedKey = codes "A table that refuses unknown keys has one."
 code_meaning variants.ForeignGroup =
     codes "The name of a group begins as another file's: `@tool:NAME:`, `@org:` or neither."
 code_meaning variants.ForeignScript =
@@ -109,14 +109,14 @@ code_meaning variants.ForeignScript =
 code_meaning variants.TwoScriptTables =
     codes "A file has the table `scripts` and its old spelling `script`."
 code_meaning variants.FeatureOff =
-    codes "A file uses an experimental feature that is not switched on."
+    codes "A file uses an experimental feature that is not enabled."
 code_meaning variants.DuplicateScript =
     codes "A setup script and a wrapper script have the same name."
 code_meaning variants.DefaultInherits =
     codes "The profile `default` may not inherit from another profile."
 code_meaning variants.InheritsItself = codes "A profile inherits from itself."
 code_meaning variants.UnknownParent = codes "A profile inherits from a profile that no file has."
-code_meaning variants.InheritanceCycle = codes "Profiles inherit from each other in a circle."
+code_meaning variants.InheritanceCycle = codes "Profiles inherit from each other in a cycle."
 code_meaning variants.InvalidFilter =
     codes "A filter is not an expression of the filter language."
 code_meaning variants.InvalidPlatform =
@@ -129,7 +129,7 @@ code_meaning variants.UnknownScript = codes "A rule names a script that no file 
 code_meaning variants.WrongScriptKind =
     codes "A rule names a script at a key that takes scripts of another kind."
 code_meaning variants.ListWrapperFilter =
-    codes "A list wrapper wraps a whole binary, so its filter may not ask for tests."
+    codes "A list wrapper wraps a whole binary, so its filter may not use tests."
 code_meaning variants.UnknownProfile = codes "No file has the given profile."
 code_meaning variants.UnknownTest = codes "The list has no test of the given name."
 code_meaning variants.SeveralTests = codes "Several tests have the given name."
@@ -228,7 +228,7 @@ code_advice variants.TwoFilters = codes "Remove one of them."
 code_advice variants.UnknownGroup = codes "Name a group that is defined, or define it."
 code_advice variants.UnknownScript = codes "Name a script that is defined, or define it."
 code_advice variants.WrongScriptKind = codes "Name the script at the key of its kind."
-code_advice variants.ListWrapperFilter = codes "Ask for packages, binaries or kinds."
+code_advice variants.ListWrapperFilter = codes "Use packages, binaries or kinds."
 code_advice variants.UnknownProfile = codes "Name a profile that is there."
 code_advice variants.UnknownTest = codes "Name a test that is in the list."
 code_advice variants.SeveralTests = codes "Name the binary, too."

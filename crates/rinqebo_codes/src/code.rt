@@ -14,7 +14,7 @@ pub enum Code {
     OldScriptTable,
     /// A rule under `scripts` of a profile names no script, so it has no effect.
     EmptyScriptRule,
-    /// A setting of the JUnit report has no effect where no `junit.path` is set.
+    /// A setting of the JUnit report has no effect if no `junit.path` is set.
     JunitWithoutPath,
     /// Two `--tool-config-file` options name one tool, which may provide one file.
     SecondToolFile,
@@ -26,13 +26,13 @@ pub enum Code {
     WrongKind,
     /// A table lacks a key that it has to have.
     MissingKey,
-    /// A string is none that its key takes, or has another form.
+    /// A string is not one that its key takes, or has another form.
     InvalidValue,
     /// A value is too small, too large or empty.
     OutOfRange,
     /// Delays grow from `delay` up to `max-delay`, which may not be the shorter one.
     MaxDelayBelowDelay,
-    /// A table that takes no keys but its own has another one.
+    /// A table that refuses unknown keys has one.
     RefusedKey,
     /// The name of a group begins as another file's: `@tool:NAME:`, `@org:` or neither.
     ForeignGroup,
@@ -40,7 +40,7 @@ pub enum Code {
     ForeignScript,
     /// A file has the table `scripts` and its old spelling `script`.
     TwoScriptTables,
-    /// A file uses an experimental feature that is not switched on.
+    /// A file uses an experimental feature that is not enabled.
     FeatureOff,
     /// A setup script and a wrapper script have the same name.
     DuplicateScript,
@@ -50,7 +50,7 @@ pub enum Code {
     InheritsItself,
     /// A profile inherits from a profile that no file has.
     UnknownParent,
-    /// Profiles inherit from each other in a circle.
+    /// Profiles inherit from each other in a cycle.
     InheritanceCycle,
     /// A filter is not an expression of the filter language.
     InvalidFilter,
@@ -66,7 +66,7 @@ pub enum Code {
     UnknownScript,
     /// A rule names a script at a key that takes scripts of another kind.
     WrongScriptKind,
-    /// A list wrapper wraps a whole binary, so its filter may not ask for tests.
+    /// A list wrapper wraps a whole binary, so its filter may not use tests.
     ListWrapperFilter,
     /// No file has the given profile.
     UnknownProfile,

@@ -20,30 +20,30 @@ impl Code {
             Code::EmptyScriptRule =>
                 "A rule under `scripts` of a profile names no script, so it has no effect.",
             Code::JunitWithoutPath =>
-                "A setting of the JUnit report has no effect where no `junit.path` is set.",
+                "A setting of the JUnit report has no effect if no `junit.path` is set.",
             Code::SecondToolFile =>
                 "Two `--tool-config-file` options name one tool, which may provide one file.",
             Code::UnreadableFile => "A file that an option names cannot be read.",
             Code::NotToml => "The text of the file is not a TOML document.",
             Code::WrongKind => "A value has another kind than its key takes.",
             Code::MissingKey => "A table lacks a key that it has to have.",
-            Code::InvalidValue => "A string is none that its key takes, or has another form.",
+            Code::InvalidValue => "A string is not one that its key takes, or has another form.",
             Code::OutOfRange => "A value is too small, too large or empty.",
             Code::MaxDelayBelowDelay =>
                 "Delays grow from `delay` up to `max-delay`, which may not be the shorter one.",
-            Code::RefusedKey => "A table that takes no keys but its own has another one.",
+            Code::RefusedKey => "A table that refuses unknown keys has one.",
             Code::ForeignGroup =>
                 "The name of a group begins as another file's: `@tool:NAME:`, `@org:` or neither.",
             Code::ForeignScript =>
                 "The name of a script begins as another file's: `@tool:NAME:`, `@org:` or neither.",
             Code::TwoScriptTables =>
                 "A file has the table `scripts` and its old spelling `script`.",
-            Code::FeatureOff => "A file uses an experimental feature that is not switched on.",
+            Code::FeatureOff => "A file uses an experimental feature that is not enabled.",
             Code::DuplicateScript => "A setup script and a wrapper script have the same name.",
             Code::DefaultInherits => "The profile `default` may not inherit from another profile.",
             Code::InheritsItself => "A profile inherits from itself.",
             Code::UnknownParent => "A profile inherits from a profile that no file has.",
-            Code::InheritanceCycle => "Profiles inherit from each other in a circle.",
+            Code::InheritanceCycle => "Profiles inherit from each other in a cycle.",
             Code::InvalidFilter => "A filter is not an expression of the filter language.",
             Code::InvalidPlatform =>
                 "A platform is neither the name of a target nor a `cfg` expression.",
@@ -55,7 +55,7 @@ impl Code {
             Code::WrongScriptKind =>
                 "A rule names a script at a key that takes scripts of another kind.",
             Code::ListWrapperFilter =>
-                "A list wrapper wraps a whole binary, so its filter may not ask for tests.",
+                "A list wrapper wraps a whole binary, so its filter may not use tests.",
             Code::UnknownProfile => "No file has the given profile.",
             Code::UnknownTest => "The list has no test of the given name.",
             Code::SeveralTests => "Several tests have the given name.",
@@ -198,7 +198,7 @@ impl Code {
             Code::UnknownGroup => "Name a group that is defined, or define it.",
             Code::UnknownScript => "Name a script that is defined, or define it.",
             Code::WrongScriptKind => "Name the script at the key of its kind.",
-            Code::ListWrapperFilter => "Ask for packages, binaries or kinds.",
+            Code::ListWrapperFilter => "Use packages, binaries or kinds.",
             Code::UnknownProfile => "Name a profile that is there.",
             Code::UnknownTest => "Name a test that is in the list.",
             Code::SeveralTests => "Name the binary, too.",

@@ -54,7 +54,7 @@ or_both : (a b : Bool) {P Q : Type 0} → (IsTrue a ↔ P) → (IsTrue b ↔ Q) 
 or_both a b p q =
     ((λ is. either_by p.0 q.0 (or_either a b is)), (λ either. or_of a b (either_by p.1 q.1 either)))
 
--- what true stands there says
+-- what true is there says
 pub true_there : (o : Option Node) → IsTrue (unwrap_or (option_and_then as_bool o) false) ↔ (o ≡ Some (bool true))
 true_there None = ((λ is. absurd (cc)), (λ is. absurd (cc)))
 true_there (Some (bool true)) = ((λ is. refl), (λ is. refl))

@@ -20,7 +20,7 @@ tree_read not_found = None
 tree_read not_a_directory = None
 tree_read (failed message) = None
 
--- what stands behind `experimental` in a document, if something does
+-- what is behind `experimental` in a document, if something is
 abbrev pub experimental_in : Option Node → Option Node
 experimental_in document = option_and_then (member_of (codes "experimental")) document
 
@@ -33,8 +33,8 @@ abbrev pub IsNamedIn : List ℕ → Nodes → Type 0
 IsNamedIn name no_nodes = ⊥
 IsNamedIn name (node item items) = (as_text item ≡ Some name) ⊎ IsNamedIn name items
 
--- What stands behind `experimental` switches a name on: it is a list that names it, or a table in
--- which the name stands for true.
+-- What is behind `experimental` switches a name on: it is a list that names it, or a table in
+-- which the name is true.
 abbrev pub SwitchesOn : Node → List ℕ → Type 0
 SwitchesOn (array items) name = IsNamedIn name items
 SwitchesOn (table entries) name = get name entries ≡ Some (bool true)
@@ -60,7 +60,7 @@ AreAdded IsOn some before after = (feature : ConfigExperimental)
     ↔ (IsTrue (features_view before feature)
     ⊎ (IsTrue (list_any (is_feature feature) some) × IsOn feature))
 
--- The features of a load: it has one exactly where it is named, or where the repository's file is a
+-- The features of a load: it has one exactly if it is named, or where the repository's file is a
 -- document whose `experimental` switches it on.
 abbrev pub AreFeaturesBy : Features → Option Node → Features → Type 0
 AreFeaturesBy named document features = (feature : ConfigExperimental)

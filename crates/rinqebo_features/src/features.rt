@@ -46,7 +46,7 @@ fn has_text(items: &[Tree], text: &str) -> bool
     items.iter().any(|item| is_text(item, text))
 }
 
-/// Whether true stands there.
+/// Whether true is there.
 fn is_true(written: Option<&Tree>) -> bool
     ensures { let node = option_map (λ tree. tree_view tree.now) written.entry in
         result ≡ unwrap_or (option_and_then as_bool node) false }
@@ -57,8 +57,8 @@ fn is_true(written: Option<&Tree>) -> bool
     }
 }
 
-/// Whether what stands behind `experimental` switches a name on: a list that names it, or a table
-/// in which it stands for true.
+/// Whether what is behind `experimental` switches a name on: a list that names it, or a table
+/// in which it is true.
 fn switches_on(written: &Tree, name: &str) -> bool
     ensures { IsTrue result ↔ SwitchesOn (tree_view written.now) name.now }
 {
@@ -68,7 +68,7 @@ fn switches_on(written: &Tree, name: &str) -> bool
     }
 }
 
-/// Adds a feature, where what stands behind `experimental` switches it on.
+/// Adds a feature, where what is behind `experimental` switches it on.
 fn add_feature(
     features: &mut BTreeSet<ConfigExperimental>,
     written: &Tree,
@@ -84,7 +84,7 @@ fn add_feature(
     Ok(())
 }
 
-/// Adds the features that what stands behind `experimental` switches on.
+/// Adds the features that what is behind `experimental` switches on.
 fn add_features(
     features: &mut BTreeSet<ConfigExperimental>,
     written: &Tree,
@@ -97,7 +97,7 @@ fn add_features(
     Ok(())
 }
 
-/// Adds the features that what stands behind `experimental` switches on, if something does.
+/// Adds the features that what is behind `experimental` switches on, if something is.
 fn add_written(
     features: &mut BTreeSet<ConfigExperimental>,
     written: Option<&Tree>,

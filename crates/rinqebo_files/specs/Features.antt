@@ -13,7 +13,7 @@ use Rattle.rinqebo_files.specs.declared.files.Gathered.{Gathered}
 abbrev pub repository_file : Gathered → FileInput
 repository_file gathered = unwrap_or gathered.config_file gathered.paths.shared
 
--- The features of a run: it has one exactly where words name it, or where the repository's file is
+-- The features of a run: it has one exactly if words name it, or where the repository's file is
 -- a document whose `experimental` switches it on.
 abbrev pub AreFeaturesOf : BTreeSet ConfigExperimental → Gathered → BTreeSet ConfigExperimental
     → Type 0

@@ -30,7 +30,7 @@ pub record LayerRead : Type 0 where
   pub text : Option (List ℕ)
   pub tree : Option Node
 
--- the tree that a text is, if it is a document, or else the one that stands in for a text
+-- the tree that a text is, if it is a document, or else the one that is in for a text
 abbrev pub tree_by : Option (List ℕ) → Option Node → Option Node
 tree_by (Some text) defaults = tree_of text
 tree_by None defaults = defaults
@@ -47,7 +47,7 @@ layer_view layer = record {
   tree = layer_tree layer;
 }
 
--- the default table, which is no file
+-- the default table, which is not a file
 abbrev pub default_layer : LayerRead
 default_layer = record { file = None; text = None; tree = Some defaults }
 

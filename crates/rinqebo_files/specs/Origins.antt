@@ -24,7 +24,7 @@ use Rattle.rinqebo_files.specs.declared.layers.Layer.{Layer}
 use Rattle.rinqebo_files.specs.declared.places.SpanPart.{SpanPart}
 use Rattle.rinqebo_files.specs.declared.places.SpanPart.TheVariants as parts
 
--- what brings a file, as it is told: the defaults are no file
+-- what brings a file, as it is reported: the defaults are not a file
 abbrev pub reported_kind : ReportedKind → Option SourceKind
 reported_kind told.Default = None
 reported_kind (told.Tool name) = Some (tool_file (string_bytes name))
@@ -36,7 +36,7 @@ reported_kind told.Discovered = Some discovered_file
 abbrev pub file_of : Option SourceKind → List ℕ → Option Source
 file_of kind path = option_map (λ kind. record { path = path; kind = kind }) kind
 
--- the file that a source tells, if it is one
+-- the file of a source, if it is one
 abbrev pub reported_file : ReportedSource → Option Source
 reported_file source =
     option_and_then (file_of (reported_kind source.kind)) (option_map string_bytes source.path)

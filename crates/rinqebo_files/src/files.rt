@@ -48,7 +48,7 @@ pub enum GatherFault {
     /// A file that an option names has no text: the file, and why.
     #[error("cannot read {0}: {1}")]
     Unreadable(NamedFile, String),
-    /// Want of memory.
+    /// Memory was refused.
     #[error("out of memory")]
     Memory,
 }

@@ -188,7 +188,7 @@ pub fn sources_of(alloc: Global, layers: &[Layer]) -> Result<Vec<Source>, AllocE
     Ok(sources)
 }
 
-/// Whether what brings a file is told so.
+/// Whether a report names what brings a file so.
 fn is_kind(told: &SourceKind, kind: &ConfigSourceKind) -> bool
     ensures { IsTrue result ↔ (reported_kind told.now ≡ Some (source_kind_view kind.now)) }
 {

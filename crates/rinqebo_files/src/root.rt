@@ -4,7 +4,7 @@ use nextest_files::FileReader;
 use rinqebo_features::tree_of;
 use std::alloc::{AllocError, Global};
 
-/// What tells that a folder is the root of a workspace.
+/// What shows that a folder is the root of a workspace.
 #[derive(Clone, Copy)]
 enum Mark {
     /// Its `Cargo.toml` has a table `workspace`.

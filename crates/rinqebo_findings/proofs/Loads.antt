@@ -1,4 +1,4 @@
--- What comes of loads.
+-- The result of loads.
 use Rattle.std.proofs.Common.{◌≡◌, true, is_some, Option, None, Some}
 use Rattle.nextest_sources.specs.Causes.{LoadCause}
 use Rattle.nextest_sources.specs.Endings.{ending_at, ending_with, no_memory}
@@ -10,7 +10,7 @@ at_cause : (source : Source) (cause : Option LoadCause) → ending_at source cau
 at_cause source (Some cause) is = cc
 at_cause source None is = cc
 
--- a refusal with a source is not want of memory
+-- a refusal with a source is not a refusal of memory
 pub no_want : (source : Option Source) (kind : ConfigParseErrorKind) → is_some source ≡ true
     → ending_with source kind ≡ no_memory → ⊥
 no_want (Some source) kind is memory = at_cause source (cause_view kind) memory

@@ -16,7 +16,8 @@ use Rattle.rinqebo_load.specs.declared.missing.TestFault.{TestFault}
 use Rattle.rinqebo_load.specs.declared.missing.TestFault.TheVariants as faults
 use Rattle.rinqebo_load.specs.declared.session.Session.{Session}
 
--- A load failed with an error: files are refused, but not for want of memory, or memory ran out.
+-- A load failed with an error: files are refused, but not because memory ran out, or memory ran
+-- out.
 abbrev pub IsLoadFailure : ConfigParseError → Failure → Type 0
 IsLoadFailure error (failures.Engines fault) = ⊥
 IsLoadFailure error (failures.Refused report) = ¬ IsMemory error
@@ -41,8 +42,8 @@ pub record LacksProfile (session : Session) (name : Name) : Type 0 where
   pub absent : ¬ IsIn (names_in (config_of (readings session.engines.filters)
       (sources_in (files_view session.gathered.now))).profiles) name
 
--- A session has no result about a profile: files are refused only where some written rule does not
--- hold of them, and the profile is missing only where they lack it.
+-- A session has no result about a profile: files are refused only if some written rule does not
+-- hold of them, and the profile is missing only if they lack it.
 abbrev pub IsFailureAbout : Session → Name → Failure → Type 0
 IsFailureAbout session profile (failures.Engines fault) = ⊥
 IsFailureAbout session profile (failures.Refused report) = ¬ AreAccepted session
@@ -51,7 +52,7 @@ IsFailureAbout session profile (failures.NoTest report) = ⊥
 IsFailureAbout session profile (failures.SeveralTests report) = ⊥
 IsFailureAbout session profile failures.Memory = Unit {0}
 
--- a failure is that of a test that is not found, or want of memory
+-- a failure is that of a test that is not found, or a refusal of memory
 abbrev pub IsTestFailure : TestFault → Failure → Type 0
 IsTestFailure fault failures.Memory = Unit {0}
 IsTestFailure (faults.NoTest missing) (failures.NoTest report) = Unit {0}
@@ -60,7 +61,7 @@ IsTestFailure (faults.Input fault) (failures.Engines told) = told ≡ fault
 IsTestFailure fault failure = ⊥
 
 -- A session has no result about the test that a request names: there is none, there are several, or
--- the metadata, which would have its binary, are not understood; want of memory aside.
+-- the metadata, which would have its binary, are not understood, unless memory runs out.
 abbrev pub IsFailureToFind : Session → RequestedTest → Failure → Type 0
 IsFailureToFind session requested (failures.Engines fault) = LacksTargets session requested fault
 IsFailureToFind session requested (failures.Refused report) = ⊥

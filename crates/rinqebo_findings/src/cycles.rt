@@ -1,4 +1,4 @@
-//! The findings of profiles that inherit in a circle.
+//! The findings of profiles that inherit in a cycle.
 use crate::excerpts::{Mark, lines_of};
 use crate::refused::Refused;
 use nextest_places::Step;
@@ -60,7 +60,7 @@ fn cycle_words(
     refused: &Refused<'_, '_>,
     cycle: &[String],
 ) -> Result<String, AllocError> {
-    let mut text = String::from_str(alloc, "profiles inherit in a circle: ")?;
+    let mut text = String::from_str(alloc, "profiles inherit in a cycle: ")?;
     for name in cycle {
         let place = parent_place(refused, name.as_str())?;
         let words = place_words(alloc, refused, place)?;
@@ -98,7 +98,7 @@ fn marks_of(refused: &Refused<'_, '_>, cycle: &[String]) -> Result<Vec<Mark>, Al
     Ok(marks)
 }
 
-/// Adds that profiles inherit in a circle: at the parent of the first one.
+/// Adds that profiles inherit in a cycle: at the parent of the first one.
 pub fn add_cycle(refused: &mut Refused<'_, '_>, cycle: &[String]) -> Result<(), AllocError> {
     let alloc = refused.alloc;
     let words = cycle_words(alloc, refused, cycle)?;

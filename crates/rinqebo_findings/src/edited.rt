@@ -12,7 +12,7 @@ fn quoted(alloc: Global, text: &str) -> Result<String, AllocError> {
     value_text(alloc, &Value::Scalar(Scalar::Text(text)))
 }
 
-/// A value that is no table and no array.
+/// A value that is neither a table nor an array.
 fn scalar_text(alloc: Global, tree: &Tree) -> Result<String, AllocError> {
     match tree {
         Tree::Text(text) => quoted(alloc, text.as_str()),

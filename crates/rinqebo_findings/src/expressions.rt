@@ -120,7 +120,7 @@ fn fault_range(
 fn filter_help(label: &str) -> Option<&'static str> {
     if label == FaultKind::NoPackageGraph.label() {
         return Some(
-            "pass `--metadata F`, where F has what `cargo metadata --format-version 1` prints",
+            "pass `--metadata F`, where F has the output of `cargo metadata --format-version 1`",
         );
     }
     None

@@ -1,4 +1,4 @@
-//! Findings of features that are not switched on.
+//! Findings of features that are not enabled.
 use crate::refused::Refused;
 use nextest_config::{ConfigExperimental, Tree};
 use nextest_places::Step;
@@ -81,7 +81,7 @@ fn feature_help(
     format!(in alloc; "write `experimental = [{list}]`, or pass `--experimental {feature}`")
 }
 
-/// Adds the features that are not switched on.
+/// Adds the features that are not enabled.
 pub fn add_features(
     refused: &mut Refused<'_, '_>,
     features: &[ConfigExperimental],
@@ -92,7 +92,7 @@ pub fn add_features(
         let name = name.as_str();
         let tree = refused.source.tree();
         let path = feature_path(alloc, tree, name)?;
-        let wrong = format!(in alloc; "the feature `{name}` is not switched on")?;
+        let wrong = format!(in alloc; "the feature `{name}` is not enabled")?;
         let help = feature_help(alloc, tree, name, features)?;
         refused.add_key_at(Code::FeatureOff, &path, wrong.as_str(), Some(help))?;
     }

@@ -32,7 +32,7 @@ fn leave_out_faults(
     Ok(())
 }
 
-/// The document that the file of a layer is, if it is one. The defaults are no file.
+/// The document that the file of a layer is, if it is one. The defaults are not a file.
 fn document_of<'l>(layer: &'l Layer<'_>) -> Option<&'l Tree>
     ensures { MatchOption result (document_in layer.now ≡ None)
         (λ tree. document_in layer.now ≡ Some (tree_view tree.now)) }

@@ -124,7 +124,7 @@ fn predicate_meant(alloc: Global, name: &str) -> Result<Option<String>, AllocErr
     }
 }
 
-/// A name is no predicate: it may be that of a test.
+/// A name is not a predicate: it may be that of a test.
 fn no_predicate(
     alloc: Global,
     name: &str,
@@ -169,7 +169,7 @@ fn nothing_there(alloc: Global, stopped: Stopped<'_>) -> Result<Worded, AllocErr
     if !name.is_empty() {
         return no_right_side(alloc, place, name);
     }
-    let message = "the filter ends where a predicate is due";
+    let message = "the filter ends where a predicate is expected";
     Worded::plain(alloc, place, message, A_PREDICATE)
 }
 
@@ -372,7 +372,7 @@ fn banned(alloc: Global, stopped: Stopped<'_>) -> Result<Option<Worded>, AllocEr
     let place = (stopped.start, stopped.end);
     let (message, expected) = match name_at(stopped.part()) {
         "default" => (
-            "`default()` cannot be in a default filter, for which it stands",
+            "`default()` is the default filter, so a default filter cannot use it",
             "a predicate other than `default`",
         ),
         "group" => (

@@ -133,13 +133,13 @@ fn in_single_quotes(alloc: Global, before: &str, rest: &str) -> Result<String, A
     if let (Some((_, start)), Some((end, _))) = (before.rsplit_once('"'), rest.split_once('"')) {
         if !start.contains('\'') && !end.contains('\'') {
             return format!(in alloc;
-                "write it in single quotes, where a backslash stands for itself: `'{start}{end}'`"
+                "write it in single quotes, where a backslash is literal: `'{start}{end}'`"
             );
         }
     }
     String::from_str(
         alloc,
-        "write the string in single quotes, where a backslash stands for itself",
+        "write the string in single quotes, where a backslash is literal",
     )
 }
 

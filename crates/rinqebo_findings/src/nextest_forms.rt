@@ -188,7 +188,7 @@ fn add_unknown_feature(
     refused.add_finding(found)
 }
 
-/// Adds that an item of the features is no string.
+/// Adds that an item of the features is not a string.
 fn add_item_kind(
     refused: &mut Refused<'_, '_>,
     path: &[Step<'_>],

@@ -260,7 +260,7 @@ fn bad_whole(alloc: Global, stopped: Stopped<'_>) -> Result<Option<Worded>, Allo
         )?,
         "expected one expression, and not several" => several(alloc, stopped)?,
         "`not` takes one part" => not_one(alloc, stopped)?,
-        "functions stand more than 128 deep" => Worded::plain(
+        "functions nest more than 128 deep" => Worded::plain(
             alloc,
             place,
             "the platform is nested too deep",
@@ -271,7 +271,7 @@ fn bad_whole(alloc: Global, stopped: Stopped<'_>) -> Result<Option<Worded>, Allo
     Ok(Some(worded))
 }
 
-/// What is meant by a text that is no triple, where that is plain.
+/// What is meant by a text that is not a triple, where that is plain.
 fn platform_meant(text: &str) -> Option<&'static str> {
     match text.trim() {
         "windows" => Some("write `cfg(windows)`"),

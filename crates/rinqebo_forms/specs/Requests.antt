@@ -91,11 +91,11 @@ file_if None = Some None
 file_if (Some value) = option_map Some (file_in value)
 
 -- the file that a user named in place of the repository's own: the object under `config-file`, or none
--- where `null` stands there
+-- where `null` is there
 abbrev pub config_file_in : Data → Option (Option InputFile)
 config_file_in value = option_and_then file_if (under optional_object (codes "config-file") value)
 
--- the organisation's file: the object under `organisation-config-file`, or none where `null` stands
+-- the organisation's file: the object under `organisation-config-file`, or none where `null` is
 -- there
 abbrev pub organisation_file_in : Data → Option (Option InputFile)
 organisation_file_in value =

@@ -38,7 +38,7 @@ use Rattle.rinqebo_request.specs.declared.named.FileOption.{FileOption}
 use Rattle.rinqebo_request.specs.declared.named.FileOption.TheVariants as options
 use Rattle.rinqebo_request.specs.declared.request.Request.{Request}
 
--- what follows from a cause follows beside want of memory
+-- what follows from a cause follows beside a refusal of memory
 pub or_more : (P Q : InputFault → Type 0) (fault : InputFault) → (P fault → Q fault) → OrMemory P fault
     → OrMemory Q fault
 or_more P Q faults.Memory more holds = tt
@@ -52,7 +52,7 @@ of_engine IsAbout Holds subject (refused.Platform triple platforms.Memory) about
 of_engine IsAbout Holds subject (refused.Platform triple fault) about holds = (about, tt, holds)
 of_engine IsAbout Holds subject refused.Memory about holds = tt
 
--- the fault of a platform, other than want of memory
+-- the fault of a platform, other than a refusal of memory
 pub of_platform : (subject : Subject) (triple : String Global) (fault : PlatformFault) → fault ≢ platforms.Memory
     → faults.Engine subject (refused.Platform triple fault) ≡ engine_fault subject (refused.Platform triple fault)
 of_platform subject triple platforms.Memory other = absurd (other refl)
@@ -138,7 +138,7 @@ blank text trimmed (m, n, is, before, behind, first, last) none =
     subst (NoCharPasses is_not_whitespace) whole
     (NoCharPasses-append is_not_whitespace (take m text) (drop n (drop m text)) before behind)
 
--- why a text is no list, other than for want of memory
+-- why a text is not a list, other than because memory ran out
 pub listed : (path : Option (List ℕ)) (text : List ℕ) (named : String Global) (fault : ListFault)
     → string_bytes named ≡ unwrap_or path []
     → fault ≢ lists.Memory → IfSome (fault_view fault) (IsFaultIn text) → IsFaultOfList path text (faults.List named fault)
@@ -151,7 +151,7 @@ pub graph_of : (metadata : Option (String Global)) (filters : NextestFilters)
 graph_of (Some metadata) filters are = (are.0, are.1)
 graph_of None filters are = tt
 
--- a fault that is not want of memory is its failure, and why a test is not found
+-- a fault that is not a refusal of memory is its failure, and why a test is not found
 pub engines_failure : (fault : InputFault) → fault ≢ faults.Memory → failures.Engines fault ≡ failure_of fault
 engines_failure faults.Memory other = absurd (other refl)
 engines_failure fault other = refl

@@ -7,7 +7,7 @@ use Rattle.rinqebo_load.specs.declared.failure.Failure.TheVariants as failures
 use Rattle.rinqebo_load.specs.declared.fault.InputFault.{InputFault}
 use Rattle.rinqebo_load.specs.declared.fault.InputFault.TheVariants as faults
 
--- A failure of what all commands begin with: the engines, or want of memory.
+-- A failure of what all commands begin with: the engines, or a refusal of memory.
 abbrev pub IsBeginningFailure : Failure → Type 0
 IsBeginningFailure (failures.Engines fault) = Unit {0}
 IsBeginningFailure (failures.Refused report) = ⊥
@@ -16,7 +16,7 @@ IsBeginningFailure (failures.NoTest report) = ⊥
 IsBeginningFailure (failures.SeveralTests report) = ⊥
 IsBeginningFailure failures.Memory = Unit {0}
 
--- the failure of a fault: want of memory is one of its own
+-- the failure of a fault: a refusal of memory is one of its own
 abbrev pub failure_of : InputFault → Failure
 failure_of faults.Memory = failures.Memory
 failure_of fault = failures.Engines fault

@@ -117,7 +117,7 @@ pub record LacksTargets (session : Session) (requested : RequestedTest) (fault :
   pub source : source_of session requested ≡ sources.Metadata
   pub cause : OfEngine IsAnySubject (IsTargetsFault session.gathered.now.metadata) fault
 
--- a session does not find the test that a request names; want of memory aside
+-- a session does not find the test that a request names, unless memory runs out
 abbrev pub IsNotFound : Session → RequestedTest → TestFault → Type 0
 IsNotFound session requested (faults.NoTest missing) = LacksTest session requested
 IsNotFound session requested (faults.SeveralTests tests) = HasSeveral session requested
@@ -133,7 +133,7 @@ pub record IsOnlyOne (named : List ListTest) (requested : RequestedTest) (found 
   pub mode : found.mode ≡ requested.mode
   pub only : named ≡ found_view found ∷ []
 
--- not exactly one test of a list is named; want of memory aside
+-- not exactly one test of a list is named, unless memory runs out
 abbrev pub IsNotOne : List ListTest → TestFault → Type 0
 IsNotOne named (faults.NoTest missing) = named ≡ []
 IsNotOne named (faults.SeveralTests tests) = 2 ≤ length named
@@ -147,7 +147,7 @@ pub record IsOfMetadata (metadata binary : List ℕ) (requested : RequestedTest)
   pub mode : found.mode ≡ requested.mode
   pub test : IsTestOfTargets metadata binary requested (found_view found)
 
--- metadata have no binary of an id, or no targets; want of memory aside
+-- metadata have no binary of an id, or no targets, unless memory runs out
 abbrev pub IsNotOfMetadata : List ℕ → List ℕ → TestFault → Type 0
 IsNotOfMetadata metadata binary (faults.NoTest missing) = LacksBinary metadata binary
 IsNotOfMetadata metadata binary (faults.SeveralTests tests) = ⊥
@@ -155,7 +155,8 @@ IsNotOfMetadata metadata binary (faults.Input fault) =
     OfEngine IsAnySubject (AreNoTargets metadata) fault
 IsNotOfMetadata metadata binary faults.Memory = Unit {0}
 
--- a fault of what a request names is why a test is not found: want of memory is a reason of its own
+-- a fault of what a request names is why a test is not found: a refusal of memory is a reason of
+-- its own
 abbrev pub test_fault : InputFault → TestFault
 test_fault inputs.Memory = faults.Memory
 test_fault fault = faults.Input fault

@@ -35,7 +35,7 @@ use Rattle.rinqebo_load.specs.declared.fault.TripleSource.{TripleSource}
 use Rattle.rinqebo_load.specs.declared.fault.TripleSource.TheVariants as sources
 use Rattle.rinqebo_load.specs.declared.triples.Triples.{Triples}
 
--- something holds of a fault, unless the fault is want of memory
+-- something holds of a fault, unless the fault is a refusal of memory
 abbrev pub OrMemory : (InputFault → Type 0) → InputFault → Type 0
 OrMemory Holds faults.Memory = Unit {0}
 OrMemory Holds fault = Holds fault
@@ -89,14 +89,14 @@ IsAnySubject subject = Unit {0}
 
 -- ---- the fault of an engine
 
--- a fault of an engine is not want of memory
+-- a fault of an engine is not a refusal of memory
 abbrev pub IsNoWant : EngineFault → Type 0
 IsNoWant (refused.Metadata fault) = Unit {0}
 IsNoWant (refused.Platform triple platforms.Memory) = ⊥
 IsNoWant (refused.Platform triple fault) = Unit {0}
 IsNoWant refused.Memory = ⊥
 
--- the fault of an engine about a subject, which want of memory has not
+-- the fault of an engine about a subject, which a refusal of memory has not
 abbrev pub engine_fault : Subject → EngineFault → InputFault
 engine_fault subject (refused.Metadata fault) = faults.Engine subject (refused.Metadata fault)
 engine_fault subject (refused.Platform triple platforms.Memory) = faults.Memory
@@ -104,8 +104,8 @@ engine_fault subject (refused.Platform triple fault) =
     faults.Engine subject (refused.Platform triple fault)
 engine_fault subject refused.Memory = faults.Memory
 
--- a fault is one of an engine, but not want of memory: something holds of what it is about, and of
--- it
+-- a fault is one of an engine, but not a refusal of memory: something holds of what it is about,
+-- and of it
 abbrev pub OfEngine : (Subject → Type 0) → (EngineFault → Type 0) → InputFault → Type 0
 OfEngine IsAbout Holds (faults.Engine subject fault) =
     IsAbout subject × IsNoWant fault × Holds fault
@@ -117,8 +117,8 @@ OfEngine IsAbout Holds fault = ⊥
 abbrev pub IsBlank : List ℕ → Type 0
 IsBlank text = NoCharPasses is_not_whitespace text
 
--- The text of a list that was read at a path is no list of tests, for exactly this fault. A text of
--- white space alone is empty.
+-- The text of a list that was read at a path is not a list of tests, for exactly this fault. A text
+-- of white space alone is empty.
 abbrev pub IsFaultOfList : Option (List ℕ) → List ℕ → InputFault → Type 0
 IsFaultOfList path text (faults.EmptyList file) =
     IsFileAt path options.List file × IsBlank text × IsFaultIn text not_json

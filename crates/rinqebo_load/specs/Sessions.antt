@@ -47,8 +47,8 @@ readings filters = record {
   meets = λ spec platform. spec_value (platform_view platform) spec;
 }
 
--- A load of files returns a configuration only where every written rule holds, and it refuses them,
--- but for want of memory, only where some rule does not.
+-- A load of files returns a configuration only if every written rule holds, and it refuses them,
+-- unless memory ran out, only if some rule does not.
 abbrev pub IfLoaded : {T : Type 0} → Readings Filter Spec Platform → Features → LoadInputs
     → Result T ConfigParseError → Type 0
 IfLoaded engines features files r =

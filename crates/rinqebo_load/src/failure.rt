@@ -16,7 +16,7 @@ pub enum Failure {
     NoTest(Report),
     /// Several tests have the name of the test. The report has this one finding.
     SeveralTests(Report),
-    /// Want of memory.
+    /// Memory was refused.
     Memory,
 }
 

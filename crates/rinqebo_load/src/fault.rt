@@ -101,13 +101,13 @@ pub enum InputFault {
     /// There are no metadata, and the program evaluates a filter that needs them.
     #[error("{0}")]
     NoMetadata(OpenFilter),
-    /// Want of memory.
+    /// Memory was refused.
     #[error("out of memory")]
     Memory,
 }
 
 impl InputFault {
-    /// The fault of an engine about a subject. Want of memory is about none.
+    /// The fault of an engine about a subject. A refusal of memory is about none.
     pub fn of_engine(subject: Subject, fault: EngineFault) -> InputFault
         ensures { result ≡ engine_fault subject fault }
     {

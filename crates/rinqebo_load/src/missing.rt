@@ -24,7 +24,7 @@ pub enum TestFault {
     SeveralTests(String),
     /// The metadata are not understood.
     Input(InputFault),
-    /// Want of memory.
+    /// Memory was refused.
     Memory,
 }
 

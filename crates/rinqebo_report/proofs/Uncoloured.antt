@@ -51,7 +51,7 @@ digits_plain : (base n : ℕ) → HasNoEscape (digits base false n)
 unfolding digits
 digits_plain base n = digits_onto_plain 64 base n [] tt
 
--- the bytes of a character that is no control character
+-- the bytes of a character that is not a control character
 encoded_plain : (c : ℕ) → 32 ≤ c → HasNoEscape (encode_utf8 c)
 unfolding encode_utf8
 encoded_plain c low =

@@ -18,7 +18,7 @@ written_four old a b d e first second third last p q r s =
     ∙ append_assoc (old ++ a) b (d ++ e)
     ∙ append_assoc old a (b ++ (d ++ e))
 
--- what holds of a result that is no error
+-- what holds of a result that is not an error
 pub on_ok : {T E : Type 0} (result : Result T E) (P Q : Type 0) → (P → Q) → OnOk result P → OnOk result Q
 on_ok (Ok x) P Q f h = f h
 on_ok (Err e) P Q f h = h

@@ -178,7 +178,7 @@ entry_data entry =
     (member (codes "origin") (origin_data entry.origin)
     (member (codes "value") (value_data entry.value) no_members))))
 
--- the word of an answer
+-- the word of a condition's value
 abbrev pub answer_word : ConditionAnswer → List ℕ
 answer_word answers.Absent = codes "absent"
 answer_word answers.Yes = codes "yes"

@@ -1,11 +1,11 @@
--- Where features stand among all.
+-- Where features are among all.
 use Rattle.std.proofs.Common.{◌≡◌, ◌<◌, ℕ, Contains, Some, refl, rules}
 use Rattle.std.specs.List.{slice_get}
 use Rattle.nextest_elements.specs.declared.experimental.ConfigExperimental.{ConfigExperimental}
 use Rattle.nextest_elements.specs.declared.experimental.ConfigExperimental.TheVariants.{SetupScripts, WrapperScripts}
 use Rattle.rinqebo_request.specs.declared.features.TheConstants.{FEATURES}
 
--- where a feature stands among all
+-- where a feature is among all
 abbrev pub place : ConfigExperimental → ℕ
 place SetupScripts = 0
 place WrapperScripts = 1

@@ -150,7 +150,7 @@ answer_in request old new needed status r (inr room) done =
     ∙ take-append_seam text (drop (length text) old) in
     subst (IsAnswerTo request) (sym is) (answer_of request r.ending r.is_ending (sym told.0 ∙ done))
 
--- what is told with status 0 answers the request
+-- what is reported with status 0 is the result of the request
 pub reported_answer : (request old new : List ℕ) (needed status : ℕ) → IsResolved request old new needed status
     → status ≡ DONE → IsAnswerTo request (take needed new)
 reported_answer request old new needed status r =

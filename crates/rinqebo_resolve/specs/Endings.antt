@@ -41,7 +41,7 @@ abbrev pub ReportsNoProfileOf : RequestedText → Gathered → List ℕ → Type
 ReportsNoProfileOf asked gathered =
     ReportsOf asked gathered (λ request files report. LackProfileFor request files)
 
--- how what a run requests of files ends, want of memory aside
+-- how what a run requests of files ends, unless memory runs out
 abbrev pub IsEndingIn : RequestedText → Gathered → Ending → Type 0
 IsEndingIn asked gathered (ends.Answered text) = IsAnswerOf asked gathered (string_bytes text)
 IsEndingIn asked gathered (ends.Refused text) = IsRefusalOf asked gathered (string_bytes text)
@@ -83,7 +83,7 @@ EndsUnderstood request ending =
     (run : RunText) × (run_of request ≡ Some run) × IsEndingOf run ending
 
 -- how the run of the bytes of a request ends: as the run that they describe does, or they are not
--- understood, or are not UTF-8; want of memory aside
+-- understood, or are not UTF-8, unless memory runs out
 abbrev pub IsEndingFor : List ℕ → Ending → Type 0
 IsEndingFor request (ends.Answered text) = EndsUnderstood request (ends.Answered text)
 IsEndingFor request (ends.Refused text) = EndsUnderstood request (ends.Refused text)

@@ -42,7 +42,7 @@ impl Ending {
         }
     }
 
-    /// Its text. Where the request is not UTF-8, and for want of memory, that is empty.
+    /// Its text, which is empty if the request is not UTF-8, and if memory ran out.
     pub fn text(&self) -> &str
         ensures { result.now ≡ ending_text self.now }
     {

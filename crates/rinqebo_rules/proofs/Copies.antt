@@ -1,4 +1,4 @@
--- Copies of origins tell what the origins tell.
+-- Copies of origins report what the origins report.
 use Rattle.std.proofs.Common.{◌≡◌, ◌≢◌, ◌∙◌, ℕ, zero, suc, List, [], ◌∷◌, None, Option, Some, Result, Ok, Err, IfOk, Vec, Global, ap, option_map, refl, subst, sym}
 use Rattle.std.specs.declared.alloc.AllocError.{AllocError}
 use Rattle.std.specs.List.{AllZip}
@@ -59,7 +59,7 @@ module _ (layers : List Layer) where
   layer_copy profile table name (suc at) kinds.DefaultTable copy same is = absurd is
   layer_copy profile table name (suc at) (kinds.File other) copy same is = absurd is
 
--- copies tell of each what the origins tell of it
+-- copies report of each what the origins report of it
 each_copy : {X : Type 0} (R : X → Origin → Type 0)
     → ((x : X) (from copy : Origin) → IsCopyOf from copy → R x from → R x copy)
     → (xs : List X) (origins copies : List Origin) → AllZip IsCopyOf origins copies → AllZip R xs origins
@@ -109,7 +109,7 @@ profile_copies layers chain table name origins copies same (written no_key repor
           are.told;
     }) (some_copies origins copies same some)
 
--- copies tell where a value comes from as the origins do
+-- copies report where a value comes from as the origins do
 pub copies_at : (basis : Basis) (place : Option Place) (table : Option (List ℕ)) (name : List ℕ)
     (origins copies : List Origin) → AllZip IsCopyOf origins copies → AreOriginsAt basis place table name origins
     → AreOriginsAt basis place table name copies

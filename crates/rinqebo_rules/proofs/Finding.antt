@@ -1,7 +1,7 @@
 -- What is found in a list, and in its beginnings.
 use Rattle.std.proofs.Common.{◌≡◌, ℕ, ◌<◌, zero, suc, Bool, true, false, cond, Some, None, List, [], ◌∷◌, take, find, slice_get, refl, ◌∙◌, ap, arith}
 
--- an element of a beginning stands in the list, before the beginning's end
+-- an element of a beginning is in the list, before the beginning's end
 pub in_take : {X : Type 0} (xs : List X) (n m : ℕ) (y : X) → slice_get (take n xs) m ≡ Some y
     → (m < n) × (slice_get xs m ≡ Some y)
 in_take xs zero m y e = absurd cc
@@ -11,7 +11,7 @@ in_take (x ∷ xs) (suc n) (suc m) y e =
     let rest = in_take xs n m y e in
     (omega (arith, rest.0), rest.1)
 
--- an element before an end stands in the beginning up to there
+-- an element before an end is in the beginning up to there
 pub to_take : {X : Type 0} (xs : List X) (n m : ℕ) (y : X) → m < n → slice_get xs m ≡ Some y
     → slice_get (take n xs) m ≡ Some y
 to_take xs zero m y lt e = absurd (omega arith)

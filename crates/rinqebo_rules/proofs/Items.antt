@@ -1,4 +1,4 @@
--- Which items of lists are told.
+-- Which items of lists are reported.
 use Rattle.std.proofs.Common.{◌≡◌, ◌<◌, ◌≤◌, ◌∙◌, ℕ, zero, suc, List, [], ◌∷◌, true, false, None, ap, arith, get_or, length, map, refl, String, sym, take}
 use Rattle.std.proofs.lemmas.List.{take_all}
 use Rattle.std.specs.declared.alloc.Global.{Global}
@@ -7,7 +7,7 @@ use Rattle.nextest_tree.specs.View.{nodes_of, tree_view}
 use Rattle.nextest_tree.specs.declared.tree.Tree.{Tree}
 use Rattle.rinqebo_rules.specs.LeafValue.{text_node, are_texts, AreItems}
 
--- texts are told
+-- texts are reported
 all_texts : (texts : List (String Global)) → are_texts (nodes_of (map text_node texts)) ≡ true
 all_texts [] = refl
 all_texts (t ∷ texts) = all_texts texts
@@ -22,7 +22,7 @@ are_items items n texts all same =
       same = whole;
     }
 
--- behind an item that is no text
+-- behind an item that is not a text
 no_text : (item : Node) (items : List Node) → None ≡ as_text item → are_texts (nodes_of (item ∷ items)) ≡ false
 no_text (table es) items none = refl
 no_text (array nodes) items none = refl
@@ -31,7 +31,7 @@ no_text (int z) items none = refl
 no_text (bool b) items none = refl
 no_text opaque items none = refl
 
--- before items that are no texts
+-- before items that are not texts
 behind : (item : Node) (items : List Node) → are_texts (nodes_of items) ≡ false
     → are_texts (nodes_of (item ∷ items)) ≡ false
 behind (table es) items none = refl
@@ -41,7 +41,7 @@ behind (int z) items none = refl
 behind (bool b) items none = refl
 behind opaque items none = refl
 
--- a list with an item that is no text
+-- a list with an item that is not a text
 pub not_texts : (items : List Tree) (n : ℕ) (item : Tree) → n < length items → item ≡ get_or items n item
     → None ≡ as_text (tree_view item) → are_texts (nodes_of (map tree_view items)) ≡ false
 not_texts [] n item within at none = absurd (omega arith)

@@ -2,7 +2,7 @@
 use Rattle.std.proofs.Common.{◌≡◌, List, [], ◌∷◌, ap, map, refl}
 use Rattle.std.specs.List.{AllZip}
 
--- what holds of each and what is told of it holds of what is made of each
+-- what holds of each and what is reported of it holds of what is made of each
 pub zip_mapped : {A B C : Type 0} (f : A → B) (R : B → C → Type 0) (xs : List A) (ys : List C)
     → AllZip (λ x. R (f x)) xs ys → AllZip R (map f xs) ys
 zip_mapped f R [] [] all = tt

@@ -73,7 +73,7 @@ module _ {M : Type 0} (query : QueryContext M) (mode : NextestRunMode)
   abbrev wants : Setting → OverrideUse M → Bool
   wants s w = is_set w.settings mode s
 
-  -- an override that decides stands behind those that have not its id
+  -- an override that decides is behind those that have not its id
   passed_by : (s : Setting) (id : RuleId) (count : ℕ) (found : Option (EvaluatedRule M (OverrideUse M)))
       → deciding_override query mode rules s ≡ found
       → IfSome found (StandsFirst (decides query (wants s)) rules)

@@ -20,14 +20,14 @@ mapped_at f [] i = refl
 mapped_at f (x ∷ xs) zero = refl
 mapped_at f (x ∷ xs) (suc i) = mapped_at f xs i
 
--- the profile that writes a key stands in the chain
+-- the profile that writes a key is in the chain
 nearest_at : (layers : List Layer) (chain : List Name) (table : Option (List ℕ)) (name : List ℕ)
     (grounds : Grounds) (near : AreNearestGrounds (trees_of layers) chain (key_path table name) grounds)
     → slice_get chain grounds.profile ≡ Some near.name
 nearest_at layers chain table name grounds near =
     (λ i. slice_get (near.splits i) (sym near.profile i)) ∙ at_middle near.nearer near.name near.farther
 
--- what stands at the place of that profile is its name
+-- what is at the place of that profile is its name
 pub name_at : (layers : List Layer) (chain : List (Bor Name)) (table : Option (List ℕ)) (name : List ℕ)
     (grounds : Grounds)
     (near : AreNearestGrounds (trees_of layers) (map (λ name. name.now) chain) (key_path table name) grounds)
@@ -43,7 +43,7 @@ name_at layers chain table name grounds near profile within at =
 pub some_of : {X : Type 0} (v : Vec X Global) {b : Bool} → b ≡ (vec_len v == 0) → b ≡ false → v.items ≢ []
 some_of v empty is none = false≢true (sym is ∙ empty ∙ eq-eqb (vec_len v) 0 (v.ok.0 ∙ ap length none))
 
--- what a profile of the chain writes is told by the layers that show it
+-- what a profile of the chain writes is reported by the layers that show it
 pub reported_by : (layers : List Layer) (chain : List Name) (table : Option (List ℕ)) (name : List ℕ)
     (grounds : Grounds) (near : AreNearestGrounds (trees_of layers) chain (key_path table name) grounds)
     (profile : Name) (origins : List Origin) → profile ≡ near.name
@@ -61,7 +61,7 @@ reported_by layers chain table name grounds near profile origins same told = rec
   told = subst (λ p. AllZip (IsLayerOrigin layers p table name) grounds.layers.items origins) same told;
 }
 
--- some layers are told by some origins
+-- some layers are reported by some origins
 pub some_reported : {A B : Type 0} (R : A → B → Type 0) (xs : List A) (ys : List B) → xs ≢ [] → AllZip R xs ys
     → ys ≢ []
 some_reported R [] ys some told = absurd (some refl)

@@ -1,4 +1,4 @@
--- A value that is that of a setting by its kind is told as that of the setting.
+-- A value that is that of a setting by its kind is reported as that of the setting.
 use Rattle.std.proofs.Common.{◌≡◌, ◌∙◌, Option, None, Some, option_map, ap, refl, sym}
 use Rattle.nextest_settings.specs.Settings.{ValueOf}
 use Rattle.nextest_settings.specs.SettingValues.{by_kind, setting_value_view}

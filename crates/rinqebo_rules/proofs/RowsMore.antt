@@ -64,7 +64,7 @@ filter_same p xs i x d below same now before fails =
     ∙ ap (λ b. filter p (take i xs) ++ cond b (x ∷ []) []) (sym fails)
     ∙ sym (filter-one p (take i xs) x) ∙ ap (filter p) (sym taken)
 
--- rows tell the settings by whatever says the same of each
+-- rows report the settings by whatever says the same of each
 pub reported_alike : (basis : Basis) (one other : Option RuleId) (v w : (s : Setting) → Option (ValueOf s))
     (o p : Setting → Option Origin) (mode : NextestRunMode) (asked : RequestedSettings) (rows : List SettingRow)
     → one ≡ other → ((s : Setting) → v s ≡ w s) → ((s : Setting) → o s ≡ p s)
@@ -83,7 +83,7 @@ pub wrapping_alike : {M : Type 0} (uses : Option ScriptRuleUse) (rule : Option (
 wrapping_alike uses None is = ap (option_map (λ u. u.id)) is
 wrapping_alike uses (Some rule) is = ap (option_map (λ u. u.id)) is
 
--- a mark tells the origin that it is right for
+-- a mark has the origin that it is right for
 pub marked : {F S E T N P : Type 0} (source : Option (SettingSource F S E T N P)) (origin : Option Origin)
     → MarksOrigin (λ mark told. setting_source_view mark ≡ told) source origin
     → option_map setting_source_view source ≡ origin

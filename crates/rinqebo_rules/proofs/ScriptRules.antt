@@ -32,7 +32,7 @@ pub wrapper_given : {M : Type 0} (matches : BinaryMatch M) (profile : Evaluatabl
     → wrapper_at matches profile binary ≡ option_map (λ id. (binary.binary_id, id)) id
 wrapper_given matches profile binary id is = ap (option_map (λ id. (binary.binary_id, id))) (sym is)
 
--- the wrapper that is found for a binary is told
+-- the wrapper that is found for a binary is reported
 pub wrapper_more : (binary : List ℕ) (old new : List ListWrapper) (gives : Option (List ℕ × Name))
     (found : Option (Bor ScriptId)) (id : Bor ScriptId) (wrapper : ListWrapper) → new ≡ old ++ wrapper ∷ []
     → gives ≡ option_map (λ id. (binary, id)) (option_map (λ id. script_text id.now) found) → found ≡ Some id

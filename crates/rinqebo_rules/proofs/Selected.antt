@@ -1,4 +1,4 @@
--- Whether a test runs, as it is told.
+-- Whether a test runs, as it is reported.
 use Rattle.std.proofs.Common.{◌≡◌, ◌∙◌, Bool, List, Option, ap, map, option_map, subst}
 use Rattle.nextest_rules.specs.Rules.{RuleId}
 use Rattle.nextest_rules.specs.declared.overrides.CompiledOverride.{CompiledOverride}

@@ -26,7 +26,7 @@ module _ {X Y Z : Type 0} (view : X → Y) (p : Y → Bool) (R : Y → Z → Typ
       ∙ filter-append p (map view (take n xs)) (view x ∷ [])
       ∙ ap (λ t. filter p (map view (take n xs)) ++ cond t (view x ∷ []) []) passes
 
-  -- one more that passes and is told
+  -- one more that passes and is reported
   pub passes_more : (old new : List Z) (z : Z) → AllZip R (filter p (map view (take n xs))) old
       → p (view x) ≡ true → R (view x) z → new ≡ old ++ z ∷ []
       → AllZip R (filter p (map view (take (n + 1) xs))) new
@@ -74,7 +74,7 @@ any_made : {X Y : Type 0} (p : Y → Bool) (f : X → Y) (xs : List X) → list_
 any_made p f [] = refl
 any_made p f (x ∷ xs) = ap (λ b. p (f x) || b) (any_made p f xs)
 
--- whether a text is asked for by keys, as code holds them
+-- whether keys select a text, as code holds them
 pub asked_here : (keys : List (Bor (List ℕ))) (text other : List ℕ) → text ≡ other
     → list_any (λ name. is_under text name.now) keys ≡ list_any (λ name. is_under other name) (keys_view keys)
 asked_here keys text other same =

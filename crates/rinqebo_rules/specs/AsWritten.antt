@@ -27,7 +27,7 @@ node_at [] from = from
 node_at (step ∷ steps) from = node_at steps (option_and_then (step_node step) from)
 
 -- what the file of an origin has at some steps from the profile or the rule of the origin; there is
--- nothing where the origin is no place of a profile in a file
+-- nothing where the origin is not a place of a profile in a file
 abbrev pub origin_node : List Layer → List PathStep → Origin → Option Node
 origin_node layers steps (kinds.Written written) =
     node_at steps (node_at (profile_steps (string_bytes written.profile) written.part)

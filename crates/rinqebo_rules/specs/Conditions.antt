@@ -15,13 +15,13 @@ use Rattle.platform_table.specs.Platforms.{platform_view}
 use Rattle.platform_table.specs.declared.Platform.{Platform}
 use Rattle.rinqebo_rules.specs.declared.verdict.RuleFacts.{RuleFacts}
 
--- an answer that may be unknown, as a report shows it
+-- a value that may be unknown, as a report shows it
 abbrev pub reported_answer : Option Bool → ConditionAnswer
 reported_answer (Some true) = says.Yes
 reported_answer (Some false) = says.No
 reported_answer None = says.Unknown
 
--- the answer of a condition that may be absent, as a report shows it
+-- the value of a condition that may be absent, as a report shows it
 abbrev pub reported_condition : {X : Type 0} → (X → Option Bool) → Option X → ConditionAnswer
 reported_condition answer None = says.Absent
 reported_condition answer (Some condition) = reported_answer (answer condition)

@@ -53,7 +53,7 @@ pub struct Answers {
     pub host: ConditionAnswer,
     /// What the platform says on which the binary runs.
     pub target: ConditionAnswer,
-    /// Whether the filter matches. It is evaluated only where the platforms of the rule match.
+    /// Whether the filter matches. It is evaluated only if the platforms of the rule match.
     pub filter: ConditionAnswer,
 }
 

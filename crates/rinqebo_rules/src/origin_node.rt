@@ -65,7 +65,7 @@ fn written_node<'l>(layers: &'l [Layer<'_>], written: &Written) -> Option<&'l Tr
 }
 
 /// What the file of an origin has at a key of the origin's profile or rule. There is nothing where
-/// the origin is no place of a profile in a file.
+/// the origin is not a place of a profile in a file.
 #[tactic(auto, using(crate::proofs::OriginNodes::from_none))]
 fn origin_node<'l>(layers: &'l [Layer<'_>], key: SettingKey, origin: &Origin) -> Option<&'l Tree>
     ensures { option_map (λ tree. tree_view tree.now) result ≡ origin_node layers.now

@@ -64,7 +64,7 @@ fn written_at(written: &[Option<Setting>], number: usize) -> Option<Setting>
     written.get(number).copied().flatten()
 }
 
-/// Whether an override holds for some of the tests, after one more. It is evaluated only where it
+/// Whether an override holds for some of the tests, after one more. It is evaluated only if it
 /// held for none so far, and what decides the settings of the test leaves open whether it holds.
 fn is_override_used<F: Filters, S: Specs>(
     rule: &EvaluatedOverride<'_, F, S>,
@@ -114,7 +114,7 @@ fn overrides_after<F: Filters, S: Specs>(
     Ok(after)
 }
 
-/// Whether a script rule holds for some of the tests, after one more. It is evaluated only where it
+/// Whether a script rule holds for some of the tests, after one more. It is evaluated only if it
 /// held for none so far.
 fn is_script_rule_used<F: Filters, S: Specs>(
     rule: &EvaluatedScriptRule<'_, F, S>,

@@ -9,8 +9,8 @@ ghost use Rattle.rinqebo_rules.specs.declared.verdict.RuleVerdict.{RuleVerdict};
 
 use nextest_engines::Filters;
 
-/// The rule at a place decides exactly where it holds, writes the setting, and no earlier one does.
-/// At most one does: the winner. None does exactly where there is no winner, and the fallback
+/// The rule at a place decides exactly if it holds, writes the setting, and no earlier one does.
+/// At most one does: the winner. None does exactly if there is no winner, and the fallback
 /// counts. And the verdicts are those of what is known of the rules.
 pub fn law_verdicts<F: Filters>()
     ensures nth { (query : QueryContext F.Meaning) (wants : OverrideUse F.Meaning → Bool)

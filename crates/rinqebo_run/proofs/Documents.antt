@@ -14,7 +14,7 @@ use Rattle.rinqebo_run.specs.Refused.{Fails, HasNoReport, IsReportOfFailure, Rep
 use Rattle.rinqebo_run.specs.Statuses.{IsAnswerStatus, failure_status}
 use Rattle.rinqebo_run.proofs.Statuses.{answer_status}
 
--- a failure with a report is not want of memory
+-- a failure with a report is not a refusal of memory
 no_memory : {X : Type 0} (failure : Failure) (report : Report) (n : ℕ) → IsReportOfFailure failure report
     → n ≡ failure_status failure → n ≡ 5 → X
 no_memory (failures.Engines fault) report n reported same five = absurd reported
@@ -52,7 +52,7 @@ no_report failures.Memory n none same (inr four) =
     let five : n ≡ 5 = same in
     absurd (omega arith)
 
--- a run that ends with 3 or 4 did not end for want of memory, nor for a write that failed
+-- a run that ends with 3 or 4 did not end because memory ran out, nor for a write that failed
 pub not_cut_off : {X : Type 0} (n : ℕ) → (n ≡ 5) ⊎ (n ≡ 6) → (n ≡ 3) ⊎ (n ≡ 4) → X
 not_cut_off n (inl five) (inl three) = absurd (omega arith)
 not_cut_off n (inl five) (inr four) = absurd (omega arith)
@@ -120,7 +120,7 @@ pub refusal_told : {X : Type 0} (request : Request) (gathered : Gathered) (failu
 refusal_told request gathered failure n old new fails tells =
     inr (record { failure = failure; fails = fails; tells = tells })
 
--- an answer is told by its own page
+-- a result is written by its own page
 pub answer_ends : {X : Type 0} (request : Request) (gathered : Gathered) (report : Report) (n m : ℕ)
     → IsAnswer request gathered report m → (n ≡ m) ⊎ (n ≡ 5) ⊎ (n ≡ 6) → (n ≡ 3) ⊎ (n ≡ 4)
     → IsAnswerStatus request.question n ⊎ X
@@ -148,7 +148,7 @@ last_of_five (inr (inl b)) = inr (inl b)
 last_of_five (inr (inr (inl c))) = inr (inr (inl c))
 last_of_five (inr (inr (inr e))) = inr (inr (inr (inr e)))
 
--- a text is no document of JSON
+-- a text is not a document of JSON
 pub text_or_json : {X : Type 0} (format : Format) → format ≡ formats.Text → format ≡ formats.Json → X
 text_or_json format text json =
     let joined : formats.Text ≡ formats.Json = sym text ∙ json in

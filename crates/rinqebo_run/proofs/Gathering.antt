@@ -44,7 +44,7 @@ use Rattle.rinqebo_load.specs.declared.found_test.FoundTest.{FoundTest}
 use Rattle.rinqebo_load.specs.declared.session.Session.{Session}
 use Rattle.rinqebo_rules.specs.Reported.{reported_of, value_view}
 
--- what is told of the rules of a profile for a setting, and then of the fallback
+-- what is reported of the rules of a profile for a setting, and then of the fallback
 pub reasons_here : (layers : List FileLayer) (platforms : BuildPlatforms Platform) (test : FoundTest) (query : TestQuery) (s : Setting)
     (default : FilterChoice (Filterset FieldMatcher)) (profile : EarlyModel (Filterset FieldMatcher) TargetSpec)
     (before : List Rule) (fallback : Rule) (rules : List Rule) (chain : List Name)

@@ -11,7 +11,7 @@ any_made : {X Y : Type 0} (p : Y → Bool) (f : X → Y) (xs : List X) → list_
 any_made p f [] = refl
 any_made p f (x ∷ xs) = ap (λ b. p (f x) || b) (any_made p f xs)
 
--- whether the default filter is asked for
+-- whether the default filter is used
 pub asks_here : (keys : List (Bor (List ℕ)))
     → ((length keys == 0) || list_any (λ key. bytes_eq key.now (codes "default-filter")) keys)
     ≡ asks_for_default (keys_view keys)

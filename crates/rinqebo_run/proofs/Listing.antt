@@ -1,4 +1,4 @@
--- What is told of the tests of a list and of the rules that hold for none.
+-- What is reported of the tests of a list and of the rules that hold for none.
 use Rattle.std.proofs.Common.{◌≡◌, ◌∙◌, List, [], ◌∷◌, ◌++◌, Bool, Bor, map, IfSome, Option, ap, refl, string_bytes, subst, sym}
 use Rattle.std.specs.List.{AllZip}
 use Rattle.filter_language.specs.Filtersets.{marks_view}
@@ -53,7 +53,7 @@ use Rattle.rinqebo_load.specs.Sessions.{files_view, readings, IsLoadedFrom}
 use Rattle.rinqebo_load.specs.declared.session.Session.{Session}
 use Rattle.serde_json.specs.View.{view}
 
--- what holds of each and what is told of it holds of what is made of each
+-- what holds of each and what is reported of it holds of what is made of each
 pub zip_mapped : {A B C : Type 0} (f : A → B) (R : B → C → Type 0) (xs : List A) (ys : List C)
     → AllZip (λ x. R (f x)) xs ys → AllZip R (map f xs) ys
 zip_mapped f R [] [] all = tt
@@ -61,7 +61,7 @@ zip_mapped f R [] (y ∷ ys) all = absurd all
 zip_mapped f R (x ∷ xs) [] all = absurd all
 zip_mapped f R (x ∷ xs) (y ∷ ys) all = (all.0, zip_mapped f R xs ys all.1)
 
--- origins are told in the same layers by another name
+-- origins are reported in the same layers by another name
 pub reported_in : (files layers : List FileLayer) (places : List Place) (origins : List Origin) → files ≡ layers
     → AllZip (λ place. IsOriginOf files place []) places origins
     → AllZip (λ place. IsOriginOf layers place []) places origins
@@ -72,7 +72,7 @@ both : {A B X : Type 0} (g : B → X) (f : A → B) (xs : List A) → map g (map
 both g f [] = refl
 both g f (x ∷ xs) = ap (λ rest. g (f x) ∷ rest) (both g f xs)
 
--- the rules of a profile stand at the places of their ids
+-- the rules of a profile are at the places of their ids
 pub unused_stand : {M : Type 0} (tests : List (QueryContext M)) (profile : EvaluatableModel M) (ids : UnusedRules)
     → AreUnusedIn tests profile ids → places_of ids ≡ unused_places tests profile
 unused_stand {M} tests profile ids are =
@@ -112,7 +112,7 @@ pub basis_here : (session : Session) (basis : Basis) (layers : List FileLayer) (
     → basis ≡ basis_of session chain
 basis_here session basis layers chain is same = is ∙ ap (based chain) same
 
--- tests, rules, scripts and objects are told by a configuration that was loaded
+-- tests, rules, scripts and objects are reported by a configuration that was loaded
 pub listed_here : (session : Session) (loaded : Loaded (Filterset FieldMatcher) TargetSpec) (name : Name)
     (mode : NextestRunMode) (asked : RequestedSettings) (on : EvaluatableModel (Filterset FieldMatcher))
     (names chain : List Name) (ids : UnusedRules) (tests : List TestRows) (unused : List Origin) (scripts : ListScripts)

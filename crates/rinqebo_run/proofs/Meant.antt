@@ -1,4 +1,4 @@
--- What is told of rules as they were read is told of what they mean.
+-- What is reported of rules as they were read is reported of what they mean.
 use Rattle.std.proofs.Common.{◌≡◌, ◌∙◌, ◌&&◌, Bool, true, false, if◌then◌else◌, List, [], ◌∷◌, map, Option, None, Some, option_map, ap, refl, sym, subst}
 use Rattle.std.specs.List.{AllZip, zip}
 use Rattle.nextest_elements.specs.declared.run_mode.NextestRunMode.{NextestRunMode}
@@ -109,7 +109,7 @@ module _ {E N M K P : Type 0} (f : E → M) (g : N → K) (meets : K → P → O
     all_facts_meant [] = refl
     all_facts_meant (r ∷ rs) = λ i. facts_meant r i ∷ all_facts_meant rs i
 
-    -- what comes of rules
+    -- the result of rules
     verdicts_meant : (rs : List (RuleFor E N))
         → verdicts_of read_query writes_it (map (rule_on read_meets platforms) rs)
         ≡ verdicts_of query writes_it (map (rule_on meets platforms) (map (rule_meaning f g (λ w. w)) rs))
@@ -118,7 +118,7 @@ module _ {E N M K P : Type 0} (f : E → M) (g : N → K) (meets : K → P → O
         ∙ ap (verdicts_by false) (all_facts_meant rs)
         ∙ sym (verdicts-facts query writes_it (map (rule_on meets platforms) (map (rule_meaning f g (λ w. w)) rs)))
 
-    -- what is told of rules for a setting
+    -- what is reported of rules for a setting
     rules_meant : (layers : List FileLayer) (rs : List (RuleFor E N)) (rules : List Rule)
         → AreRulesReported layers read_meets platforms read_query rs rules
         → AreRulesReported layers meets platforms query (map (rule_meaning f g (λ w. w)) rs) rules
@@ -163,7 +163,7 @@ module _ {E N M K P : Type 0} (f : E → M) (g : N → K) (meets : K → P → O
     abbrev pub read_matches : E → Test → E → Bool
     read_matches e asked default = matches (f e) asked (f default)
 
-    -- what is told of the rules of a chain
+    -- what is reported of the rules of a chain
     reasons_meant : (names chain : List Name)
         → AreReasons layers names read_meets read_matches platforms test s (profile_of c name chain) rules
         → AreReasons layers names meets matches platforms test s (profile_of (configured_meaning f g c) name chain) rules
@@ -197,7 +197,7 @@ module _ {E N M K P : Type 0} (f : E → M) (g : N → K) (meets : K → P → O
           as_written = is.as_written;
         }
 
-    -- what is told of the rules of a profile, by what texts mean
+    -- what is reported of the rules of a profile, by what texts mean
     pub reasons_of_texts : (texts : ConfigModel M K) → config_meaning f g c.config ≡ texts
         → AreReasonsIn layers read_meets read_matches platforms c name test s rules
         → AreReasonsIn layers meets matches platforms (with_config c texts) name test s rules

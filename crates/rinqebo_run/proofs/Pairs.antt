@@ -1,4 +1,4 @@
--- What is told of the pairs of two lists, one after another.
+-- What is reported of the pairs of two lists, one after another.
 use Rattle.std.proofs.Common.{◌≡◌, ◌<◌, ◌+◌, ◌∙◌, ℕ, List, [], ◌∷◌, ◌++◌, ap, arith, get_or, length, map, min, subst, sym, take}
 use Rattle.std.proofs.lemmas.List.{take_all, take_more}
 use Rattle.std.proofs.lemmas.Slice.Zip.{all_zipped_more, get_or-zip, length-zip}
@@ -23,7 +23,7 @@ pub pairs_all : {A B Y : Type 0} (R : A × B → Y → Type 0) (ks : List A) (vs
 pairs_all R ks vs n ys all told =
     subst (λ xs. AllZip R xs ys) (take_all n (zip ks vs) (omega (arith, length-zip ks vs))) told
 
--- what is told of pairs is told of them with the first of each turned into something else
+-- what is reported of pairs is reported of them with the first of each turned into something else
 pub zip_moved : {A B V Y : Type 0} (h : A → B) (R : A × V → Y → Type 0) (S : B × V → Y → Type 0)
     → ((x : A) (v : V) (y : Y) → R (x, v) y → S (h x, v) y) → (xs : List A) (vs : List V) (ys : List Y)
     → AllZip R (zip xs vs) ys → AllZip S (zip (map h xs) vs) ys

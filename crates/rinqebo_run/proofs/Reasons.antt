@@ -1,4 +1,4 @@
--- What is told of rules is what comes of them.
+-- What is reported of rules is the result of them.
 use Rattle.std.proofs.Common.{◌≡◌, ◌∙◌, false, List, map, ap, subst, sym}
 use Rattle.std.specs.List.{AllZip, zip}
 use Rattle.nextest_settings.specs.Platforms.{rule_on}
@@ -32,7 +32,7 @@ reported_verdicts asking rules written same =
     ∙ sym (made_twice (facts_of query writes_it) on written))
     ∙ sym (verdicts-facts query writes_it (map on written))
 
--- rules that code holds are told as the rules of which this is found out
+-- rules that code holds are reported as the rules of which this is found out
 pub reported_here : (layers : List Layer) (asking : Asking) (written : List ReadRule) (rules : List SettingRule)
     (told : List Rule) → map setting_rule_view rules ≡ map (judged_here asking) written
     → AreReportedWith layers rules (verdicts_by false (map (λ rule. rule.facts) rules)) told

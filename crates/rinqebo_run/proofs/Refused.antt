@@ -1,4 +1,4 @@
--- Why a run answers nothing: from loads and rows to questions, and from there to exit statuses.
+-- Why a run has no result: from loads and rows to questions, and from there to exit statuses.
 use Rattle.std.proofs.Common.{◌≡◌, ◌∙◌, ◌⊎◌, inl, inr, ℕ, Result, Ok, Err, IfErr, IfOk, IsErrAnd, arith, subst, sym}
 use Rattle.std.specs.Result.{result_map_both}
 use Rattle.nextest_tables.specs.Written.{Name}
@@ -32,7 +32,7 @@ is_about session test found Holds (Ok answer) is zero holds =
     (zero, record { found = found; is_found = is; holds = holds })
 is_about session test found Holds (Err failure) is zero holds = tt
 
--- want of memory is a failure about any profile
+-- a refusal of memory is a failure about any profile
 pub want_reported : {A : Type 0} (session : Session) (profile : Name) (r : Result A Failure)
     → IsErrAnd r (λ failure. failure ≡ failures.Memory) → IfErr r (IsFailureAbout session profile)
 want_reported session profile (Ok answer) is = tt
@@ -44,7 +44,7 @@ pub want_evaluated : {A : Type 0} (session : Session) (profile : Name) (r : Resu
 want_evaluated session profile (Ok answer) is = tt
 want_evaluated session profile (Err failure) is = subst (IsFailureOn session profile) (sym is) tt
 
--- what holds of a failure holds of it where it is told
+-- what holds of a failure holds of it where it is reported
 pub passed_on : {A : Type 0} (P : Failure → Type 0) (r : Result A Failure) (failure : Failure)
     → IsErrAnd r (λ told. told ≡ failure) → P failure → IfErr r P
 passed_on P (Ok answer) failure same is = tt
@@ -70,7 +70,7 @@ fails_in request gathered session (Err failure) begun cause = inr (record {
   cause = cause;
 })
 
--- an answer of status 3 tells that files are refused
+-- a result of status 3 means that files are refused
 refused_in : (q : Question) (session : Session) (report : Report) (n : ℕ) → AnswersQuestion q session report n
     → n ≡ 3 → ¬ AreAccepted session
 refused_in (questions.Explain profile test asked) session report n answers three =
@@ -95,7 +95,7 @@ no_four n (inl zero) four = absurd (omega arith)
 no_four n (inr (inl one)) four = absurd (omega arith)
 no_four n (inr (inr three)) four = absurd (omega arith)
 
--- no answer has status 4
+-- no result has status 4
 lacking_in : {X : Type 0} (q : Question) (session : Session) (report : Report) (n : ℕ)
     → AnswersQuestion q session report n → n ≡ 4 → X
 lacking_in (questions.Explain profile test asked) session report n answers four =

@@ -1,4 +1,4 @@
--- What was asked for, as a report says it.
+-- What was requested, as a report says it.
 use Rattle.std.proofs.Common.{◌≡◌, List, subst, sym}
 use Rattle.filter_language.specs.declared.filterset.Filterset.{Filterset}
 use Rattle.filter_engine.specs.declared.compiling.FieldMatcher.{FieldMatcher}
@@ -16,13 +16,13 @@ use Rattle.rinqebo_report.specs.declared.report.Asked.{Asked}
 use Rattle.rinqebo_report.specs.declared.report.Content.{Content}
 use Rattle.rinqebo_run.specs.Requested.{IsRequestedIn, IsRequestedOf}
 
--- what was asked for is said of a chain by another name
+-- what was requested is said of a chain by another name
 pub requested_on : (session : Session) (profile : Name) (mode : NextestRunMode) (chain names : List Name) (asked : Asked)
     → chain ≡ names → IsRequestedOf session profile mode chain asked → IsRequestedOf session profile mode names asked
 requested_on session profile mode chain names asked same is =
     subst (λ ns. IsRequestedOf session profile mode ns asked) same is
 
--- what was asked for is said by what the files mean
+-- what was requested is said by what the files mean
 pub requested_meant : (session : Session) (profile : Name) (mode : NextestRunMode) (reported content : Content)
     (loaded : Loaded (Filterset FieldMatcher) TargetSpec)
     → IsLoadedFrom (readings session.engines.filters) (files_view session.gathered.now) loaded

@@ -1,4 +1,4 @@
--- What is told of the settings of a test.
+-- What is reported of the settings of a test.
 use Rattle.std.proofs.Common.{◌≡◌, List, string_bytes, subst, sym}
 use Rattle.filter_language.specs.Filtersets.{marks_view}
 use Rattle.filter_language.specs.declared.filterset.Filterset.{Filterset}
@@ -36,7 +36,7 @@ use Rattle.rinqebo_run.specs.ListedBy.{basis_of, explained_by, read_by}
 use Rattle.platform_language.specs.Expressions.{Spec, spec_view}
 use Rattle.platform_language.specs.declared.expression.TargetSpec.{TargetSpec}
 
--- a test is told by a configuration that was loaded
+-- a test is reported by a configuration that was loaded
 pub explained_here : (session : Session) (loaded : Loaded (Filterset FieldMatcher) TargetSpec) (name : Name)
     (test : FoundTest) (rows : RequestedSettings) (asked : ListTest) (basis : Basis)
     (on : EvaluatableModel (Filterset FieldMatcher)) (names : List Name) (told : TestRows)

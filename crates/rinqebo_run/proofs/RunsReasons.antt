@@ -62,7 +62,7 @@ held_verdicts rules found same =
     ap (verdicts_by false) (sym (made_twice (λ rule. rule.facts) filter_rule_view rules)
     ∙ ap (map (λ rule. rule.facts)) same)
 
--- rules that code holds are told as those of a profile
+-- rules that code holds are reported as those of a profile
 reported_found : (layers : List FileLayer) (matches : Bool) (rules : List SettingRule) (found : List FilterRule)
     (given : List RuleVerdict) (told : List Rule) → map filter_rule_view rules ≡ found
     → AreHeldReported layers matches rules given told → AreFilterRulesReported layers matches found given told
@@ -71,7 +71,7 @@ reported_found layers matches rules found given told same all =
     (zip_moved filter_rule_view (λ p. IsFilterRuleReported layers matches (filter_rule_view p.0) p.1)
     (λ p. IsFilterRuleReported layers matches p.0 p.1) (λ r v rule is. is) rules given told all)
 
--- what is told of the overrides that have a default filter, and then of the fallback
+-- what is reported of the overrides that have a default filter, and then of the fallback
 pub runs_here : (layers : List FileLayer) (platforms : BuildPlatforms Platform) (test : FoundTest) (query : TestQuery)
     (default : FilterChoice (Filterset FieldMatcher)) (profile : EarlyModel (Filterset FieldMatcher) TargetSpec)
     (matches : Bool) (held : List SettingRule) (given : List RuleVerdict) (before : List Rule) (fallback : Rule)

@@ -1,4 +1,4 @@
--- What is told of the leaves of a configuration.
+-- What is reported of the leaves of a configuration.
 use Rattle.std.proofs.Common.{◌≡◌, ◌<◌, ◌+◌, ◌∙◌, ℕ, List, [], ◌∷◌, ◌++◌, Bool, Bor, true, false, cond, ap, filter, get_or, length, map, Option, string_bytes, subst, sym, take}
 use Rattle.std.proofs.lemmas.List.{append-nil, map-append, take_more}
 use Rattle.std.proofs.lemmas.List.Elements.{filter-append}
@@ -31,11 +31,11 @@ use Rattle.rinqebo_rules.specs.RulePlaces.{Place}
 use Rattle.rinqebo_run.specs.ListedBy.{read_by}
 use Rattle.rinqebo_run.specs.ShownConfig.{AreShownOf, IsShownBy, ShowsConfig, ReportsLeaf, TellLeaves, shown_status}
 
--- whether a leaf is told
+-- whether a leaf is reported
 abbrev pub tells : Leaf → Bool
 tells leaf = is_tellable leaf.value
 
--- a leaf is told at the end
+-- a leaf is reported at the end
 ended : (leaves : List Leaf) (leaf : Leaf) (b : Bool) → tells leaf ≡ b
     → filter tells (leaves ++ leaf ∷ []) ≡ filter tells leaves ++ cond b (leaf ∷ []) []
 ended leaves leaf b told =
@@ -49,7 +49,7 @@ next_leaf found n m leaf within at next =
     ∙ map-append leaf_view (take n found) (get_or found n leaf ∷ [])
     ∙ ap (λ l. map leaf_view (take n found) ++ leaf_view l ∷ []) (sym at)
 
--- one leaf more that is told
+-- one leaf more that is reported
 pub reported_more : (found : List Found) (n m : ℕ) (leaf : Found) (old new : List Entry) (entry : Entry)
     → n < length found → leaf ≡ get_or found n leaf → m ≡ n + 1 → TellLeaves (map leaf_view (take n found)) old
     → ReportsLeaf (leaf_view leaf) entry → new ≡ old ++ entry ∷ [] → TellLeaves (map leaf_view (take m found)) new
@@ -71,7 +71,7 @@ reported_less found n m leaf old new within at next before none kept =
     ∙ ended leaves (leaf_view leaf) false none ∙ append-nil (filter tells leaves) in
     subst (λ ls. AllZip ReportsLeaf ls new) (sym same) (subst (AllZip ReportsLeaf (filter tells leaves)) (sym kept) before)
 
--- what is asked for of layers, a place and a chain by other names
+-- what is requested of layers, a place and a chain by other names
 pub shown_at : (keys : List (Bor (List ℕ))) (with_hidden : Bool) (layers others : List FileLayer)
     (chain names : List (Bor (List ℕ))) (place there : Option Place) (entries : List Entry)
     → layers ≡ others → chain ≡ names → place ≡ there

@@ -22,7 +22,7 @@ use Rattle.rinqebo_request.specs.declared.request.Question.TheVariants as questi
 use Rattle.rinqebo_request.specs.declared.request.Request.{Request}
 use Rattle.rinqebo_load.specs.declared.session.Session.{Session}
 
--- an answer is not want of memory
+-- a result is not a refusal of memory
 no_five : (q : Question) → IsAnswerStatus q 5 → ⊥
 no_five (questions.Explain profile test asked) is = omega arith
 no_five (questions.Why profile test setting) is = omega arith
@@ -34,7 +34,7 @@ no_five (questions.Check deny_warnings) (inl is) = omega arith
 no_five (questions.Check deny_warnings) (inr (inl is)) = omega arith
 no_five (questions.Check deny_warnings) (inr (inr is)) = omega arith
 
--- an answer is not a write that failed
+-- a result is not a write that failed
 no_six : (q : Question) → IsAnswerStatus q 6 → ⊥
 no_six (questions.Explain profile test asked) is = omega arith
 no_six (questions.Why profile test setting) is = omega arith
@@ -46,7 +46,7 @@ no_six (questions.Check deny_warnings) (inl is) = omega arith
 no_six (questions.Check deny_warnings) (inr (inl is)) = omega arith
 no_six (questions.Check deny_warnings) (inr (inr is)) = omega arith
 
--- an answer is no fault of engines
+-- a result is not a fault of engines
 no_two : (q : Question) → IsAnswerStatus q 2 → ⊥
 no_two (questions.Explain profile test asked) is = omega arith
 no_two (questions.Why profile test setting) is = omega arith
@@ -58,7 +58,7 @@ no_two (questions.Check deny_warnings) (inl is) = omega arith
 no_two (questions.Check deny_warnings) (inr (inl is)) = omega arith
 no_two (questions.Check deny_warnings) (inr (inr is)) = omega arith
 
--- an answer is no missing profile
+-- a result is not a missing profile
 no_four : (q : Question) → IsAnswerStatus q 4 → ⊥
 no_four (questions.Explain profile test asked) is = omega arith
 no_four (questions.Why profile test setting) is = omega arith
@@ -81,7 +81,7 @@ no_three (questions.ShowConfig profile keys with_hidden) session report cause (i
 no_three (questions.ShowConfig profile keys with_hidden) session report cause (inr is) = omega arith
 no_three (questions.Check deny_warnings) session report cause is = cause
 
--- a failure is no answer
+-- a failure is not a result
 no_failure : (request : Request) (gathered : Gathered) (f : Failure) → Fails request gathered f
     → IsAnswerStatus request.question (failure_status f) → ⊥
 no_failure request gathered (failures.Engines fault) fails is = no_two request.question is
@@ -99,7 +99,7 @@ reported_same q n m (inl same) is = same
 reported_same q n m (inr (inl five)) is = absurd (no_five q (subst (IsAnswerStatus q) five is))
 reported_same q n m (inr (inr six)) is = absurd (no_six q (subst (IsAnswerStatus q) six is))
 
--- an answer goes out whole
+-- a result is written whole
 pub reported_page : (q : Question) (n : ℕ) {X : Type 0} → (n ≡ 5) ⊎ (n ≡ 6) ⊎ X → IsAnswerStatus q n → X
 reported_page q n (inl five) is = absurd (no_five q (subst (IsAnswerStatus q) five is))
 reported_page q n (inr (inl six)) is = absurd (no_six q (subst (IsAnswerStatus q) six is))

@@ -100,7 +100,7 @@ one_more head paper tests more rows lines old mid new are shown before after =
     ∙ ap (tests_text head paper) (sym are))
     (Appends-trans old mid new (tests_text head paper tests) lines before after)
 
--- what is asked went out, then the tests, and then what stands behind them
+-- what is asked went out, then the tests, and then what is behind them
 pub whole_page : (head : Report) (paper : Paper) (asked : Asked) (tests : List TestRows) (unused : List Origin)
     (count : ℕ) (old first mid new : Option (List ℕ)) → count ≡ length tests
     → Appends old first (page_text paper.colour (list_head_runs paper.columns asked))

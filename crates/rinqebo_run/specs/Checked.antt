@@ -18,14 +18,14 @@ is_error_level levels.Warning = false
 abbrev pub is_error : Finding → Bool
 is_error finding = is_error_level finding.level
 
--- The status of a check whose load accepts: 1 exactly where a finding is an error, or there is one
+-- The status of a check whose load accepts: 1 exactly if a finding is an error, or there is one
 -- and warnings are denied.
 abbrev pub accepted_status : Bool → List Finding → ℕ
 accepted_status denies findings =
     if list_any is_error findings || (denies && not (length findings == 0)) then 1 else 0
 
--- The status of a check: 3 only where some rule does not hold of the files, and then the report
--- shows all that is wrong with their values; and another one only where all rules hold, which the
+-- The status of a check: 3 only if some rule does not hold of the files, and then the report
+-- shows all that is wrong with their values; and another one only if all rules hold, which the
 -- findings of the report decide.
 pub record IsCheckStatus (session : Session) (denies : Bool) (report : Report) (status : ℕ)
     : Type 0 where

@@ -91,8 +91,8 @@ pub record LackTestFor (request : Request) (gathered : Gathered) : Type 0 where
   pub begun : IsSessionOf request gathered session
   pub lacks : LacksTestOf session request.question
 
--- What an exit status says of files: it is 3 only where some written rule does not hold of them,
--- and 4 only where all do and the files lack the requested profile, or where there is no requested
+-- What an exit status says of files: it is 3 only if some written rule does not hold of them,
+-- and 4 only if all do and the files lack the requested profile, or where there is no requested
 -- test.
 pub record IsReportedBy (request : Request) (gathered : Gathered) (status : ℕ) : Type 0 where
   pub refused : status ≡ 3 → AreRefusedFor request gathered

@@ -32,7 +32,7 @@ IsAnswerStatus (questions.Check deny_warnings) n = (n ≡ 0) ⊎ (n ≡ 1) ⊎ (
 -- The exit status of a run of a request: that of a result, 0, or 1 for warnings that the user
 -- denies and where no leaf is found; or 2 for a list of tests, platforms or metadata that are not
 -- understood, or several tests of the name, 3 where files are refused, 4 where there is no such
--- profile or test, 5 for want of memory, and 6 where a write failed.
+-- profile or test, 5 if memory ran out, and 6 where a write failed.
 abbrev pub IsStatus : Question → ℕ → Type 0
 IsStatus question n = IsAnswerStatus question n ⊎ ((2 ≤ n) × (n ≤ 6))
 

@@ -65,6 +65,6 @@ pub fn id_note(
     }
     let binary = test.binary.as_str();
     Ok(Some(format!(in alloc;
-        "note: kind, name and package of `{binary}` are read from its id, and these filters ask for them: {places}; `--list FILE` or `--metadata FILE` says them\n"
+        "note: kind, name and package of `{binary}` are read from its id, and these filters use them: {places}; give `--list FILE` or `--metadata FILE`\n"
     )?))
 }

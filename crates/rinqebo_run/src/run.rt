@@ -333,7 +333,7 @@ fn answer_list<O: Write, E: Write>(
 /// Runs a request over the files that it names, and returns the exit status: 0, or 1 for warnings
 /// that the user denies and where no leaf is found, 2 for platforms and metadata that are not
 /// understood and for several tests of the name, 3 where the files are refused, 4 where there is no
-/// such profile or test, 5 for want of memory, 6 where a write fails. Standard output receives
+/// such profile or test, 5 if memory ran out, 6 where a write fails. Standard output receives
 /// nothing where a run refuses, but for the findings of a check, and where the output is JSON for a
 /// document of why the files are refused, a profile or a test is missing, or several tests have the
 /// name.

@@ -323,7 +323,7 @@ pub const DOCUMENT_SCHEMA: &str = r##"{
       "additionalProperties": false
     },
     "run": {
-      "description": "What a profile says for a whole run.",
+      "description": "The values of a profile for a whole run.",
       "type": "object",
       "required": [
         "default-filter", "final-status-level", "global-timeout", "inherits", "junit", "max-fail",
@@ -462,7 +462,7 @@ pub const DOCUMENT_SCHEMA: &str = r##"{
     "count": { "type": "integer", "minimum": 0 },
     "key": { "description": "A key, as files spell it.", "type": "string" },
     "code": { "type": "string", "pattern": "^[a-z]+(-[a-z]+)*$" },
-    "ignored": { "description": "LIST says that the test is ignored.", "const": true },
+    "ignored": { "description": "LIST marks the test as ignored.", "const": true },
     "platform": { "enum": ["host", "target"] },
     "mode": { "enum": ["test", "benchmark"] },
     "condition": { "enum": ["absent", "yes", "no", "unknown", "unasked"] },

@@ -13,7 +13,7 @@ failure_of request asked reads (failures.Engines fault) fails = (asked, reads, f
 failure_of request asked reads (failures.Refused error) fails = (asked, reads, fails)
 failure_of request asked reads failures.Memory fails = tt
 
--- an answer of what is understood
+-- a result of what is understood
 pub failures_of : {T : Type 0} (request : List ℕ) (asked : RequestText) → request_of request ≡ Some asked
     → (answer : Result T Failure) → IfErr answer (IsFailureBy asked) → IfErr answer (IsFailureOf request)
 failures_of request asked reads (Ok loaded) fails = tt

@@ -53,11 +53,11 @@ pub record IsTestOf (asked : CallerTest) (test : Test) (mode : NextestRunMode) :
   pub binary : test.binary ≡ binary_of asked test.binary.platform
   pub name : test.name ≡ asked.name.now
 
--- bytes are no text, and that is the fault
+-- bytes are not text, and that is the fault
 abbrev pub IsNoText : List ℕ → TestFault → Type 0
 IsNoText bytes fault = (fault ≡ NotText) × (¬ IsUtf8 bytes)
 
--- some bytes of a test's binary are no text, and that is the fault
+-- some bytes of a test's binary are not text, and that is the fault
 abbrev pub IsBytesFault : CallerTest → TestFault → Type 0
 IsBytesFault asked fault =
     IsNoText asked.package.now fault ⊎ IsNoText asked.binary.now fault

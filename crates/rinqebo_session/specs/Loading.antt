@@ -110,7 +110,7 @@ FailsUnderstood request failure =
     (asked : RequestText) × (request_of request ≡ Some asked) × IsFailureBy asked failure
 
 -- why the bytes of a request have no configuration: they are not valid UTF-8, they are not
--- understood, or the load fails; want of memory aside
+-- understood, or the load fails, unless memory runs out
 abbrev pub IsFailureOf : List ℕ → Failure → Type 0
 IsFailureOf request failures.NotText = ¬ IsUtf8 request
 IsFailureOf request (failures.Request fault) = fault ≢ request_memory → request_of request ≡ None

@@ -73,7 +73,7 @@ pub record IsOpened (loaded : Loaded) (name : Name) (opened : Opened) : Type 0 w
   pub objects : IsObjectsText loaded opened.profile.facts opened.profile.default_filter.text
       (string_bytes opened.objects)
 
--- why a configuration has no profile of a name: it is none of its profiles; want of memory aside
+-- why a configuration has no profile of a name: it is none of its profiles, unless memory runs out
 abbrev pub IsNotOpened : Loaded → Name → OpenFailure → Type 0
 IsNotOpened loaded name opens.NotLoaded = ⊥
 IsNotOpened loaded name opens.NotText = ⊥
@@ -91,8 +91,8 @@ abbrev pub IsEmpty : Result Loaded Failure → Type 0
 IsEmpty (Ok loaded) = ⊥
 IsEmpty (Err failure) = Unit {0}
 
--- why a session gives no profile: it is empty, the name is no text, or there is none of the name;
--- want of memory aside
+-- why a session gives no profile: it is empty, the name is not a text, or there is none of the
+-- name, unless memory runs out
 abbrev pub IsOpenFailure : Session → Name → OpenFailure → Type 0
 IsOpenFailure session name opens.NotLoaded = IsEmpty session.outcome
 IsOpenFailure session name opens.NotText = ¬ IsUtf8 name

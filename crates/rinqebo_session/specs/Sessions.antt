@@ -13,7 +13,7 @@ abbrev pub IsSessionOf : List ℕ → Session → Type 0
 IsSessionOf request session =
     MatchResult session.outcome (IsLoadedFrom request) (IsFailureOf request)
 
--- a session holds a failure, or want of memory in its place
+-- a session holds a failure, or a refusal of memory in its place
 abbrev pub MayFailFor : Failure → Session → Type 0
 MayFailFor failure session =
     (session.outcome ≡ Err failure) ⊎ (session.outcome ≡ Err Memory)

@@ -23,7 +23,7 @@ engine_status (engines.Metadata fault) = NO_ENGINES
 engine_status (engines.Platform triple fault) = NO_ENGINES
 engine_status engines.Memory = MEMORY
 
--- the number of what a session lacks; a refusal of no file is want of memory
+-- the number of what a session lacks; a refusal of no file is a refusal of memory
 abbrev pub failure_status : Failure → ℕ
 failure_status failures.NotText = NOT_TEXT
 failure_status (failures.Request fault) = request_status fault

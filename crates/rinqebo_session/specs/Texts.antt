@@ -8,7 +8,7 @@ use Rattle.rinqebo_session.specs.declared.profile.Opened.{Opened}
 use Rattle.rinqebo_session.specs.declared.profile.Profile.{Profile}
 use Rattle.rinqebo_session.specs.declared.status.TheConstants.{DONE, UNKNOWN_NUMBER}
 
--- a profile holds why it is not open, or want of memory in its place
+-- a profile holds why it is not open, or a refusal of memory in its place
 abbrev pub MayNotOpenFor : OpenFailure → Profile → Type 0
 MayNotOpenFor failure profile = (profile.outcome ≡ Err failure) ⊎ (profile.outcome ≡ Err Memory)
 

@@ -102,7 +102,7 @@ impl Failure {
 #[derive(Debug, Drop, Error)]
 pub enum OpenFailure {
     /// The session holds no configuration.
-    #[error("the session holds no configuration")]
+    #[error("the session has no configuration")]
     NotLoaded,
     /// The name is not valid UTF-8.
     #[error("the name of the profile is not valid UTF-8")]

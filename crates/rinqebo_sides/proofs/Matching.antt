@@ -20,7 +20,7 @@ use Rattle.rinqebo_sides.proofs.Zips.{taken_read}
 abbrev pub is_it : ListTest → ListedTest → Bool
 is_it test one = same_test (list_test_view one) test
 
--- a test is in a list as it is read exactly where it is in the list
+-- a test is in a list as it is read exactly if it is in the list
 any_viewed : (test : ListTest) (tests : List ListedTest) → list_any (is_it test) tests ≡ is_in (map list_test_view tests) test
 any_viewed test [] = refl
 any_viewed test (t ∷ ts) = ap (λ b. is_it test t || b) (any_viewed test ts)

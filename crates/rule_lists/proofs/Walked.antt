@@ -128,7 +128,7 @@ module _ {R : Type 0} (met : R → Bool) where
         rw (both.0, unlisted tests both.1)
         (elim (none before t) as (λ b. (b && false) || false ≡ false) [ true ↦ refl | false ↦ refl ])
 
-    -- a rule that is wanted stands in some list
+    -- a rule that is wanted is in some list
     pub listed : (tests : List (R → Bool)) → is_wanted met tests before r ≡ true → IsTrue (list_any (λ t. t r) tests)
     listed tests e = go (list_any (λ t. t r) tests) refl where
       clash : true ≡ false → ⊥

@@ -2,7 +2,7 @@
 use Rattle.std.specs.Prelude.{◌≡◌, ◌<◌, ◌≤◌, ◌↔◌, ◌+◌, ◌&&◌, ℕ, Bool, true, Contains, IsTrue, Option, Some, is_none, slice_get, List, [], ◌∷◌, ◌++◌, map, find, if◌then◌else◌}
 use Rattle.std.specs.List.{list_any}
 
--- a rule that passes a test stands at a number, where rules are counted on from the first number
+-- a rule that passes a test is at a number, where rules are counted on from the first number
 abbrev pub StandsAt : {R : Type 0} → (R → Bool) → (first : ℕ) → List R → ℕ → Type 0
 StandsAt {R} test first rules n =
     (k : ℕ) × (r : R) × (n ≡ first + k) × (slice_get rules k ≡ Some r) × (test r ≡ true)
@@ -13,13 +13,13 @@ Rises least [] = Unit {0}
 Rises least (n ∷ ns) = (least ≤ n) × Rises (n + 1) ns
 
 -- Numbers are the rising list of the rules that pass a test: they rise strictly, and a number is
--- among them exactly where such a rule stands.
+-- among them exactly if there is such a rule.
 pub record IsListOf {R : Type 0} (test : R → Bool) (first : ℕ) (rules : List R)
     (numbers : List ℕ) : Type 0 where
   pub rising : Rises first numbers
   pub exact : (n : ℕ) → Contains numbers n ↔ StandsAt test first rules n
 
--- each rule in some list has an answer
+-- each rule in some list has a known value
 abbrev pub HaveAnswers : {R : Type 0} → List (R → Bool) → (R → Type 0) → List R → Type 0
 HaveAnswers {R} tests has_answer rules = (k : ℕ) (r : R) → slice_get rules k ≡ Some r
     → IsTrue (list_any (λ test. test r) tests) → has_answer r

@@ -1,4 +1,4 @@
--- Rows: the rules that stand in some list, each with its lists as bits.
+-- Rows: the rules that are in some list, each with its lists as bits.
 use Rattle.std.specs.Prelude.{ℕ, ◌+◌, ◌*◌, ◌/◌, ◌%◌, ◌==◌, Bool, Option, Some, List, [], ◌∷◌, map, if◌then◌else◌}
 use Rattle.std.specs.Int.{bit_at}
 use Rattle.std.specs.List.{list_any}
@@ -9,11 +9,11 @@ abbrev pub bits_of : List Bool → ℕ
 bits_of [] = 0
 bits_of (b ∷ bs) = bits_of bs * 2 + (if b then 1 else 0)
 
--- the lists that a rule stands in
+-- the lists that a rule is in
 abbrev pub lists_of : {R : Type 0} → List (R → Bool) → R → ℕ
 lists_of tests r = bits_of (map (λ test. test r) tests)
 
--- the lists that some rule stands in
+-- the lists that some rule is in
 abbrev pub lists_in : {R : Type 0} → List (R → Bool) → List R → ℕ
 lists_in tests rules = bits_of (map (λ test. list_any test rules) tests)
 
@@ -22,7 +22,7 @@ abbrev pub row_of : {R : Type 0} → List (R → Bool) → ℕ → R → List R 
 row_of tests n r rules =
     record { number = n; lists = lists_of tests r; later = lists_in tests (r ∷ rules) }
 
--- the rows of the rules that stand in some list, numbered on from n
+-- the rows of the rules that are in some list, numbered on from n
 abbrev pub rows_of : {R : Type 0} → List (R → Bool) → ℕ → List R → List Row
 rows_of tests n [] = []
 rows_of tests n (r ∷ rules) =

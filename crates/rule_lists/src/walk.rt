@@ -22,7 +22,7 @@ pub trait Query<R> {
     /// Whether the filter of a rule holds, if it has one.
     ghost met: { Self → R → Bool };
 
-    /// Whether the filter of a rule has an answer for the query.
+    /// Whether the filter of a rule has a known value for the query.
     ghost has_answer: { Self → R → Type 0 };
 
     /// Whether the filter of a rule holds, if it has one. It is evaluated once.

@@ -35,7 +35,7 @@ pub(crate) use once_more;
 
 /// The lines of a report, of which those are kept that are shown.
 ///
-/// Want of memory is kept too, and returned at the end in place of the lines.
+/// A refusal of memory is kept too, and returned at the end in place of the lines.
 #[derive(Drop)]
 pub struct Lines<'a> {
     text: String,

@@ -112,7 +112,7 @@ join_one h between (y ∷ xs) x filled =
     ∙ ap (λ l. flat_map (λ z. between ++ h z) xs ++ l) (append-nil (between ++ h x)))
     ∙ sym (append_assoc (h y) (flat_map (λ z. between ++ h z) xs) (between ++ h x))
 
--- What stands behind the last list changes the last list alone.
+-- What is behind the last list changes the last list alone.
 last_more : (complete : Filter) (last more : List Term) (behind : List ℕ) → terms_text more ≡ terms_text last ++ behind
     → filter_text (complete ++ more ∷ []) ≡ filter_text (complete ++ last ∷ []) ++ behind
 last_more [] last more behind e =

@@ -23,7 +23,7 @@ after_is (c ∷ prefix) (d ∷ text) rest e =
       | inr other ↦ absurd (let none : None ≡ Some rest = rw other.0 at e in cc)
     ]
 
--- A text that is no prefix and a rest has nothing after the prefix.
+-- A text that is not a prefix and a rest has nothing after the prefix.
 pub after_none : (prefix text : List ℕ) → ((rest : List ℕ) → text ≡ prefix ++ rest → ⊥)
     → after_prefix prefix text ≡ None
 after_none prefix text none =
@@ -54,7 +54,7 @@ has_part_first : (part text : List ℕ) → is_some (after_prefix part text) ≡
 has_part_first part [] e = e
 has_part_first part (c ∷ text) e = ap (λ b. b || has_part part text) e
 
--- A part that stands in a text is found.
+-- A part that is in a text is found.
 has_part_between : (part before behind : List ℕ) → has_part part (before ++ (part ++ behind)) ≡ true
 has_part_between part [] behind = has_part_first part (part ++ behind) (ap is_some (after_own part behind))
 has_part_between part (c ∷ before) behind =
@@ -66,14 +66,14 @@ begins : (part text : List ℕ) (found : Option (List ℕ)) → after_prefix par
 begins part text None e is = absurd (cc)
 begins part text (Some rest) e _ = ([], rest, after_is part text rest e)
 
--- What is found in a text with one more byte in front stands at its front or further on.
+-- What is found in a text with one more byte in front is at its front or further on.
 stands_on : (part text : List ℕ) (c : ℕ) (first : Bool) → is_some (after_prefix part (c ∷ text)) ≡ first
     → (has_part part text ≡ true → HasSubslice text part) → (first || has_part part text) ≡ true
     → HasSubslice (c ∷ text) part
 stands_on part text c true is further e = begins part (c ∷ text) _ refl is
 stands_on part text c false is further e = let found = further e in (c ∷ found.0, found.1, ap (λ l. c ∷ l) found.2)
 
--- What is found stands in the text.
+-- What is found is in the text.
 has_part_stands : (part text : List ℕ) → has_part part text ≡ true → HasSubslice text part
 has_part_stands part [] e = begins part [] _ refl e
 has_part_stands part (c ∷ text) e = stands_on part text c _ refl (has_part_stands part text) e

@@ -1,4 +1,4 @@
--- A default filter with no part that only a test can answer has an answer for each binary.
+-- A default filter with no part that only a test can decide has a known value for each binary.
 use Rattle.std.proofs.Common.{◌≡◌, ℕ, zero, suc, Bool, true, false, ◌||◌, List, [], ◌∷◌, ◌++◌, Option, None, Some, Result, Ok, Err, IsSome, option_map, not, refl, sym, ◌∙◌, ap}
 use Rattle.std.specs.List.{fold, list_any, flat_map}
 use Rattle.nextest_engines.specs.Engines.{Binary}
@@ -84,7 +84,7 @@ known_lists s default (terms ∷ filter) value none other is =
     (back_false others (asks_default filter) other)
     (known_or_known value (terms_value s default terms) is first)
 
--- A default filter does not ask for the default filter.
+-- A default filter does not use the default filter.
 asks_nothing : (asks : Bool) (text : List ℕ) (read filter : Filter) → asks_default read ≡ asks
     → read_for DefaultFilter text (Ok read) ≡ Ok filter → asks_default filter ≡ false
 asks_nothing true text read filter e is =

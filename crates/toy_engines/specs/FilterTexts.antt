@@ -134,7 +134,7 @@ abbrev pub unless_broken : {X : Type 0} → List ℕ → (X → Result Filter (L
 unless_broken piece next None = Err piece
 unless_broken piece next (Some x) = next x
 
--- The filter so far, where nothing stands behind the last `)`; else what stands there.
+-- The filter so far, where nothing is behind the last `)`; else what is there.
 abbrev pub filter_at_end : SoFar → List ℕ → Result Filter (List ℕ)
 filter_at_end s [] = Ok (filter_so_far s)
 filter_at_end s (c ∷ piece) = Err (c ∷ piece)
@@ -165,7 +165,7 @@ filter_in_pieces (piece ∷ next ∷ more) =
 abbrev pub filter_in : List ℕ → Result Filter (List ℕ)
 filter_in text = filter_in_pieces (pieces text)
 
--- What a text is read as, of what stands in memory.
+-- What a text is read as, of what is in memory.
 abbrev pub reading_view : Reading → Result Filter (List ℕ)
 reading_view (TheFilter lists) = Ok (lists_of lists.items)
 reading_view (BreaksAt piece) = Err piece.now

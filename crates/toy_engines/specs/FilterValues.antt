@@ -11,7 +11,7 @@ use Rattle.toy_engines.specs.declared.expr.ToyExpr.{ToyExpr}
 use Rattle.toy_engines.specs.declared.expr.ToyExpr.TheVariants.{Everything, AnyOf}
 use Rattle.toy_engines.specs.declared.expr.Subject as subject
 
--- What a filter asks of a test or a binary.
+-- What a filter tests of a test or a binary.
 pub data Atom : Type 0 where
   Always : Atom
   Never : Atom
@@ -28,7 +28,7 @@ pub record Term : Type 0 where
 abbrev pub Filter : Type 0
 Filter = List (List Term)
 
--- What a leaf asks.
+-- What a leaf tests.
 abbrev pub atom_of : Leaf → Atom
 atom_of All = Always
 atom_of Nothing = Never
@@ -47,7 +47,7 @@ terms_of terms = map term_of terms.items
 abbrev pub lists_of : List (Vec term.Term Global) → Filter
 lists_of lists = map terms_of lists
 
--- The filter that asks nothing.
+-- The filter that tests nothing.
 abbrev pub match_all : Filter
 match_all = (record { negations = 0; atom = Always } ∷ []) ∷ []
 
@@ -56,12 +56,12 @@ abbrev pub filter_of : ToyExpr → Filter
 filter_of Everything = match_all
 filter_of (AnyOf alternatives) = lists_of alternatives.items
 
--- A filter is asked about a binary, and perhaps one of its tests.
+-- A filter is evaluated at a binary, and perhaps at one of its tests.
 pub record Subject : Type 0 where
   pub binary_id : List ℕ
   pub test_name : Option (List ℕ)
 
--- What an evaluation is asked about.
+-- What a filter is evaluated at.
 abbrev pub subject_of : subject.Subject → Subject
 subject_of s =
     record { binary_id = s.binary_id.now; test_name = option_map (λ name. name.now) s.test_name }

@@ -6,11 +6,11 @@ use Rattle.nextest_engines.specs.declared.queries.FiltersetKind.TheVariants.{Def
 use Rattle.toy_engines.specs.FilterValues.{Atom, AsTheDefault, NameHas, Term, Filter, Subject, filter_value}
 use Rattle.toy_engines.specs.FilterTexts.{filter_in, atom_text}
 
--- A filter is asked about a test by the test's name and the id of its binary.
+-- A filter is evaluated at a test by the test's name and the id of its binary.
 abbrev pub test_subject : engines.Test → Subject
 test_subject test = record { binary_id = test.binary.binary_id; test_name = Some test.name }
 
--- A filter is asked about a binary by its id alone.
+-- A filter is evaluated at a binary by its id alone.
 abbrev pub binary_subject : engines.Binary → Subject
 binary_subject binary = record { binary_id = binary.binary_id; test_name = None }
 
@@ -27,12 +27,12 @@ filter_matches filter test default =
 abbrev pub filter_holds_binary : Filter → engines.Binary → Filter → Option Bool
 filter_holds_binary filter binary default = value_beside (binary_subject binary) default filter
 
--- An atom that only a test can answer, as it is written.
+-- An atom that only a test can decide, as it is written.
 abbrev pub atom_leaves : Atom → List (List ℕ)
 atom_leaves (NameHas part) = atom_text (NameHas part) ∷ []
 atom_leaves _ = []
 
--- The parts of a term, and of a filter, that only a test can answer, from left to right.
+-- The parts of a term, and of a filter, that only a test can decide, from left to right.
 abbrev pub term_leaves : Term → List (List ℕ)
 term_leaves t = atom_leaves t.atom
 
@@ -47,7 +47,7 @@ is_default_atom _ = false
 abbrev pub is_default_term : Term → Bool
 is_default_term t = is_default_atom t.atom
 
--- Whether a filter asks for the default filter.
+-- Whether a filter uses the default filter.
 abbrev pub asks_default : Filter → Bool
 asks_default filter = list_any (λ terms. list_any is_default_term terms) filter
 
@@ -61,7 +61,7 @@ default_in_default text =
     codes "`" ++ text ++ codes "` asks for the default filter, which a default filter may not"
 
 -- What a text means that is read for a kind, by the filter that it writes or the piece at which it
--- breaks: a default filter may not ask for itself.
+-- breaks: a default filter may not use itself.
 abbrev pub read_for : FiltersetKind → List ℕ → Result Filter (List ℕ) → Result Filter (List ℕ)
 read_for kind text (Err piece) = Err (no_filter text piece)
 read_for DefaultFilter text (Ok filter) =

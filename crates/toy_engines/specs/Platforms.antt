@@ -6,7 +6,7 @@ use Rattle.toy_engines.specs.Texts.{after_prefix, has_part}
 use Rattle.toy_engines.specs.declared.platforms.ToySpec.{ToySpec}
 use Rattle.toy_engines.specs.declared.platforms.ToySpec.TheVariants.{Unix, Windows, Linux, MacOs, OtherCfg, Triple}
 
--- What a platform spec asks of a triple.
+-- What a platform spec tests of a triple.
 pub data Platforms : Type 0 where
   OnUnix : Platforms
   OnWindows : Platforms
@@ -15,7 +15,7 @@ pub data Platforms : Type 0 where
   NotKnown : Platforms
   OnTriple : List ℕ → Platforms
 
--- What a spec in memory asks.
+-- What a spec in memory tests.
 abbrev pub platforms_of : ToySpec → Platforms
 platforms_of Unix = OnUnix
 platforms_of Windows = OnWindows
@@ -28,7 +28,7 @@ platforms_of (Triple triple) = OnTriple (string_bytes triple)
 abbrev pub is_cfg : List ℕ → Bool
 is_cfg text = is_some (after_prefix (codes "cfg(") text) && ends_with eqb text (codes ")")
 
--- Whether a byte may stand in a triple: a letter or a digit of ASCII, `_`, `-` or `.`.
+-- Whether a byte may be in a triple: a letter or a digit of ASCII, `_`, `-` or `.`.
 abbrev pub is_triple_byte : ℕ → Bool
 is_triple_byte c = is_ascii_alphanumeric c || ((c == 95) || ((c == 45) || (c == 46)))
 
@@ -36,13 +36,13 @@ is_triple_byte c = is_ascii_alphanumeric c || ((c == 95) || ((c == 45) || (c == 
 abbrev pub is_triple : List ℕ → Bool
 is_triple text = not (length text == 0) && list_all is_triple_byte text
 
--- What a text asks that is no `cfg` of a known name.
+-- What a text tests that is not a `cfg` of a known name.
 abbrev pub other_spec : List ℕ → Option Platforms
 other_spec text =
     if is_cfg text then Some NotKnown else
     (if is_triple text then Some (OnTriple text) else None)
 
--- What a text asks of a triple.
+-- What a text tests of a triple.
 abbrev pub spec_in : List ℕ → Option Platforms
 spec_in text =
     if bytes_eq text (codes "cfg(unix)") then Some OnUnix else

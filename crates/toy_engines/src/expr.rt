@@ -11,7 +11,7 @@ pub enum Leaf {
     All,
     /// `none()`, which doesn't hold.
     Nothing,
-    /// `default()`, which stands for the default filter.
+    /// `default()`, which means the default filter.
     Default,
     /// `test(T)`, which holds where T is a part of the test's name.
     Test(String),

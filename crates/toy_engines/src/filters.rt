@@ -82,7 +82,7 @@ fn any_has_default(lists: &[Vec<Term>]) -> bool
     lists.iter().any(|terms| has_default(terms))
 }
 
-/// Adds the leaves of some terms that only a test can answer.
+/// Adds the leaves of some terms that only a test can decide.
 fn with_leaves(alloc: Global, found: Vec<String>, terms: &[Term]) -> Result<Vec<String>, AllocError>
     ensures { IfOk result (λ all. map string_bytes all.items
         ≡ map string_bytes found.items ++ flat_map term_leaves (map term_of terms.now)) }
@@ -111,7 +111,7 @@ fn no_filter(alloc: Global, text: &str, piece: &str) -> FilterFault
     }
 }
 
-/// The refusal of a default filter that asks for itself.
+/// The refusal of a default filter that uses itself.
 fn default_in_default(alloc: Global, text: &str) -> FilterFault
     ensures message { IfFilterRefused result
         (λ refusal. refusal_message refusal ≡ messages.default_in_default text.now) }
@@ -129,7 +129,7 @@ fn default_in_default(alloc: Global, text: &str) -> FilterFault
     }
 }
 
-/// The filter of the lists of terms that a text writes, unless a default filter asks for itself.
+/// The filter of the lists of terms that a text writes, unless a default filter uses itself.
 #[tactic(auto, using(crate::proofs::Lists::asks_default_by_terms))]
 fn for_kind(
     alloc: Global,

@@ -118,7 +118,7 @@ fn read_joined(
     Ok(Some(Alternatives { complete, last }))
 }
 
-/// What stands before the first `)` of a text, and behind it.
+/// What is before the first `)` of a text, and behind it.
 fn cut(text: &str) -> Option<(&str, &str)>
     ensures parts { MatchOption result (pieces text.now ≡ text.now ∷ [])
         (λ parts. pieces text.now ≡ parts.0.now ∷ pieces parts.1.now) }

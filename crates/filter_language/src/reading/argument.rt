@@ -90,7 +90,7 @@ fn escape(text: &str) -> Option<(char, &str)>
     unicode_escape(text)
 }
 
-/// Adds what stands up to the next escape of a text, and the escape.
+/// Adds what is in front of the next escape of a text, and the escape.
 fn grow_text<'a>(text: &mut String, rest: &'a str) -> Result<Progress<'a>, Stop<'a>>
     ensures value { IfOk result (λ progress. text_turn (string_bytes text.old) rest.now
         ≡ Ok (turn_view (string_bytes text.new) progress)) }
@@ -149,7 +149,7 @@ pub fn read_text<'a>(alloc: Global, start: &'a str) -> Result<Body<'a>, Stop<'a>
     }
 }
 
-/// Adds what stands up to the next `\/` or other `\` of a regex, and that.
+/// Adds what is in front of the next `\/` or other `\` of a regex, and that.
 fn grow_regex<'a>(text: &mut String, rest: &'a str) -> Result<Progress<'a>, Stop<'a>>
     ensures value { IfOk result (λ progress. regex_turn (string_bytes text.old) rest.now
         ≡ Ok (turn_view (string_bytes text.new) progress)) }
@@ -171,7 +171,7 @@ fn grow_regex<'a>(text: &mut String, rest: &'a str) -> Result<Progress<'a>, Stop
     Ok(Progress::Ended(end))
 }
 
-/// A regex that ends at a place, where its closing `/` stands.
+/// A regex that ends at a place, where its closing `/` is.
 fn slashed<'a>(text: String, start: &'a str, end: &'a str) -> Result<Body<'a>, Stop<'a>>
     ensures value { IfOk result (λ body.
         slashed_regex start.now (Ok (string_bytes text, end.now)) ≡ Ok (body_view body)) }

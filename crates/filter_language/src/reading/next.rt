@@ -32,7 +32,7 @@ pub struct Next<'a, M> {
     pub rest: &'a str,
 }
 
-/// Why a test group may not stand in a filter of a kind.
+/// Why a test group may not be in a filter of a kind.
 fn banned_group(kind: FiltersetKind) -> FaultKind
     ensures { result ≡ group_ban kind }
 {
@@ -43,7 +43,7 @@ fn banned_group(kind: FiltersetKind) -> FaultKind
     }
 }
 
-/// Why `default()` may not stand in a filter of a kind.
+/// Why `default()` may not be in a filter of a kind.
 fn banned_default(kind: FiltersetKind) -> Option<FaultKind>
     ensures { result ≡ default_ban kind }
 {
@@ -55,7 +55,7 @@ fn banned_default(kind: FiltersetKind) -> Option<FaultKind>
     }
 }
 
-/// Why a field may not be asked in a filter of a kind.
+/// Why a field may not be used in a filter of a kind.
 fn banned_field(kind: FiltersetKind, knows_packages: bool, field: Field) -> Option<FaultKind>
     ensures { result ≡ field_ban kind knows_packages field }
 {
@@ -73,7 +73,7 @@ fn banned_field(kind: FiltersetKind, knows_packages: bool, field: Field) -> Opti
     }
 }
 
-/// Why a question may not stand in a filter of a kind.
+/// Why a question may not be in a filter of a kind.
 fn banned<E: Matchers>(
     kind: FiltersetKind,
     knows_packages: bool,
@@ -88,7 +88,7 @@ fn banned<E: Matchers>(
     }
 }
 
-/// Why a predicate may not stand in a filter of a kind, and where.
+/// Why a predicate may not be in a filter of a kind, and where.
 fn find_objection<'a, E: Matchers>(
     kind: FiltersetKind,
     knows_packages: bool,
@@ -129,7 +129,7 @@ fn not(text: &str) -> Option<&str>
     }
 }
 
-/// A mark that may stand where it does, or what is wrong with it.
+/// A mark that may be where it is, or what is wrong with it.
 fn unless_full<'a, M>(
     is_within: bool,
     mark: Mark<M>,

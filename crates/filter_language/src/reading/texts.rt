@@ -15,7 +15,7 @@ pub fn after<'a>(prefix: &str, text: &'a str) -> Option<&'a str>
     text.strip_prefix(prefix)
 }
 
-/// What follows a space or the end of a line, or `None` where neither stands in front.
+/// What follows a space or the end of a line, or `None` where neither is in front.
 #[tactic(auto, using(crate::proofs::Blanks::no_blank, crate::proofs::Blanks::behind_space, crate::proofs::Blanks::behind_line, crate::proofs::Blanks::behind_return))]
 fn behind_blank(text: &str) -> Option<&str>
     ensures value { MatchOption result (skipped text.now ≡ text.now)

@@ -105,7 +105,7 @@ fn character_size(mode: Mode) -> Size
     }
 }
 
-// A byte that stands for itself: `k` and `s` fold to characters beyond ASCII.
+// A byte that is literal: `k` and `s` fold to characters beyond ASCII.
 fn byte_size(mode: Mode, byte: u8) -> Size
     ensures { result ≡ sizes.byte_size mode byte }
 {
@@ -121,7 +121,7 @@ fn byte_size(mode: Mode, byte: u8) -> Size
     Size::new(1, 0)
 }
 
-// A byte, if it stands for itself or not.
+// A byte, literal or not.
 fn sign_size(mode: Mode, byte: u8) -> Size
     ensures { result ≡ sizes.sign_size mode byte }
 {

@@ -36,7 +36,7 @@ fn rows_in<'cfg, F: Filters, S: Specs>(
     Ok(rows)
 }
 
-/// What a configuration answers for tests: the rows that the profile of a name gives them on the
+/// The result of a configuration for tests: the rows that the profile of a name gives them on the
 /// platforms of a build. Rules whose filters are evaluated go into the tally.
 pub(super) fn rows_of<F: Filters, S: Specs>(
     alloc: Global,

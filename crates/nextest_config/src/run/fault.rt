@@ -21,7 +21,7 @@ pub enum ResolveFault {
     Memory,
 }
 
-/// The fault of a run whose configuration is refused, or want of memory.
+/// The fault of a run whose configuration is refused, or a refusal of memory.
 pub(super) fn fault_of_load(error: ConfigParseError) -> ResolveFault
     ensures { TellsEnding (error_view error) (refusal_view result) }
 {

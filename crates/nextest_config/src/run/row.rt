@@ -33,7 +33,7 @@ pub enum PlainSource {
     Override {
         /// The source whose file has it.
         source: ConfigSource,
-        /// The profile under which it stands.
+        /// The profile under which it is.
         profile: String,
         /// Its position among the overrides of that profile in that file, from 0.
         index: usize,

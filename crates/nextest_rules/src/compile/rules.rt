@@ -110,7 +110,7 @@ fn read_override<F: Filters, S: Specs>(
     })
 }
 
-/// The rule of an override, and what is wrong with it. A text that is refused stands for none.
+/// The rule of an override, and what is wrong with it. A text that is refused counts as none.
 pub(crate) fn compile_override<F: Filters, S: Specs>(
     alloc: Global,
     pcx: &ParseContext<'_, F, S>,
@@ -148,7 +148,7 @@ pub(crate) fn compile_override<F: Filters, S: Specs>(
     Ok((rule, error))
 }
 
-/// The rule of a script rule, and what is wrong with it. A text that is refused stands for none.
+/// The rule of a script rule, and what is wrong with it. A text that is refused counts as none.
 pub(crate) fn compile_script_rule<F: Filters, S: Specs>(
     alloc: Global,
     pcx: &ParseContext<'_, F, S>,

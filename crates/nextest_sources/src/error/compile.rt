@@ -9,7 +9,7 @@ use thiserror::Error;
 pub enum ConfigCompileErrorKind {
     /// The rule has neither a platform nor a filter.
     ConstraintsNotSpecified {
-        /// Whether it has a default filter, which is no constraint.
+        /// Whether it has a default filter, which is not a constraint.
         default_filter_specified: bool,
     },
     /// The override has both a filter and a default filter.

@@ -41,7 +41,7 @@ pub(crate) fn write_each<W: fmt::Write, E: fmt::Display>(
     Ok(())
 }
 
-/// Writes what stands before the item of this position in a list.
+/// Writes what is before the item of this position in a list.
 pub(crate) fn separate<W: fmt::Write>(f: &mut fmt::Formatter<W>, index: usize) -> fmt::Result {
     f.write_str(if index == 0 { ": " } else { ", " })
 }

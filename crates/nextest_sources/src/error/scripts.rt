@@ -35,7 +35,7 @@ pub struct ProfileListScriptUsesRunFiltersError {
     pub profile_name: String,
     /// The list wrapper.
     pub name: ScriptId,
-    /// The parts of the filter that only a test can answer, as they are written.
+    /// The parts of the filter that only a test can decide, as they are written.
     pub filters: Vec<String>,
 }
 
@@ -67,7 +67,7 @@ pub struct ProfileScriptErrors {
     pub unknown_scripts: Vec<ProfileUnknownScriptError>,
     /// The scripts that are named for a use that their kind does not serve.
     pub wrong_script_types: Vec<ProfileWrongConfigScriptTypeError>,
-    /// The list wrappers beside filters that only a test can answer.
+    /// The list wrappers beside filters that only a test can decide.
     pub list_scripts_using_run_filters: Vec<ProfileListScriptUsesRunFiltersError>,
 }
 

@@ -1,4 +1,4 @@
--- A text that is no line: no name, no word before `=`, or no value between quotes behind it.
+-- A text that is not a line: no name, no word before `=`, or no value between quotes behind it.
 use Rattle.std.proofs.Common.{◌∙◌, sym, subst, MatchOption}
 use Rattle.platform_table.specs.Platforms.{line_of}
 use Rattle.platform_table.specs.CfgLines.{WritesLine, IsNoLine}

@@ -20,7 +20,7 @@ refused_is {L} compiler knows kind text (Misread m) wrong =
     ap (result_map_both (λ (marks : List (Mark L)). marks) (fault_in text)) wrong
 refused_is compiler knows kind text Memory wrong = tt
 
--- A text that is refused is no filter.
+-- A text that is refused is not a filter.
 not_both : {L : Type 0} (found : Result (List (Mark L)) FiltersetFault) (marks : List (Mark L)) (fault : FiltersetFault)
     → found ≡ Ok marks → found ≡ Err fault → ⊥
 not_both found marks fault ok err =

@@ -7,7 +7,7 @@ use Rattle.rinqebo_rules.specs.Rows.{IsTestReported}
 use Rattle.rinqebo_rules.specs.Unused.{AreUsedIn}
 use Rattle.rinqebo_rules.proofs.lister.Lister.list.Given as goal
 
--- the tests so far are told
+-- the tests so far are reported
 abbrev pub invariant-loop-test : goal.invariant-loop-test
 invariant-loop-test g l =
     let F = g.F.Filters in
