@@ -2,7 +2,7 @@
 use Rattle.std.proofs.Common.{◌≡◌, ◌<◌, ◌≤◌, ℕ, List, [], ◌∷◌, ◌++◌, ◌+◌, length, map, take, get_or, inl, inr, refl, sym, ap, ◌∙◌, subst, arith}
 use Rattle.std.proofs.lemmas.List.{append_assoc, append-nil, length-take, take_all, take_more}
 use Rattle.nextest_documents.specs.Merge.{over}
-use Rattle.nextest_faults.specs.Found.{Adds}
+use Rattle.nextest_faults.specs.Found.{Adds, refused_at}
 use Rattle.nextest_faults.specs.declared.found.FoundFault.{FoundFault}
 use Rattle.nextest_tables.specs.Defaults.{defaults}
 use Rattle.nextest_tables.specs.Tables.{a_file}
@@ -11,11 +11,11 @@ use Rattle.nextest_tree.specs.Schema as schema
 use Rattle.rinqebo_files.specs.declared.layers.Layer.{Layer}
 use Rattle.rinqebo_report.specs.declared.finding.Finding.{Finding}
 use Rattle.rinqebo_findings.specs.declared.value_faults.ValueFault.{ValueFault}
-use Rattle.rinqebo_findings.specs.Faults.{IsFindingOf, IsJoined, ReportAll, ReportDocument, ReportFiles, ReportValues, ReportFaults, document_in}
+use Rattle.rinqebo_findings.specs.Faults.{IsFindingOf, IsInPlace, IsJoined, IsKeyFinding, ReportAll, ReportDocument, ReportFiles, ReportValues, ReportFaults, document_in}
 
-module _ (IsOf : ValueFault → Finding → Type 0) (Joined : ValueFault → Type 0) where
+module _ {Fault : Type 0} (IsOf : Fault → Finding → Type 0) (Joined : Fault → Type 0) where
   -- one more fault, which is joined
-  with_joined : (faults : List ValueFault) (findings : List Finding) (fault : ValueFault)
+  with_joined : (faults : List Fault) (findings : List Finding) (fault : Fault)
       → Joined fault → ReportFaults IsOf Joined faults findings → ReportFaults IsOf Joined (faults ++ fault ∷ []) findings
   with_joined [] [] fault is reported = (is, tt)
   with_joined [] (x ∷ xs) fault is reported = absurd reported
@@ -27,7 +27,7 @@ module _ (IsOf : ValueFault → Finding → Type 0) (Joined : ValueFault → Typ
       ]
 
   -- one more fault, with a finding of its own
-  with_one : (faults : List ValueFault) (findings : List Finding) (fault : ValueFault) (finding : Finding)
+  with_one : (faults : List Fault) (findings : List Finding) (fault : Fault) (finding : Finding)
       → IsOf fault finding → ReportFaults IsOf Joined faults findings
       → ReportFaults IsOf Joined (faults ++ fault ∷ []) (findings ++ finding ∷ [])
   with_one [] [] fault finding is reported = inr (is, tt)
@@ -39,7 +39,7 @@ module _ (IsOf : ValueFault → Finding → Type 0) (Joined : ValueFault → Typ
         | inr t ↦ inr (t.0, with_one fs xs fault finding is t.1)
       ]
 
-  up_to_next : (faults : List ValueFault) (place : ℕ) (fault : ValueFault) (findings : List Finding)
+  up_to_next : (faults : List Fault) (place : ℕ) (fault : Fault) (findings : List Finding)
       → place < length faults → fault ≡ get_or faults place fault
       → ReportFaults IsOf Joined (take place faults ++ fault ∷ []) findings → ReportFaults IsOf Joined (take (place + 1) faults) findings
   up_to_next faults place fault findings within is reported =
@@ -47,14 +47,14 @@ module _ (IsOf : ValueFault → Finding → Type 0) (Joined : ValueFault → Typ
       (sym (take_more faults place fault within ∙ ap (λ f. take place faults ++ f ∷ []) (sym is))) reported
 
   -- the findings of the faults up to one that is joined
-  pub next_joined : (faults : List ValueFault) (place : ℕ) (fault : ValueFault) (findings : List Finding)
+  pub next_joined : (faults : List Fault) (place : ℕ) (fault : Fault) (findings : List Finding)
       → place < length faults → fault ≡ get_or faults place fault → Joined fault
       → ReportFaults IsOf Joined (take place faults) findings → ReportFaults IsOf Joined (take (place + 1) faults) findings
   next_joined faults place fault findings within is joined reported =
       up_to_next faults place fault findings within is (with_joined (take place faults) findings fault joined reported)
 
   -- the findings of the faults up to one that has a finding of its own
-  pub next_own : (faults : List ValueFault) (place : ℕ) (fault : ValueFault) (findings all : List Finding)
+  pub next_own : (faults : List Fault) (place : ℕ) (fault : Fault) (findings all : List Finding)
       (finding : Finding) → place < length faults → fault ≡ get_or faults place fault
       → all ≡ findings ++ finding ∷ [] → IsOf fault finding
       → ReportFaults IsOf Joined (take place faults) findings → ReportFaults IsOf Joined (take (place + 1) faults) all
@@ -64,24 +64,36 @@ module _ (IsOf : ValueFault → Finding → Type 0) (Joined : ValueFault → Typ
       (with_one (take place faults) findings fault finding own reported))
 
   -- the findings of all faults
-  pub up_to_end : (faults : List ValueFault) (place : ℕ) (findings : List Finding) → length faults ≤ place
+  pub up_to_end : (faults : List Fault) (place : ℕ) (findings : List Finding) → length faults ≤ place
       → ReportFaults IsOf Joined (take place faults) findings → ReportFaults IsOf Joined faults findings
   up_to_end faults place findings no_more reported =
       subst (λ fs. ReportFaults IsOf Joined fs findings) (take_all place faults no_more) reported
 
--- the findings of the values of a document over the defaults
-pub of_values_found : (layers : List Layer) (source : ℕ) (document laid : Node) (found : List FoundFault)
-    (made given : List ValueFault) (findings : List Finding) → laid ≡ over document defaults
-    → Adds [] found (schema.faults a_file [] laid) → map (λ f. f.fault) made ≡ found → given ≡ made
-    → ReportFaults (IsFindingOf layers source) (IsJoined given) given findings
-    → ReportValues layers source document findings
-of_values_found layers source document laid found made given findings laid_is are_all same same_made reported =
+-- the findings of the values of a document over the defaults, and of its unknown keys
+pub of_values_found : (layers : List Layer) (source : ℕ) (document laid : Node) (found keys keys_given : List FoundFault)
+    (made given again : List ValueFault) (of_faults of_keys findings : List Finding) → laid ≡ over document defaults
+    → Adds [] found (schema.faults a_file [] laid) → Adds [] keys (refused_at (schema.unknown a_file [] laid))
+    → map (λ f. f.fault) made ≡ found → given ≡ made → again ≡ made → keys_given ≡ keys
+    → ReportFaults (IsFindingOf layers source) (IsJoined given) given of_faults
+    → ReportFaults (λ key. IsKeyFinding layers source key.path.items) (λ key. IsInPlace again key.path.items) keys_given of_keys
+    → findings ≡ of_faults ++ of_keys → ReportValues layers source document findings
+of_values_found layers source document laid found keys keys_given made given again of_faults of_keys findings laid_is are_all are_keys same same_made same_again same_keys reported keys_reported whole =
     record {
       found = given;
       are_all = subst (λ fs. Adds [] fs (schema.faults a_file [] (over document defaults)))
           (sym (ap (map (λ f. f.fault)) same_made ∙ same))
           (subst (λ node. Adds [] found (schema.faults a_file [] node)) laid_is are_all);
+      of_faults = of_faults;
       reported = reported;
+      keys = keys;
+      are_all_keys = subst (λ node. Adds [] keys (refused_at (schema.unknown a_file [] node))) laid_is are_keys;
+      of_keys = of_keys;
+      keys_reported = subst
+          (λ fs. ReportFaults (λ key. IsKeyFinding layers source key.path.items) (λ key. IsInPlace fs key.path.items) keys of_keys)
+          (same_again ∙ sym same_made)
+          (subst (λ ks. ReportFaults (λ key. IsKeyFinding layers source key.path.items) (λ key. IsInPlace again key.path.items) ks of_keys)
+          same_keys keys_reported);
+      whole = whole;
     }
 
 module _ (all : List Layer) where

@@ -21,7 +21,7 @@ pub fn mark_of_source(alloc: Global, place: usize) -> Result<String, AllocError>
 }
 
 /// The mark of a path in the source at a place among the layers.
-fn mark_of(alloc: Global, place: usize, path: &[Step<'_>]) -> Result<String, AllocError> {
+pub fn mark_of(alloc: Global, place: usize, path: &[Step<'_>]) -> Result<String, AllocError> {
     let mut mark = mark_of_source(alloc, place)?;
     for step in path {
         mark = mark_below(alloc, mark.as_str(), *step)?;

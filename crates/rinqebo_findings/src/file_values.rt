@@ -1,15 +1,16 @@
 //! What is wrong with the values in the files of a run, which are then read without what is
-//! refused.
+//! refused, and their unknown keys.
 ghost use Rattle.std.specs.Prelude.{◌≡◌, IfOk, MatchOption, None, Some};
 ghost use Rattle.nextest_tree.specs.View.{tree_view};
 ghost use Rattle.rinqebo_findings.specs.Faults.{ReportDocument, ReportFiles, ReportValues, document_in};
 
 use crate::edits::Edits;
 use crate::element_repairs::leave_out_element;
+use crate::unknown_keys::key_findings;
 use crate::value_faults::{ValueFault, fault_findings, with_strays};
 use nextest_config::Tree;
 use nextest_documents::lay_over;
-use nextest_faults::file_faults;
+use nextest_faults::{file_faults, unknown_keys};
 use nextest_tables::default_tree;
 use rinqebo_files::Layer;
 use rinqebo_load::Session;
@@ -43,7 +44,8 @@ fn document_of<'l>(layer: &'l Layer<'_>) -> Option<&'l Tree>
     }
 }
 
-/// The findings of the values of a document, which is the source at a place among the layers.
+/// The findings of the values of a document, which is the source at a place among the layers, and
+/// of its unknown keys.
 fn document_findings(
     alloc: Global,
     session: &Session<'_>,
@@ -56,9 +58,13 @@ fn document_findings(
 {
     let tree = lay_over(alloc, document, default_tree(alloc)?)?;
     let faults = file_faults(alloc, &tree)?;
+    let keys = unknown_keys(alloc, &tree)?;
     let found = with_strays(alloc, &tree, faults)?;
     leave_out_faults(edits, place, &found)?;
-    Ok(fault_findings(alloc, session, place, &found)?)
+    let mut findings = fault_findings(alloc, session, place, &found)?;
+    let mut warnings = key_findings(alloc, session, place, &found, &keys)?;
+    findings.append(&mut warnings)?;
+    Ok(findings)
 }
 
 /// The findings of the values in the file of the layer at a place, if it is a document.

@@ -173,23 +173,54 @@ pub fn key_warning(
     source: SourceAt<'_, '_>,
     path: &[Step<'_>],
     message: String,
-) -> Result<Finding, AllocError> {
+) -> Result<Finding, AllocError>
+    ensures about { IfOk result (λ found. subject found ≡ record {
+      level = Level.Warning;
+      code = code_word label.code;
+      path = Some (shown_path path.now);
+    }) }
+    ensures place { IfOk result (λ found. IsPlaceIn SpanPart.Key source.entry.layers.now
+        source.entry.position path.now found.place) }
+{
     let level = Level::Warning;
-    finding_at(alloc, level, label, source, path, SpanPart::Key, message)
+    Ok(finding_at(alloc, level, label, source, path, SpanPart::Key, message)?)
 }
 
-/// Warns of a key without effect.
-fn unknown_key(alloc: Global, source: SourceAt<'_, '_>, path: &str) -> Result<Finding, AllocError> {
-    let at = spelled_path(alloc, source, path, Fault::UnknownKey)?;
-    let message = unknown_key_text(alloc, &at)?;
-    let mut found = key_warning(alloc, UNKNOWN_KEY, source, &at, message)?;
-    let (help, help_place) = unknown_key_help(alloc, &at)?;
+/// The note that lists the keys of the table that has the key at a path.
+fn table_note(alloc: Global, path: &[Step<'_>]) -> Result<Option<String>, AllocError> {
+    match path.split_last() {
+        Some((_key, table)) => keys_note(alloc, table),
+        None => Ok(None),
+    }
+}
+
+/// Warns of a key without effect, at a path.
+pub fn unknown_key_at(
+    alloc: Global,
+    source: SourceAt<'_, '_>,
+    path: &[Step<'_>],
+) -> Result<Finding, AllocError>
+    ensures about { IfOk result (λ found. subject found ≡ record {
+      level = Level.Warning;
+      code = code_word Code.UnknownKey;
+      path = Some (shown_path path.now);
+    }) }
+    ensures place { IfOk result (λ found. IsPlaceIn SpanPart.Key source.entry.layers.now
+        source.entry.position path.now found.place) }
+{
+    let message = unknown_key_text(alloc, path)?;
+    let (help, help_place) = unknown_key_help(alloc, path)?;
+    let note = table_note(alloc, path)?;
+    let mut found = key_warning(alloc, UNKNOWN_KEY, source, path, message)?;
     found.help = help;
     found.help_place = help_place;
-    match at.split_last() {
-        Some((_key, table)) => with_note(found, keys_note(alloc, table)?),
-        None => Ok(found),
-    }
+    Ok(with_note(found, note)?)
+}
+
+/// Warns of a key without effect, whose path a text spells.
+fn unknown_key(alloc: Global, source: SourceAt<'_, '_>, path: &str) -> Result<Finding, AllocError> {
+    let at = spelled_path(alloc, source, path, Fault::UnknownKey)?;
+    unknown_key_at(alloc, source, &at)
 }
 
 /// Warns of a profile whose name is reserved.
@@ -308,6 +339,26 @@ fn add_warning(
         }
     }
     Ok(())
+}
+
+/// Whether a warning is about unknown keys.
+fn is_of_keys(warning: &ConfigWarning) -> bool {
+    matches!(warning, ConfigWarning::UnknownConfigKeys { .. })
+}
+
+/// The findings of warnings other than those of unknown keys, in their order.
+pub fn other_warning_findings(
+    alloc: Global,
+    layers: &[Layer],
+    warnings: &DefaultConfigWarnings,
+) -> Result<Vec<Finding>, AllocError> {
+    let mut findings = Vec::new(alloc);
+    for warning in warnings.warnings() {
+        if !is_of_keys(warning) {
+            add_warning(alloc, layers, warning, &mut findings)?;
+        }
+    }
+    Ok(findings)
 }
 
 /// The findings of warnings, in their order.

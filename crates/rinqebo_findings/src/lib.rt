@@ -43,6 +43,7 @@ mod search;
 mod shapes;
 mod spellings;
 mod tables;
+mod unknown_keys;
 mod unknown_names;
 mod unreached;
 mod value_faults;

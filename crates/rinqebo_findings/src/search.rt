@@ -1,5 +1,5 @@
-//! All that is wrong with files that are refused: the faults of all values, and then what each
-//! later check finds in files without these.
+//! All that is wrong with files that are refused: the faults of all values, the unknown keys, and
+//! then what each later check finds in files without the faults.
 ghost use Rattle.std.specs.Prelude.{IfOk};
 ghost use Rattle.rinqebo_findings.specs.Faults.{ReportAll};
 
@@ -8,7 +8,7 @@ use crate::edited_files::Reading;
 use crate::edits::Edits;
 use crate::element_repairs::leave_out_setting;
 use crate::file_values::value_findings;
-use crate::findings::warning_findings;
+use crate::findings::other_warning_findings;
 use crate::refusal_repairs::{
     leave_out_foreign_groups, leave_out_groups, leave_out_old_scripts, leave_out_parents,
     leave_out_script_rules, leave_out_scripts, leave_out_sections,
@@ -104,10 +104,11 @@ impl<'s, 'g> Search<'s, 'g> {
         }
     }
 
-    /// Adds warnings that are not among the findings.
+    /// Adds warnings that are not among the findings. Those of unknown keys are reported with the
+    /// values.
     fn add_warnings(&mut self, warnings: &DefaultConfigWarnings) -> Result<(), AllocError> {
         let alloc = self.alloc;
-        for warning in warning_findings(alloc, &self.session.layers, warnings)? {
+        for warning in other_warning_findings(alloc, &self.session.layers, warnings)? {
             let mark = warning_mark(alloc, &warning)?;
             if !self.follows(&warning) && self.warned.insert(mark)? {
                 self.findings.push(warning)?;

@@ -105,7 +105,7 @@ fn is_path(one: &[Step<'_>], other: &[Step<'_>]) -> bool
 }
 
 /// Whether a path is that of a key of the table at another one.
-fn is_key_in(path: &[Step<'_>], table: &[Step<'_>], key: &str) -> bool
+pub fn is_key_in(path: &[Step<'_>], table: &[Step<'_>], key: &str) -> bool
     ensures { IsTrue result → IsKeyIn path.now table.now key.now }
 {
     let Some((last, rest)) = path.split_last() else {
