@@ -4,7 +4,7 @@ use Rattle.std.specs.Io.KnownBytes.{Appends}
 use Rattle.rinqebo_changes.specs.Diffs.{is_empty}
 use Rattle.rinqebo_changes.specs.declared.diff.Diff.{Diff}
 use Rattle.rinqebo_files.specs.declared.files.Gathered.{Gathered}
-use Rattle.rinqebo_load.specs.Beginning.{IsBeginningFailure}
+use Rattle.rinqebo_load.specs.Beginning.{IsUnusable}
 use Rattle.rinqebo_load.specs.SessionOf.{IsSessionOf}
 use Rattle.rinqebo_load.specs.declared.failure.Failure.{Failure}
 use Rattle.rinqebo_load.specs.declared.failure.Failure.TheVariants as causes
@@ -12,7 +12,7 @@ use Rattle.rinqebo_load.specs.declared.session.Session.{Session}
 use Rattle.rinqebo_run.specs.LookedUp.{IsFailureOn}
 use Rattle.rinqebo_run.specs.Statuses.{failure_status}
 use Rattle.rinqebo_diff.specs.Differences.{Differs, diff_status, HasResult}
-use Rattle.rinqebo_diff.specs.Failing.{SideFails, FailsAt, Loads, DiffFails, IsRefusedSide, LacksItsProfile, HasCause}
+use Rattle.rinqebo_diff.specs.Failing.{SideFails, FailsAt, Loads, DiffFails, IsRefusedSide, HasUsageFailure, LacksItsProfile, HasCause}
 use Rattle.rinqebo_diff.specs.Statuses.{diff_failure_status, HasFailureStatus, ReportsDiffFailure, ReportsRefusal}
 use Rattle.rinqebo_diff.specs.Written.{IsRendered, ReportsDiff}
 use Rattle.rinqebo_diff.specs.declared.loaded.DiffFailure.{DiffFailure}
@@ -29,7 +29,7 @@ handed_on P (Err other) failure same is = subst P (sym same) is
 
 -- what all commands begin with fails
 pub begins_not : {A : Type 0} (side : DiffSide) (gathered : Gathered) (r : Result A Failure) (failure : Failure)
-    → IsErrAnd r (λ other. other ≡ failure) → IsBeginningFailure failure → IfErr r (SideFails side gathered)
+    → IsErrAnd r (λ other. other ≡ failure) → IsUnusable side.request gathered failure → IfErr r (SideFails side gathered)
 begins_not side gathered r failure same is = handed_on (SideFails side gathered) r failure same (inl is)
 
 -- memory runs out
@@ -120,17 +120,33 @@ lacking_in request from to (failures.Side names.From failure) fails four = inl (
 lacking_in request from to (failures.Side names.To failure) fails four = inr (lacking_for request.to to failure fails.1 four)
 lacking_in request from to failures.Memory fails four = absurd (omega arith)
 
+-- a failure of status 2 is that a side cannot be used
+unusable_in : (request : DiffRequest) (from to : Gathered) (failure : DiffFailure) → DiffFails request from to failure
+    → diff_failure_status failure ≡ 2 → HasUsageFailure request.from from ⊎ HasUsageFailure request.to to
+unusable_in request from to (failures.Side names.From failure) fails two =
+    inl (record { failure = failure; is_status = two; fails = fails })
+unusable_in request from to (failures.Side names.To failure) fails two =
+    inr (record { failure = failure; is_status = two; fails = fails.1 })
+unusable_in request from to failures.Memory fails two = absurd (omega arith)
+
 -- the status of a diff with no result has its cause
 pub failure_cause : (request : DiffRequest) (from to : Gathered) (failure : DiffFailure) (n : ℕ)
     → DiffFails request from to failure → HasFailureStatus failure n → HasCause request from to n
 failure_cause request from to failure n fails (inl same) = record {
+  unusable = λ two. unusable_in request from to failure fails (sym same ∙ two);
   refused = λ three. refused_in request from to failure fails (sym same ∙ three);
   lacking = λ four. lacking_in request from to failure fails (sym same ∙ four);
 }
-failure_cause request from to failure n fails (inr (inl five)) =
-    record { refused = λ three. absurd (omega arith); lacking = λ four. absurd (omega arith) }
-failure_cause request from to failure n fails (inr (inr six)) =
-    record { refused = λ three. absurd (omega arith); lacking = λ four. absurd (omega arith) }
+failure_cause request from to failure n fails (inr (inl five)) = record {
+  unusable = λ two. absurd (omega arith);
+  refused = λ three. absurd (omega arith);
+  lacking = λ four. absurd (omega arith);
+}
+failure_cause request from to failure n fails (inr (inr six)) = record {
+  unusable = λ two. absurd (omega arith);
+  refused = λ three. absurd (omega arith);
+  lacking = λ four. absurd (omega arith);
+}
 
 -- the statuses of failures
 low_side : (failure : Failure) → failure_status failure ≤ 5
@@ -212,11 +228,21 @@ pub answer_cause : (request : DiffRequest) (from to : Gathered) (diff : Diff) (n
     → (n ≡ diff_status diff) ⊎ (n ≡ 5) ⊎ (n ≡ 6) → HasCause request from to n
 answer_cause request from to diff n (inl same) =
     let low : diff_status diff ≤ 1 = low_status diff in
-    record { refused = λ three. absurd (omega arith); lacking = λ four. absurd (omega arith) }
-answer_cause request from to diff n (inr (inl five)) =
-    record { refused = λ three. absurd (omega arith); lacking = λ four. absurd (omega arith) }
-answer_cause request from to diff n (inr (inr six)) =
-    record { refused = λ three. absurd (omega arith); lacking = λ four. absurd (omega arith) }
+    record {
+      unusable = λ two. absurd (omega arith);
+      refused = λ three. absurd (omega arith);
+      lacking = λ four. absurd (omega arith);
+    }
+answer_cause request from to diff n (inr (inl five)) = record {
+  unusable = λ two. absurd (omega arith);
+  refused = λ three. absurd (omega arith);
+  lacking = λ four. absurd (omega arith);
+}
+answer_cause request from to diff n (inr (inr six)) = record {
+  unusable = λ two. absurd (omega arith);
+  refused = λ three. absurd (omega arith);
+  lacking = λ four. absurd (omega arith);
+}
 
 pub failure_quiet : (request : DiffRequest) (from to : Gathered) (failure : DiffFailure) (n : ℕ) (old new : Option (List ℕ))
     → DiffFails request from to failure

@@ -3,11 +3,12 @@ use Rattle.std.specs.Prelude.{◌≡◌, ◌⊎◌, ℕ}
 use Rattle.rinqebo_files.specs.declared.files.Gathered.{Gathered}
 use Rattle.rinqebo_findings.specs.Failures.{LacksProfile}
 use Rattle.rinqebo_load.specs.Accepted.{AreAccepted}
-use Rattle.rinqebo_load.specs.Beginning.{IsBeginningFailure}
+use Rattle.rinqebo_load.specs.Beginning.{IsUnusable}
 use Rattle.rinqebo_load.specs.SessionOf.{IsSessionOf}
 use Rattle.rinqebo_load.specs.declared.failure.Failure.{Failure}
 use Rattle.rinqebo_load.specs.declared.session.Session.{Session}
 use Rattle.rinqebo_run.specs.LookedUp.{IsFailureOn}
+use Rattle.rinqebo_run.specs.Statuses.{failure_status}
 use Rattle.rinqebo_diff.specs.Loaded.{IsLoadedSide}
 use Rattle.rinqebo_diff.specs.declared.loaded.DiffFailure.{DiffFailure}
 use Rattle.rinqebo_diff.specs.declared.loaded.DiffFailure.TheVariants as failures
@@ -23,9 +24,11 @@ pub record FailsInSession (side : DiffSide) (gathered : Gathered) (failure : Fai
   pub begun : IsSessionOf side.request gathered session
   pub cause : IsFailureOn session side.profile.now failure
 
--- A side has no result: what all commands begin with fails, or its session has none.
+-- A side has no result: its list of tests, its metadata or a machine is not understood, or its
+-- session has none.
 abbrev pub SideFails : DiffSide → Gathered → Failure → Type 0
-SideFails side gathered failure = IsBeginningFailure failure ⊎ FailsInSession side gathered failure
+SideFails side gathered failure =
+    IsUnusable side.request gathered failure ⊎ FailsInSession side gathered failure
 
 -- a side of a name has no result, or memory ran out
 abbrev pub FailsAt : SideName → DiffSide → Gathered → DiffFailure → Type 0
@@ -45,6 +48,12 @@ DiffFails request from to (failures.Side names.To failure) =
     Loads request.from from × SideFails request.to to failure
 DiffFails request from to failures.Memory = Unit {0}
 
+-- The program cannot use what a side names: it has no result, for a failure with exit status 2.
+pub record HasUsageFailure (side : DiffSide) (gathered : Gathered) : Type 0 where
+  pub failure : Failure
+  pub is_status : failure_status failure ≡ 2
+  pub fails : SideFails side gathered failure
+
 -- The files of a side are refused: some written rule does not hold of them.
 pub record IsRefusedSide (side : DiffSide) (gathered : Gathered) : Type 0 where
   pub session : Session
@@ -57,8 +66,10 @@ pub record LacksItsProfile (side : DiffSide) (gathered : Gathered) : Type 0 wher
   pub begun : IsSessionOf side.request gathered session
   pub lacks : LacksProfile session side.profile.now
 
--- An exit status says something of files: it is 3 only where those of a side are refused, and 4
--- only where those of a side lack its profile.
+-- An exit status says something of the sides: it is 2 only where the list of tests, the metadata or
+-- a machine of a side is not understood, or a filter that it evaluates needs metadata; 3 only where
+-- the files of a side are refused; and 4 only where those of a side lack its profile.
 pub record HasCause (request : DiffRequest) (from to : Gathered) (status : ℕ) : Type 0 where
+  pub unusable : status ≡ 2 → HasUsageFailure request.from from ⊎ HasUsageFailure request.to to
   pub refused : status ≡ 3 → IsRefusedSide request.from from ⊎ IsRefusedSide request.to to
   pub lacking : status ≡ 4 → LacksItsProfile request.from from ⊎ LacksItsProfile request.to to

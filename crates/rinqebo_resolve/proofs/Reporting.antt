@@ -9,7 +9,7 @@ use Rattle.rinqebo_request.specs.declared.request.Question.{Question}
 use Rattle.rinqebo_request.specs.declared.request.Question.TheVariants as questions
 use Rattle.rinqebo_request.specs.declared.request.Request.{Request}
 use Rattle.rinqebo_run.specs.Answered.{AnswersQuestion, IsAnswer}
-use Rattle.rinqebo_run.specs.Refused.{Fails, LackProfileFor, LackTestFor, LacksTestOf}
+use Rattle.rinqebo_run.specs.Refused.{Fails, IsFailureIn, LackProfileFor, LackTestFor, LacksTestOf}
 use Rattle.rinqebo_run.specs.declared.answer.Answer.{Answer}
 use Rattle.rinqebo_load.specs.declared.failure.Failure.{Failure}
 use Rattle.rinqebo_load.specs.declared.failure.Failure.TheVariants as failures
@@ -64,11 +64,31 @@ profile_lacks asked request gathered is_request (inl profile) = profile
 profile_lacks asked request gathered is_request (inr test) =
     tested asked request.question test.session is_request.question test.lacks
 
+-- a question about a list names no test that may be missing
+named_none : {X : Type 0} (asked : RequestedText) (q : Question) (session : Session) (report : Report)
+    → AsksForAll asked q → IsFailureIn session q (failures.NoTest report) → X
+named_none asked (questions.Explain profile test settings) session report asks cause = absurd asks
+named_none asked (questions.Why profile test setting) session report asks cause = absurd asks
+named_none asked (questions.WhyRuns profile test) session report asks cause = absurd asks
+named_none asked (questions.List profile mode list shown) session report asks cause = absurd cause
+named_none asked (questions.ShowConfig profile keys with_hidden) session report asks cause = absurd asks
+named_none asked (questions.Check deny_warnings) session report asks cause = absurd asks
+
+no_test : {X : Type 0} (asked : RequestedText) (request : Request) (gathered : Gathered) (report : Report)
+    → IsRequestFor asked request → Fails request gathered (failures.NoTest report) → X
+no_test asked request gathered report is_request (inl unusable) = absurd unusable
+no_test asked request gathered report is_request (inr fails) =
+    named_none asked request.question fails.session report is_request.question fails.cause
+
 -- the ending for which the program answers nothing
 unanswered : (asked : RequestedText) (request : Request) (gathered : Gathered) (failure : Failure) (ending : Ending)
     → IsRequestFor asked request → Fails request gathered failure → ReportsFailure failure ending
     → IsEndingIn asked gathered ending
-unanswered asked request gathered (failures.Engines fault) (ends.NoEngines reason) is_request fails tells = tt
+unanswered asked request gathered (failures.Engines fault) (ends.NoEngines reason) is_request fails tells = record {
+  request = request;
+  is_request = is_request;
+  cause = (failure_reported request gathered (failures.Engines fault) 2 fails (inl refl)).unusable refl;
+}
 unanswered asked request gathered (failures.Refused report) (ends.Refused text) is_request fails tells = record {
   request = request;
   is_request = is_request;
@@ -84,8 +104,13 @@ unanswered asked request gathered (failures.NoProfile report) (ends.NoProfile te
       ((failure_reported request gathered (failures.NoProfile report) 4 fails (inl refl)).lacking refl);
   document = tells;
 }
-unanswered asked request gathered (failures.NoTest report) (ends.NoEngines reason) is_request fails tells = tt
-unanswered asked request gathered (failures.SeveralTests report) (ends.NoEngines reason) is_request fails tells = tt
+unanswered asked request gathered (failures.NoTest report) (ends.NoEngines reason) is_request fails tells =
+    no_test asked request gathered report is_request fails
+unanswered asked request gathered (failures.SeveralTests report) (ends.NoEngines reason) is_request fails tells = record {
+  request = request;
+  is_request = is_request;
+  cause = (failure_reported request gathered (failures.SeveralTests report) 2 fails (inl refl)).unusable refl;
+}
 unanswered asked request gathered failure ending is_request fails tells = absurd tells
 
 -- the ending that tells what the program answers

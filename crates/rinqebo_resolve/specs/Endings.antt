@@ -6,7 +6,7 @@ use Rattle.rinqebo_report.specs.Rendered.{json_text}
 use Rattle.rinqebo_report.specs.declared.report.Report.{Report}
 use Rattle.rinqebo_request.specs.declared.request.Request.{Request}
 use Rattle.rinqebo_run.specs.Answered.{IsAnswer}
-use Rattle.rinqebo_run.specs.Refused.{AreRefusedFor, LackProfileFor}
+use Rattle.rinqebo_run.specs.Refused.{AreRefusedFor, HasUsageFailure, LackProfileFor}
 use Rattle.rinqebo_run.specs.declared.answer.Answer.{Answer}
 use Rattle.rinqebo_load.specs.declared.failure.Failure.{Failure}
 use Rattle.rinqebo_load.specs.declared.failure.Failure.TheVariants as failures
@@ -41,13 +41,20 @@ abbrev pub ReportsNoProfileOf : RequestedText → Gathered → List ℕ → Type
 ReportsNoProfileOf asked gathered =
     ReportsOf asked gathered (λ request files report. LackProfileFor request files)
 
+-- A run has no engines: its list of tests, its metadata or a machine is not understood, or a filter
+-- needs metadata, for what it requests of files.
+pub record LacksEngines (asked : RequestedText) (gathered : Gathered) : Type 0 where
+  pub request : Request
+  pub is_request : IsRequestFor asked request
+  pub cause : HasUsageFailure request gathered
+
 -- how what a run requests of files ends, unless memory runs out
 abbrev pub IsEndingIn : RequestedText → Gathered → Ending → Type 0
 IsEndingIn asked gathered (ends.Answered text) = IsAnswerOf asked gathered (string_bytes text)
 IsEndingIn asked gathered (ends.Refused text) = IsRefusalOf asked gathered (string_bytes text)
 IsEndingIn asked gathered (ends.NoProfile text) =
     ReportsNoProfileOf asked gathered (string_bytes text)
-IsEndingIn asked gathered (ends.NoEngines reason) = Unit {0}
+IsEndingIn asked gathered (ends.NoEngines reason) = LacksEngines asked gathered
 IsEndingIn asked gathered (ends.NotUnderstood reason) = ⊥
 IsEndingIn asked gathered ends.NotText = ⊥
 IsEndingIn asked gathered ends.Memory = Unit {0}

@@ -89,6 +89,30 @@ refused_in (questions.ShowConfig profile keys with_hidden) session report n answ
     absurd (omega (arith, answers.status_is, shown_low report.content))
 refused_in (questions.Check deny_warnings) session report n answers three = answers.refused three
 
+-- no answer has status 2
+no_two_of : {X : Type 0} (n : ℕ) → (n ≡ 0) ⊎ (n ≡ 1) ⊎ (n ≡ 3) → n ≡ 2 → X
+no_two_of n (inl zero) two = absurd (omega arith)
+no_two_of n (inr (inl one)) two = absurd (omega arith)
+no_two_of n (inr (inr three)) two = absurd (omega arith)
+
+unusable_in : {X : Type 0} (q : Question) (session : Session) (report : Report) (n : ℕ)
+    → AnswersQuestion q session report n → n ≡ 2 → X
+unusable_in (questions.Explain profile test asked) session report n answers two =
+    let zero : n ≡ 0 = answers.0 in
+    absurd (omega arith)
+unusable_in (questions.Why profile test setting) session report n answers two =
+    let zero : n ≡ 0 = answers.0 in
+    absurd (omega arith)
+unusable_in (questions.WhyRuns profile test) session report n answers two =
+    let zero : n ≡ 0 = answers.0 in
+    absurd (omega arith)
+unusable_in (questions.List profile mode list asked) session report n answers two =
+    let zero : n ≡ 0 = answers.0 in
+    absurd (omega arith)
+unusable_in (questions.ShowConfig profile keys with_hidden) session report n answers two =
+    absurd (omega (arith, answers.status_is, shown_low report.content))
+unusable_in (questions.Check deny_warnings) session report n answers two = no_two_of n answers.is_status two
+
 -- a check has no status 4
 no_four : {X : Type 0} (n : ℕ) → (n ≡ 0) ⊎ (n ≡ 1) ⊎ (n ≡ 3) → n ≡ 4 → X
 no_four n (inl zero) four = absurd (omega arith)
@@ -118,6 +142,7 @@ lacking_in (questions.Check deny_warnings) session report n answers four = no_fo
 pub answer_reported : (request : Asked) (gathered : Gathered) (report : Report) (n m : ℕ)
     → IsAnswer request gathered report m → (n ≡ m) ⊎ (n ≡ 5) ⊎ (n ≡ 6) → IsReportedBy request gathered n
 answer_reported request gathered report n m answer (inl same) = record {
+  unusable = λ two. unusable_in request.question answer.session report m answer.answers (sym same ∙ two);
   refused = λ three. record {
     session = answer.session;
     begun = answer.begun;
@@ -126,10 +151,12 @@ answer_reported request gathered report n m answer (inl same) = record {
   lacking = λ four. lacking_in request.question answer.session report m answer.answers (sym same ∙ four);
 }
 answer_reported request gathered report n m answer (inr (inl five)) = record {
+  unusable = λ two. absurd (omega arith);
   refused = λ three. absurd (omega arith);
   lacking = λ four. absurd (omega arith);
 }
 answer_reported request gathered report n m answer (inr (inr six)) = record {
+  unusable = λ two. absurd (omega arith);
   refused = λ three. absurd (omega arith);
   lacking = λ four. absurd (omega arith);
 }
@@ -145,7 +172,9 @@ broken_in (questions.WhyRuns profile test) session report (inl finding) = absurd
 broken_in (questions.WhyRuns profile test) session report (inr cause) = cause
 broken_in (questions.List profile mode list asked) session report cause = cause
 broken_in (questions.ShowConfig profile keys with_hidden) session report cause = cause
-broken_in (questions.Check deny_warnings) session report cause = absurd cause
+broken_in (questions.Check deny_warnings) session report cause =
+    let no : failures.Refused report ≡ failures.Memory = cause in
+    absurd (cc)
 
 -- files lack the profile for which a question is not answered
 lacks_in : (q : Question) (session : Session) (report : Report) → IsFailureIn session q (failures.NoProfile report)
@@ -158,7 +187,9 @@ lacks_in (questions.WhyRuns profile test) session report (inl finding) = absurd 
 lacks_in (questions.WhyRuns profile test) session report (inr cause) = cause
 lacks_in (questions.List profile mode list asked) session report cause = cause
 lacks_in (questions.ShowConfig profile keys with_hidden) session report cause = cause
-lacks_in (questions.Check deny_warnings) session report cause = cause
+lacks_in (questions.Check deny_warnings) session report cause =
+    let no : failures.NoProfile report ≡ failures.Memory = cause in
+    absurd (cc)
 
 -- there is no test for which a question is not answered
 untested_in : (q : Question) (session : Session) (report : Report) → IsFailureIn session q (failures.NoTest report)
@@ -171,7 +202,9 @@ untested_in (questions.WhyRuns profile test) session report (inl finding) = find
 untested_in (questions.WhyRuns profile test) session report (inr cause) = absurd cause
 untested_in (questions.List profile mode list asked) session report cause = absurd cause
 untested_in (questions.ShowConfig profile keys with_hidden) session report cause = absurd cause
-untested_in (questions.Check deny_warnings) session report cause = absurd cause
+untested_in (questions.Check deny_warnings) session report cause =
+    let no : failures.NoTest report ≡ failures.Memory = cause in
+    absurd (cc)
 
 -- a failure of status 3 tells that files are refused
 refused_for : (request : Asked) (gathered : Gathered) (failure : Failure) → Fails request gathered failure
@@ -212,14 +245,17 @@ lacking_for request gathered failures.Memory fails four = absurd (omega arith)
 pub failure_reported : (request : Asked) (gathered : Gathered) (failure : Failure) (n : ℕ)
     → Fails request gathered failure → (n ≡ failure_status failure) ⊎ (n ≡ 5) ⊎ (n ≡ 6) → IsReportedBy request gathered n
 failure_reported request gathered failure n fails (inl same) = record {
+  unusable = λ two. record { failure = failure; is_status = sym same ∙ two; fails = fails };
   refused = λ three. refused_for request gathered failure fails (sym same ∙ three);
   lacking = λ four. lacking_for request gathered failure fails (sym same ∙ four);
 }
 failure_reported request gathered failure n fails (inr (inl five)) = record {
+  unusable = λ two. absurd (omega arith);
   refused = λ three. absurd (omega arith);
   lacking = λ four. absurd (omega arith);
 }
 failure_reported request gathered failure n fails (inr (inr six)) = record {
+  unusable = λ two. absurd (omega arith);
   refused = λ three. absurd (omega arith);
   lacking = λ four. absurd (omega arith);
 }

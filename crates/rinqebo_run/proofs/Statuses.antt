@@ -79,7 +79,9 @@ no_three (questions.WhyRuns profile test) session report cause is = omega arith
 no_three (questions.List profile mode list asked) session report cause is = omega arith
 no_three (questions.ShowConfig profile keys with_hidden) session report cause (inl is) = omega arith
 no_three (questions.ShowConfig profile keys with_hidden) session report cause (inr is) = omega arith
-no_three (questions.Check deny_warnings) session report cause is = cause
+no_three (questions.Check deny_warnings) session report cause is =
+    let no : failures.Refused report ≡ failures.Memory = cause in
+    absurd (cc)
 
 -- a failure is not a result
 no_failure : (request : Request) (gathered : Gathered) (f : Failure) → Fails request gathered f

@@ -11,7 +11,7 @@ use Rattle.rinqebo_request.specs.declared.request.RequestedTest.{RequestedTest}
 use Rattle.rinqebo_load.specs.Accepted.{AreAccepted}
 use Rattle.rinqebo_load.specs.FindTests.{LacksTest}
 use Rattle.rinqebo_load.specs.SessionOf.{IsSessionOf}
-use Rattle.rinqebo_load.specs.Beginning.{IsBeginningFailure}
+use Rattle.rinqebo_load.specs.Beginning.{IsUnusable}
 use Rattle.rinqebo_load.specs.declared.failure.Failure.{Failure}
 use Rattle.rinqebo_load.specs.declared.failure.Failure.TheVariants as failures
 use Rattle.rinqebo_report.specs.Rendered.{rendered}
@@ -28,7 +28,8 @@ IsFailureAboutTest session profile test failure =
     IsFailureToFind session test failure ⊎ IsFailureOn session profile failure
 
 -- A session has no result for a request. A check reports refused files as its result, and names no
--- profile and no test. For `show-config` and `check` the program evaluates no filter.
+-- profile and no test: it has none only for want of memory. For `show-config` and `check` the
+-- program evaluates no filter.
 abbrev pub IsFailureIn : Session → Question → Failure → Type 0
 IsFailureIn session (questions.Explain profile test asked) failure =
     IsFailureAboutTest session profile.now test failure
@@ -40,7 +41,7 @@ IsFailureIn session (questions.List profile mode list asked) failure =
     IsFailureOn session profile.now failure
 IsFailureIn session (questions.ShowConfig profile keys with_hidden) failure =
     IsFailureAbout session profile.now failure
-IsFailureIn session (questions.Check deny_warnings) failure = IsBeginningFailure failure
+IsFailureIn session (questions.Check deny_warnings) failure = failure ≡ failures.Memory
 
 -- A session of a request has no result for it.
 pub record FailsInSession (request : Request) (gathered : Gathered) (failure : Failure) : Type 0
@@ -49,10 +50,17 @@ pub record FailsInSession (request : Request) (gathered : Gathered) (failure : F
     pub begun : IsSessionOf request gathered session
     pub cause : IsFailureIn session request.question failure
 
--- A request has no result: what all commands begin with fails, or a session has no result for it.
+-- A request has no result: its list of tests, its metadata or a machine is not understood, or a
+-- session has no result for it.
 abbrev pub Fails : Request → Gathered → Failure → Type 0
 Fails request gathered failure =
-    IsBeginningFailure failure ⊎ FailsInSession request gathered failure
+    IsUnusable request gathered failure ⊎ FailsInSession request gathered failure
+
+-- The program cannot use what a request names: it has no result, for a failure with exit status 2.
+pub record HasUsageFailure (request : Request) (gathered : Gathered) : Type 0 where
+  pub failure : Failure
+  pub is_status : failure_status failure ≡ 2
+  pub fails : Fails request gathered failure
 
 -- The files of a request are refused: some written rule does not hold of them.
 pub record AreRefusedFor (request : Request) (gathered : Gathered) : Type 0 where
@@ -91,10 +99,13 @@ pub record LackTestFor (request : Request) (gathered : Gathered) : Type 0 where
   pub begun : IsSessionOf request gathered session
   pub lacks : LacksTestOf session request.question
 
--- What an exit status says of files: it is 3 only if some written rule does not hold of them,
--- and 4 only if all do and the files lack the requested profile, or where there is no requested
--- test.
+-- What an exit status says of a request and its files: it is 2 only where the list of tests, the
+-- metadata or a machine is not understood, where the program evaluates a filter that needs
+-- metadata, or where several tests have the name; 3 only where some written rule does not hold of
+-- the files; and 4 only where all do and the files lack the requested profile, or where there is no
+-- requested test.
 pub record IsReportedBy (request : Request) (gathered : Gathered) (status : ℕ) : Type 0 where
+  pub unusable : status ≡ 2 → HasUsageFailure request gathered
   pub refused : status ≡ 3 → AreRefusedFor request gathered
   pub lacking : status ≡ 4 → LackProfileFor request gathered ⊎ LackTestFor request gathered
 

@@ -4,7 +4,7 @@ ghost use Rattle.std.specs.List.{list_any};
 ghost use Rattle.nextest_sources.specs.Endings.{IsMemory};
 ghost use Rattle.rinqebo_findings.specs.Reports.{IsReportOf};
 ghost use Rattle.rinqebo_findings.specs.Faults.{ShowsFaults};
-ghost use Rattle.rinqebo_load.specs.Beginning.{IsBeginningFailure};
+ghost use Rattle.rinqebo_load.specs.declared.failure.Failure.TheVariants.{Memory};
 ghost use Rattle.rinqebo_run.specs.Checked.{IsCheckStatus, accepted_status, is_error};
 
 use crate::answer::Answer;
@@ -130,7 +130,7 @@ pub fn check(alloc: Global, session: &Session<'_>, deny_warnings: bool) -> Resul
     ensures ok { IfOk result (λ answer.
         IsCheckStatus session.now deny_warnings answer.report answer.status) }
     ensures about { IfOk result (λ answer. IsReportOf session.now answer.report) }
-    ensures err { IfErr result IsBeginningFailure }
+    ensures err { IfErr result (λ failure. failure ≡ Memory) }
 {
     match checked(alloc, session, deny_warnings) {
         Ok(answer) => Ok(answer),

@@ -14,7 +14,7 @@ returns-clause-ok c = record {
 pub returns-in_err-session-clause-err : goal.returns-in_err-session-clause-err
 returns-in_err-session-clause-err c =
     begins_not c.args.side.now c.args.gathered.now _ c.in_err-session.field-0.0 c.from_residual.ensures.1
-    c.in_err-session.ensures.err
+    c.in_err-session.ensures.cause
 
 pub returns-in_err-config-clause-err : goal.returns-in_err-config-clause-err
 returns-in_err-config-clause-err c =
