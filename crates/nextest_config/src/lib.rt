@@ -43,6 +43,7 @@ pub use nextest_engines::{
 };
 
 // Sources, warnings and refusals.
+pub use nextest_elements::{ConfigIdentifier, IdentifierOwner, InvalidIdentifier, ToolName};
 pub use nextest_inheritance::InheritsError;
 pub use nextest_sources::{
     ConfigCompileError, ConfigCompileErrorKind, ConfigCompileSection, ConfigFileSelection,
@@ -51,7 +52,6 @@ pub use nextest_sources::{
     ProfileListScriptUsesRunFiltersError, ProfileScriptErrors, ProfileUnknownScriptError,
     ProfileWrongConfigScriptTypeError, ReadOutcome, ToolConfigFile, UnknownTestGroupError,
 };
-pub use nextest_texts::{ConfigIdentifier, IdentifierOwner, InvalidIdentifier, ToolName};
 pub use nextest_tree::{Element, ElementCause, ElementFault, Tree, Walk};
 
 // Profiles, settings and what decides them.

@@ -1,1 +1,6 @@
 pub mod Retries
+pub mod DurationGrammar
+pub mod Durations
+pub mod IdentifierParts
+pub mod Identifiers
+pub mod Owners

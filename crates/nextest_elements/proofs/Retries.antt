@@ -10,7 +10,7 @@ use Rattle.nextest_tree.specs.Node.{Node, Entries, get}
 use Rattle.nextest_tree.specs.Reads.{IsDefaulted}
 use Rattle.nextest_tree.specs.Schema.{FaultCause}
 use Rattle.nextest_tree.proofs.Reading.{leaf_read}
-use Rattle.nextest_texts.specs.Nanoseconds.{duration_at}
+use Rattle.nextest_elements.specs.Nanoseconds.{duration_at}
 use Rattle.std.proofs.Common.{Result, Ok}
 use Rattle.nextest_elements.specs.RetryPolicy.{backoff_at, count_at, is_below, IsFixedRetry, IsExponentialRetry, IsRetryTable}
 use Rattle.nextest_elements.specs.RetryFunction.{retry_table, policy_of}

@@ -5,7 +5,7 @@ use Rattle.nextest_elements.specs.declared.bench.BenchOverride.{BenchOverride}
 use Rattle.nextest_tree.specs.Key.{key_text}
 use Rattle.nextest_tree.specs.Node.{Entries, get}
 use Rattle.nextest_tree.specs.Schema.{Schema, struct, Fields, may, no_more}
-use Rattle.nextest_texts.specs.Nanoseconds.{a_duration}
+use Rattle.nextest_elements.specs.Nanoseconds.{a_duration}
 use Rattle.nextest_tree.specs.Reads.{IsOptional}
 use Rattle.nextest_elements.specs.SlowTimeout.{slow_timeout, IsSlowTimeout}
 use Rattle.nextest_elements.specs.GlobalTimeout.{IsGlobalTimeout}

@@ -2,7 +2,7 @@
 use Rattle.std.specs.Prelude.{◌≡◌, Ok}
 use Rattle.nextest_elements.specs.declared.global_timeout.GlobalTimeout.{GlobalTimeout}
 use Rattle.nextest_tree.specs.Node.{Node}
-use Rattle.nextest_texts.specs.Nanoseconds.{duration_at}
+use Rattle.nextest_elements.specs.Nanoseconds.{duration_at}
 
 -- the node spells the period
 abbrev pub IsGlobalTimeout : Node → GlobalTimeout → Type 0

@@ -8,7 +8,7 @@ use Rattle.nextest_tree.specs.Key.{key_text}
 use Rattle.nextest_tree.specs.Node.{Node, table, Entries, get}
 use Rattle.nextest_tree.specs.Schema.{FaultCause, Schema, fields, are_noted, Fields, may, must, no_more}
 use Rattle.nextest_tree.specs.Leaf.{value, Spells, name_at, leaf_at, leaf_or}
-use Rattle.nextest_texts.specs.Nanoseconds.{duration_at, a_duration}
+use Rattle.nextest_elements.specs.Nanoseconds.{duration_at, a_duration}
 use Rattle.nextest_tree.specs.Spelling.{spellings}
 
 -- the name of a result, as it is written

@@ -15,3 +15,14 @@ pub mod GlobalTimeout
 pub mod Bench
 pub mod TestGroup
 pub mod Experimental
+pub mod Duration
+pub mod DurationFunction
+pub mod DurationSteps
+pub mod Nanoseconds
+pub mod Identifier
+pub mod IdentifierText
+pub mod NameText
+pub mod IdentifierReader
+pub mod Owner
+pub mod OwnerView
+pub mod OwnerEquality

@@ -9,7 +9,7 @@ use Rattle.nextest_tree.specs.Key.{key_text}
 use Rattle.nextest_tree.specs.Node.{Entries, get}
 use Rattle.nextest_tree.specs.Leaf.{Spells, bool_at, leaf_at}
 use Rattle.nextest_tree.specs.Reads.{IsOptional, IsRequired}
-use Rattle.nextest_texts.specs.Nanoseconds.{duration_at}
+use Rattle.nextest_elements.specs.Nanoseconds.{duration_at}
 use Rattle.nextest_elements.specs.RetryPolicy.{count_at, backoff_at, is_exponential, is_below}
 
 -- The table has these fields; a delay is among them where delays grow.

@@ -10,7 +10,7 @@ use Rattle.nextest_tree.specs.Node.{Node, table, int, Entries, get}
 use Rattle.nextest_tree.specs.Schema.{FaultCause, wrong_kind, out_of_range, Schema, fields, are_noted, Fields, field, may, must, no_more}
 use Rattle.nextest_tree.specs.Leaf.{value, Spells, name_at, bool_at, a_bool, leaf_at}
 use Rattle.nextest_tree.specs.Reads.{IsOptional, IsRequired, IsDefaulted}
-use Rattle.nextest_texts.specs.Nanoseconds.{duration_at, a_duration}
+use Rattle.nextest_elements.specs.Nanoseconds.{duration_at, a_duration}
 
 -- a number of tries, below 2 ^ 32
 abbrev pub count_at : Node → Result ℕ FaultCause

@@ -10,9 +10,9 @@ use Rattle.nextest_tree.specs.Key.{key_text}
 use Rattle.nextest_tree.specs.Node.{Node, text, Entries, get}
 use Rattle.nextest_tree.specs.Schema.{FaultCause, wrong_kind, bad_value, Schema, struct, Fields, must, no_more}
 use Rattle.nextest_tree.specs.Leaf.{value, leaf_at}
-use Rattle.nextest_texts.specs.Identifier.{is_identifier}
-use Rattle.nextest_texts.specs.IdentifierText.{identifier_text}
-use Rattle.nextest_texts.specs.IdentifierReader.{identifier_expected, IsIdentifierAt}
+use Rattle.nextest_elements.specs.Identifier.{is_identifier}
+use Rattle.nextest_elements.specs.IdentifierText.{identifier_text}
+use Rattle.nextest_elements.specs.IdentifierReader.{identifier_expected, IsIdentifierAt}
 use Rattle.nextest_elements.specs.TestThreads.{test_threads_at, a_test_threads}
 
 -- the text of a custom group

@@ -1,8 +1,8 @@
 //! How long a whole run may take.
-ghost use Rattle.nextest_texts.specs.Nanoseconds.{a_duration};
+ghost use Rattle.nextest_elements.specs.Nanoseconds.{a_duration};
 ghost use Rattle.nextest_elements.specs.GlobalTimeout.{IsGlobalTimeout};
 
-use nextest_texts::Nanoseconds;
+use crate::nanoseconds::Nanoseconds;
 use nextest_tree::{Element, ElementFault, Tree, Walk};
 use std::alloc::Global;
 

@@ -3,7 +3,7 @@ ghost use Rattle.std.specs.Prelude.{◌≡◌, Some};
 ghost use Rattle.nextest_tree.specs.Leaf.{Spells};
 ghost use Rattle.nextest_elements.specs.LeakTimeout.{leak_result_text, leak_result_at, a_leak_result, leak_fields, leak_table, leak_timeout, leak_of, IsLeakTimeout};
 
-use nextest_texts::Nanoseconds;
+use crate::nanoseconds::Nanoseconds;
 use nextest_tree::{
     Element, ElementCause, ElementFault, Key, Record, Tree, Walk, optional, read_one_of,
     read_record, required,
@@ -110,7 +110,7 @@ impl Record for LeakTimeout {
     }
 }
 
-#[tactic(auto, unfolding(nextest_tree::specs::Reads::reading, nextest_tree::specs::Reads::walk_view, nextest_texts::specs::Nanoseconds::a_duration))]
+#[tactic(auto, unfolding(nextest_tree::specs::Reads::reading, nextest_tree::specs::Reads::walk_view, crate::specs::Nanoseconds::a_duration))]
 impl Element for LeakTimeout {
     ghost schema = { leak_timeout };
 

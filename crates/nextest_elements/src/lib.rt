@@ -1,16 +1,22 @@
-//! The elements of a nextest configuration: the readers of all small values.
+//! The elements of a nextest configuration: the readers of all small values, and the texts that
+//! have a grammar of their own: identifiers, names of tools, durations.
 //!
-//! Trees and the form of a reader come from `nextest_tree`, identifiers and durations from
-//! `nextest_texts`, and are given on.
+//! Such a text is read from a text alone, and from a tree by the reader of its kind. Trees and the
+//! form of a reader come from `nextest_tree`, and are given on.
 #![tactic(auto)]
 
 mod bench;
+mod duration;
 mod experimental;
 mod flaky_result;
 mod global_timeout;
+mod identifier;
+mod identifier_reader;
 mod junit;
+pub mod laws;
 mod leak_timeout;
 mod max_fail;
+mod nanoseconds;
 mod positive;
 mod retry_policy;
 mod run_mode;
@@ -23,15 +29,15 @@ mod test_threads;
 mod threads_required;
 
 pub use bench::{BenchConfig, BenchOverride};
+pub use duration::{DurationError, parse_duration};
 pub use experimental::ConfigExperimental;
 pub use flaky_result::FlakyResult;
 pub use global_timeout::GlobalTimeout;
+pub use identifier::{ConfigIdentifier, IdentifierOwner, InvalidIdentifier, ToolName};
 pub use junit::{JunitConfig, JunitFlakyFailStatus, JunitImpl, JunitOverride, ReportSkipPolicy};
 pub use leak_timeout::{LeakTimeout, LeakTimeoutResult};
 pub use max_fail::MaxFail;
-pub use nextest_texts::{
-    ConfigIdentifier, DurationError, InvalidIdentifier, Nanoseconds, ToolName, parse_duration,
-};
+pub use nanoseconds::Nanoseconds;
 pub use nextest_tree::{
     Element, ElementCause, ElementFault, Ignored, Key, Name, Record, Tree, Walk, law_fault_order,
     optional, read_closed_record, read_record, read_table, required, required_if,

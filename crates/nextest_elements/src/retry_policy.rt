@@ -7,7 +7,7 @@ ghost use Rattle.nextest_elements.specs.RetryPolicy.{backoff_at, a_backoff, coun
 ghost use Rattle.nextest_elements.specs.RetryFunction.{HasRetryFields, policy_of};
 ghost use Rattle.nextest_tree.specs.Leaf.{Spells};
 
-use nextest_texts::Nanoseconds;
+use crate::nanoseconds::Nanoseconds;
 use nextest_tree::{
     Element, ElementCause, ElementFault, Key, Record, Tree, Walk, optional, read_one_of,
     read_record, required, required_if,

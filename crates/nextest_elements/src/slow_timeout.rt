@@ -3,8 +3,8 @@ ghost use Rattle.std.specs.Prelude.{◌≡◌, Some};
 ghost use Rattle.nextest_tree.specs.Leaf.{Spells};
 ghost use Rattle.nextest_elements.specs.SlowTimeout.{slow_result_text, slow_result_at, a_slow_result, slow_fields, slow_table, slow_timeout, slow_of, IsSlowTimeout};
 
+use crate::nanoseconds::Nanoseconds;
 use crate::positive::Positive;
-use nextest_texts::Nanoseconds;
 use nextest_tree::{
     Element, ElementCause, ElementFault, Key, Record, Tree, Walk, optional, read_one_of,
     read_record, required,
@@ -129,7 +129,7 @@ impl Record for SlowTimeout {
     }
 }
 
-#[tactic(auto, unfolding(nextest_tree::specs::Reads::reading, nextest_tree::specs::Reads::walk_view, nextest_texts::specs::Nanoseconds::a_duration))]
+#[tactic(auto, unfolding(nextest_tree::specs::Reads::reading, nextest_tree::specs::Reads::walk_view, crate::specs::Nanoseconds::a_duration))]
 impl Element for SlowTimeout {
     ghost schema = { slow_timeout };
 

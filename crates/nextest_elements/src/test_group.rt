@@ -3,11 +3,11 @@ ghost use Rattle.std.specs.Prelude.{◌≡◌, List, Option, ℕ, Some};
 ghost use Rattle.nextest_tree.specs.Schema.{FaultCause};
 ghost use Rattle.nextest_tree.specs.Leaf.{Spells};
 ghost use Rattle.nextest_tree.specs.Reads.{InTable};
-ghost use Rattle.nextest_texts.specs.IdentifierReader.{identifier_cause, an_identifier};
+ghost use Rattle.nextest_elements.specs.IdentifierReader.{identifier_cause, an_identifier};
 ghost use Rattle.nextest_elements.specs.TestGroup.{custom_group_text, IsCustomGroup, group_text, test_group_at, a_test_group, group_fields, IsGroupTable, group_config};
 
+use crate::identifier::ConfigIdentifier;
 use crate::test_threads::TestThreads;
-use nextest_texts::ConfigIdentifier;
 use nextest_tree::{
     Element, ElementCause, ElementFault, Key, Name, Record, Tree, Walk, read_record, required,
 };
@@ -36,7 +36,7 @@ pub struct TestGroupConfig {
 }
 
 impl CustomTestGroup {
-    ghost use Rattle.nextest_texts.specs.IdentifierText.{identifier_text};
+    ghost use Rattle.nextest_elements.specs.IdentifierText.{identifier_text};
 
     /// The identifier of the group.
     pub fn as_identifier(&self) -> &ConfigIdentifier
@@ -130,7 +130,7 @@ impl Name for CustomTestGroup {
     ghost ordered = { λ a b. Prim.search rules };
 }
 
-#[tactic(auto, unfolding(nextest_tree::specs::Reads::reading, nextest_tree::specs::Reads::walk_view, crate::specs::TestGroup::a_test_group, crate::specs::TestGroup::global_text, nextest_texts::specs::IdentifierReader::an_identifier))]
+#[tactic(auto, unfolding(nextest_tree::specs::Reads::reading, nextest_tree::specs::Reads::walk_view, crate::specs::TestGroup::a_test_group, crate::specs::TestGroup::global_text, crate::specs::IdentifierReader::an_identifier))]
 impl Element for TestGroup {
     ghost schema = { a_test_group };
 

@@ -2,7 +2,7 @@
 use Rattle.std.proofs.Common.{◌≡◌, ◌∙◌, ◌++◌, ◌||◌, ℕ, List, [], ◌∷◌, Bool, true, false, Bor, IfSome, MatchOption, Option, None, Some, Ordering, Less, Equal, Greater, ap, append-nil, codes, map, refl, sym, Vec}
 use Rattle.std.proofs.lemmas.List.{map-append}
 use Rattle.std.specs.declared.alloc.Global.{Global}
-use Rattle.nextest_texts.specs.IdentifierText.{tool_name_text}
+use Rattle.nextest_elements.specs.IdentifierText.{tool_name_text}
 use Rattle.std.specs.BTreeSet.{BTreeSet, insert_key}
 use Rattle.std.specs.List.{list_any}
 use Rattle.std.specs.Ordering.{match_ordering}

@@ -5,7 +5,7 @@ use Rattle.std.specs.List.{AllZip}
 use Rattle.nextest_scripts.specs.Paths.{joined_path}
 use Rattle.nextest_sources.specs.Inputs.{LoadInputs}
 use Rattle.nextest_sources.specs.Sources.{Outcome, InputFile, ToolFile, file_view, tool_file_view}
-use Rattle.nextest_texts.specs.IdentifierText.{tool_name_text}
+use Rattle.nextest_elements.specs.IdentifierText.{tool_name_text}
 use Rattle.nextest_explain.specs.declared.command.Command.{Command}
 use Rattle.nextest_explain.specs.declared.options.ToolFile.{ToolFile as NamedToolFile}
 use Rattle.nextest_explain.specs.declared.sources.Sources.{Sources}

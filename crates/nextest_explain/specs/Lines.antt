@@ -9,7 +9,7 @@ use Rattle.nextest_settings.specs.Queries.{Origin, unwritten, by_profile, by_ove
 use Rattle.nextest_settings.specs.Settings.{settings, setting_name}
 use Rattle.nextest_settings.specs.declared.setting.Setting.{Setting}
 use Rattle.nextest_sources.specs.Sources.{Source, owner_of_source}
-use Rattle.nextest_texts.specs.Owner.{Owner, nobody, a_tool, the_organisation}
+use Rattle.nextest_elements.specs.Owner.{Owner, nobody, a_tool, the_organisation}
 use Rattle.nextest_explain.specs.declared.options.Places.{Places}
 use Rattle.nextest_explain.specs.declared.options.Places.TheVariants.{Words, Whole}
 

@@ -10,7 +10,7 @@ use Rattle.nextest_elements.specs.Experimental.{experimental_text}
 use Rattle.nextest_elements.specs.declared.experimental.ConfigExperimental.{ConfigExperimental}
 use Rattle.nextest_elements.specs.declared.run_mode.NextestRunMode.{NextestRunMode}
 use Rattle.nextest_elements.specs.declared.run_mode.NextestRunMode.TheVariants.{Test, Benchmark}
-use Rattle.nextest_texts.specs.IdentifierText.{tool_name_text}
+use Rattle.nextest_elements.specs.IdentifierText.{tool_name_text}
 use Rattle.nextest_explain.specs.declared.command.Command.{Command}
 use Rattle.nextest_explain.specs.declared.options.Options.{Options}
 use Rattle.nextest_explain.specs.declared.options.Places.{Places}

@@ -3,7 +3,7 @@ ghost use Rattle.std.specs.Prelude.{◌≡◌, [], ◌∷◌, ◌++◌, IfSome, 
 ghost use Rattle.nextest_explain.specs.Words.{given, AreOptionsOf};
 ghost use Rattle.nextest_explain.specs.Taking.{option_word, TakesOption};
 ghost use Rattle.nextest_elements.specs.Experimental.{experimental_text};
-ghost use Rattle.nextest_texts.specs.IdentifierText.{tool_name_text};
+ghost use Rattle.nextest_elements.specs.IdentifierText.{tool_name_text};
 
 use crate::command::CommandError;
 use nextest_config::{BuildPlatform, ConfigExperimental, ToolName};

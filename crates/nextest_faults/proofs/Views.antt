@@ -4,8 +4,8 @@ use Rattle.nextest_tree.specs.Node.{Node, table, array, text, int, bool, opaque,
 use Rattle.nextest_tree.specs.Schema.{FaultCause, Schema, any, leaf, fields, map_of, items_of, Fields, field, append_fields, at, faults, wrong_kind}
 use Rattle.nextest_tree.specs.Schema as schemas
 use Rattle.nextest_tree.specs.Leaf.{a_text, a_bool}
-use Rattle.nextest_texts.specs.IdentifierReader.{an_identifier}
-use Rattle.nextest_texts.specs.Nanoseconds.{a_duration}
+use Rattle.nextest_elements.specs.IdentifierReader.{an_identifier}
+use Rattle.nextest_elements.specs.Nanoseconds.{a_duration}
 use Rattle.nextest_elements.specs.FlakyResult.{a_flaky_result}
 use Rattle.nextest_elements.specs.Junit.{a_report_skip_policy, a_junit_flaky_fail_status}
 use Rattle.nextest_elements.specs.LeakTimeout.{a_leak_result}

@@ -4,8 +4,8 @@ use Rattle.nextest_tree.specs.Leaf.{cause_of, text_at, a_text, bool_at, a_bool, 
 use Rattle.nextest_tree.specs.Node.{Node, Nodes, Entries}
 use Rattle.nextest_tree.specs.Schema.{FaultCause, Schema, any, leaf, fields, map_of, items_of, are_noted, are_refused, Fields, no_more, field, not_table, not_array}
 use Rattle.nextest_tree.specs.Schema as schemas
-use Rattle.nextest_texts.specs.IdentifierReader.{identifier_at, identifier_cause, an_identifier}
-use Rattle.nextest_texts.specs.Nanoseconds.{duration_at, a_duration}
+use Rattle.nextest_elements.specs.IdentifierReader.{identifier_at, identifier_cause, an_identifier}
+use Rattle.nextest_elements.specs.Nanoseconds.{duration_at, a_duration}
 use Rattle.nextest_elements.specs.FlakyResult.{flaky_result_at, a_flaky_result}
 use Rattle.nextest_elements.specs.Junit.{report_skip_policy_at, a_report_skip_policy, junit_flaky_fail_status_at, a_junit_flaky_fail_status}
 use Rattle.nextest_elements.specs.LeakTimeout.{leak_result_at, a_leak_result}

@@ -5,14 +5,14 @@ ghost use Rattle.nextest_tree.specs.Key.{key_text};
 ghost use Rattle.nextest_tree.specs.Leaf.{leaf_at};
 ghost use Rattle.nextest_tree.specs.Node.{get};
 ghost use Rattle.nextest_tree.specs.View.{tree_view, nodes_view, entries_view};
-ghost use Rattle.nextest_texts.specs.Nanoseconds.{duration_at};
+ghost use Rattle.nextest_elements.specs.Nanoseconds.{duration_at};
 ghost use Rattle.nextest_elements.specs.RetryPolicy.{backoff_at, grows, grows_in, is_below, retry_across};
 ghost use Rattle.nextest_scripts.specs.CommandLine.{list_cause};
 ghost use Rattle.nextest_faults.specs.Found.{IsCause};
 ghost use Rattle.nextest_faults.specs.Places.{across_test, items_test, names_test, need_test};
 
 use crate::values::{name_cause, variable_cause};
-use nextest_texts::{ConfigIdentifier, parse_duration};
+use nextest_elements::{ConfigIdentifier, parse_duration};
 use nextest_tree::{ElementCause, Key, Tree};
 use std::alloc::{AllocError, Global};
 use std::collections::BTreeMap;

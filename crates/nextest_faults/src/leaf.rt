@@ -6,12 +6,11 @@ ghost use Rattle.nextest_faults.specs.Places.{leaf_test};
 
 use crate::values::{count_cause, element_cause, line_cause, words_cause};
 use nextest_elements::{
-    FinalStatusLevel, FlakyResult, JunitFlakyFailStatus, LeakTimeoutResult, Positive,
-    ReportSkipPolicy, SlowTimeoutResult, StatusLevel, TestGroup, TestOutputDisplay, TestPriority,
-    TestThreads, ThreadsRequired,
+    ConfigIdentifier, FinalStatusLevel, FlakyResult, JunitFlakyFailStatus, LeakTimeoutResult,
+    Nanoseconds, Positive, ReportSkipPolicy, SlowTimeoutResult, StatusLevel, TestGroup,
+    TestOutputDisplay, TestPriority, TestThreads, ThreadsRequired,
 };
 use nextest_scripts::{ScriptCommandRelativeTo, WrapperScriptTargetRunner};
-use nextest_texts::{ConfigIdentifier, Nanoseconds};
 use nextest_tree::{ElementCause, Tree};
 use std::alloc::{AllocError, Global};
 

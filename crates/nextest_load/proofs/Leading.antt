@@ -5,7 +5,7 @@ use Rattle.nextest_scripts.specs.SetupScript.{a_setup_script}
 use Rattle.nextest_scripts.specs.WrapperScript.{a_wrapper_script}
 use Rattle.nextest_tables.specs.Tables.{a_scripts_table, scripts_fields, file_fields, a_profile, a_file}
 use Rattle.nextest_tables.proofs.Free.{struct_free}
-use Rattle.nextest_texts.specs.IdentifierReader.{identifier_cause}
+use Rattle.nextest_elements.specs.IdentifierReader.{identifier_cause}
 use Rattle.nextest_tree.specs.declared.key.Key.{Key}
 use Rattle.nextest_tree.specs.declared.key.Key.TheVariants as keys
 use Rattle.nextest_tree.specs.Key.{key_text}

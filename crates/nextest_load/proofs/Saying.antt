@@ -12,7 +12,7 @@ use Rattle.nextest_tree.specs.Node.{Node, table, array, text, int, bool, opaque,
 use Rattle.nextest_tree.specs.Schema.{FaultCause, out_of_range, Schema, at, each_item, below, faults, fields_faults, field_faults, map_of, list_of}
 use Rattle.nextest_tree.specs.declared.key.Key.{Key}
 use Rattle.nextest_tree.specs.declared.key.Key.TheVariants as keys
-use Rattle.nextest_texts.specs.Nanoseconds.{duration_at, a_duration}
+use Rattle.nextest_elements.specs.Nanoseconds.{duration_at, a_duration}
 use Rattle.nextest_elements.specs.Bench.{bench, bench_fields}
 use Rattle.nextest_elements.specs.FlakyResult.{flaky_result_at, a_flaky_result}
 use Rattle.nextest_elements.specs.Junit.{a_junit, junit_fields, report_skip_policy_at, a_report_skip_policy, junit_flaky_fail_status_at, a_junit_flaky_fail_status}

@@ -1,7 +1,7 @@
 -- Which names a source may define.
 use Rattle.std.proofs.Common.{◌≡◌, ◌↔◌, IsTrue, refl, ap}
 use Rattle.std.proofs.lemmas.Slice.Eq.{bytes_eq-Decides}
-use Rattle.nextest_texts.specs.Owner.{Owner, nobody, the_organisation, a_tool, is_same_owner, owner_of_name}
+use Rattle.nextest_elements.specs.Owner.{Owner, nobody, the_organisation, a_tool, is_same_owner, owner_of_name}
 use Rattle.nextest_sources.specs.Sources.{SourceKind, owner_of_source}
 use Rattle.nextest_tables.specs.Written.{Name}
 use Rattle.nextest_rules.specs.Definitions.{MayDefine, may_define}

@@ -3,7 +3,7 @@ use Rattle.std.specs.Prelude.{◌≡◌, List, [], ◌∷◌, Bool, true, false,
 use Rattle.nextest_tree.specs.Schema.{is_one_of}
 use Rattle.nextest_elements.specs.declared.experimental.ConfigExperimental.{ConfigExperimental}
 use Rattle.nextest_elements.specs.declared.experimental.ConfigExperimental.TheVariants.{SetupScripts, WrapperScripts}
-use Rattle.nextest_texts.specs.Owner.{OwnerClass, owner_class, owner_of_name, is_same_owner}
+use Rattle.nextest_elements.specs.Owner.{OwnerClass, owner_class, owner_of_name, is_same_owner}
 use Rattle.nextest_tables.specs.FileTexts.{FileText, setup_ids_of}
 use Rattle.nextest_tables.specs.Written.{Name}
 use Rattle.nextest_sources.specs.Sources.{SourceKind, owner_of_source}

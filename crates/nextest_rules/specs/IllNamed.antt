@@ -1,7 +1,7 @@
 -- What contracts see of names that a source may not define.
 use Rattle.nextest_sources.specs.Causes.{LoadCause, ill_named_groups, ill_named_scripts}
 use Rattle.nextest_sources.specs.Errors.{group_names_view, script_names_view}
-use Rattle.nextest_texts.specs.Owner.{OwnerClass}
+use Rattle.nextest_elements.specs.Owner.{OwnerClass}
 use Rattle.nextest_rules.specs.declared.ill_named.IllNamed.{IllNamed}
 use Rattle.nextest_rules.specs.declared.ill_named.IllNamed.TheVariants as names
 

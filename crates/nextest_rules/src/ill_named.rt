@@ -6,9 +6,9 @@ ghost use Rattle.nextest_sources.specs.InputFaults.{fault_at_source};
 ghost use Rattle.nextest_sources.specs.Sources.{source_view, source_kind_view};
 ghost use Rattle.nextest_tables.specs.FileTexts.{names_in, script_ids_of};
 ghost use Rattle.nextest_tables.specs.View.{file_table_view};
-ghost use Rattle.nextest_texts.specs.IdentifierText.{identifier_text};
-ghost use Rattle.nextest_texts.specs.Owner.{owner_class};
-ghost use Rattle.nextest_texts.specs.OwnerView.{owner_view};
+ghost use Rattle.nextest_elements.specs.IdentifierText.{identifier_text};
+ghost use Rattle.nextest_elements.specs.Owner.{owner_class};
+ghost use Rattle.nextest_elements.specs.OwnerView.{owner_view};
 ghost use Rattle.nextest_tree.specs.Schema.{is_one_of};
 ghost use Rattle.nextest_rules.specs.Definitions as defs;
 ghost use Rattle.nextest_rules.specs.Definitions.{forbidden_names};
@@ -16,11 +16,10 @@ ghost use Rattle.nextest_rules.specs.IllNamed.{ill_named_cause};
 ghost use Rattle.nextest_rules.specs.Steps.{group_name_cause, script_name_cause};
 
 use crate::names::IdentifierKey;
-use nextest_elements::CustomTestGroup;
+use nextest_elements::{ConfigIdentifier, CustomTestGroup, IdentifierOwner};
 use nextest_scripts::ScriptId;
 use nextest_sources::{ConfigParseError, ConfigParseErrorKind, ConfigSource, ConfigSourceKind};
 use nextest_tables::FileTable;
-use nextest_texts::{ConfigIdentifier, IdentifierOwner};
 use std::alloc::{AllocError, Global};
 use std::collections::{BTreeMap, BTreeSet};
 

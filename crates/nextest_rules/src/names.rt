@@ -5,13 +5,12 @@ ghost use Rattle.std.specs.Cmp.Lexicographic.{slice_cmp};
 ghost use Rattle.std.specs.Ordering.{nat_cmp};
 ghost use Rattle.nextest_elements.specs.TestGroup.{custom_group_text};
 ghost use Rattle.nextest_scripts.specs.ScriptId.{script_text};
-ghost use Rattle.nextest_texts.specs.IdentifierText.{identifier_text};
+ghost use Rattle.nextest_elements.specs.IdentifierText.{identifier_text};
 ghost use Rattle.nextest_tree.specs.Schema.{is_one_of};
 ghost use Rattle.nextest_rules.specs.Definitions.{is_nonempty};
 
-use nextest_elements::CustomTestGroup;
+use nextest_elements::{ConfigIdentifier, CustomTestGroup};
 use nextest_scripts::ScriptId;
-use nextest_texts::ConfigIdentifier;
 use std::alloc::{AllocError, Global};
 use std::collections::{BTreeMap, BTreeSet};
 

@@ -7,7 +7,7 @@ use Rattle.nextest_scripts.specs.ScriptTexts.{SetupScriptText, SpellsSetupScript
 use Rattle.nextest_scripts.specs.SetupScript.{IsSetupTimeout, setup_timeout_of, IsSetupScript}
 use Rattle.nextest_scripts.specs.declared.setup_script.SetupScriptConfig.{SetupScriptConfig}
 use Rattle.nextest_scripts.specs.declared.setup_timeout.SetupScriptSlowTimeout.{SetupScriptSlowTimeout}
-use Rattle.nextest_texts.specs.Nanoseconds.{duration_at}
+use Rattle.nextest_elements.specs.Nanoseconds.{duration_at}
 use Rattle.nextest_tree.specs.declared.key.Key.TheVariants as keys
 use Rattle.nextest_tree.specs.Key.{key_text}
 use Rattle.nextest_tree.specs.Leaf.{Spells}

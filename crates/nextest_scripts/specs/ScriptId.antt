@@ -2,7 +2,7 @@
 use Rattle.std.specs.Prelude.{ℕ, List, ◌++◌, Option, Some, None, codes}
 use Rattle.std.specs.Fmt.{decimal}
 use Rattle.uuid.specs.Text.{hyphenated_text, lower}
-use Rattle.nextest_texts.specs.IdentifierText.{identifier_text}
+use Rattle.nextest_elements.specs.IdentifierText.{identifier_text}
 use Rattle.nextest_scripts.specs.declared.script_id.ScriptId.{ScriptId}
 
 -- The text of a script's id.

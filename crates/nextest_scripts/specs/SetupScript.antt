@@ -6,7 +6,7 @@ use Rattle.nextest_tree.specs.Leaf.{value, Spells, name_at, bool_at, a_bool, lea
 use Rattle.nextest_tree.specs.Node.{Node, table, Entries, get}
 use Rattle.nextest_tree.specs.Reads.{IsOptional}
 use Rattle.nextest_tree.specs.Schema.{FaultCause, Schema, fields, are_noted, struct, Fields, no_more, may, must}
-use Rattle.nextest_texts.specs.Nanoseconds.{duration_at, a_duration}
+use Rattle.nextest_elements.specs.Nanoseconds.{duration_at, a_duration}
 use Rattle.nextest_elements.specs.LeakTimeout.{leak_timeout, IsLeakTimeout}
 use Rattle.nextest_elements.specs.Positive.{positive_at, a_positive}
 use Rattle.nextest_elements.specs.SlowTimeout.{usual_grace_period}

@@ -1,12 +1,12 @@
 //! The ids of scripts.
 ghost use Rattle.std.specs.Prelude.{◌≡◌, ◌≢◌, IfOk, OnOk, IfErr, Err, Some, string_bytes};
-ghost use Rattle.nextest_texts.specs.Identifier.{IsIdentifier, HasFlaw};
-ghost use Rattle.nextest_texts.specs.IdentifierText.{identifier_text};
-ghost use Rattle.nextest_texts.specs.declared.identifier.InvalidIdentifier.{InvalidIdentifier};
+ghost use Rattle.nextest_elements.specs.Identifier.{IsIdentifier, HasFlaw};
+ghost use Rattle.nextest_elements.specs.IdentifierText.{identifier_text};
+ghost use Rattle.nextest_elements.specs.declared.identifier.InvalidIdentifier.{InvalidIdentifier};
 ghost use Rattle.nextest_scripts.specs.ScriptId.{script_text, unique_text};
 
 use crate::script_type::ScriptType;
-use nextest_texts::{ConfigIdentifier, InvalidIdentifier};
+use nextest_elements::{ConfigIdentifier, InvalidIdentifier};
 use std::alloc::{AllocError, Global};
 use std::fmt;
 use thiserror::Error;

@@ -1,12 +1,12 @@
 //! The readers of the ids of scripts, as values and as keys.
 ghost use Rattle.std.specs.Prelude.{List, Option, ℕ};
-ghost use Rattle.nextest_texts.specs.IdentifierReader.{an_identifier, identifier_cause};
+ghost use Rattle.nextest_elements.specs.IdentifierReader.{an_identifier, identifier_cause};
 ghost use Rattle.nextest_tree.specs.Schema.{FaultCause};
 ghost use Rattle.nextest_scripts.specs.ScriptId.{script_text};
 ghost use Rattle.nextest_scripts.specs.ScriptIdReader.{IsScriptId};
 
 use crate::script_id::ScriptId;
-use nextest_texts::ConfigIdentifier;
+use nextest_elements::ConfigIdentifier;
 use nextest_tree::{Element, ElementFault, Name, Tree, Walk};
 use std::alloc::Global;
 

@@ -3,8 +3,7 @@ ghost use Rattle.std.specs.Prelude.{◌≡◌, Some};
 ghost use Rattle.nextest_tree.specs.Leaf.{Spells};
 ghost use Rattle.nextest_scripts.specs.SetupScript.{IsSetupTimeout, a_setup_result, a_setup_timeout, setup_result_at, setup_timeout_fields, setup_timeout_of, setup_timeout_table};
 
-use nextest_elements::{Positive, USUAL_GRACE_PERIOD};
-use nextest_texts::Nanoseconds;
+use nextest_elements::{Nanoseconds, Positive, USUAL_GRACE_PERIOD};
 use nextest_tree::{
     Element, ElementCause, ElementFault, Key, Record, Tree, Walk, optional, read_one_of,
     read_record, required,
@@ -89,7 +88,7 @@ impl Record for SetupScriptSlowTimeout {
     }
 }
 
-#[tactic(auto, unfolding(nextest_tree::specs::Reads::reading, nextest_tree::specs::Reads::walk_view, nextest_texts::specs::Nanoseconds::a_duration))]
+#[tactic(auto, unfolding(nextest_tree::specs::Reads::reading, nextest_tree::specs::Reads::walk_view, nextest_elements::specs::Nanoseconds::a_duration))]
 impl Element for SetupScriptSlowTimeout {
     ghost schema = { a_setup_timeout };
 

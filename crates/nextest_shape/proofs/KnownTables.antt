@@ -4,7 +4,7 @@ use Rattle.nextest_tree.specs.declared.key.Key.TheVariants as keys
 use Rattle.nextest_tree.specs.Leaf.{a_text, any_key}
 use Rattle.nextest_tree.specs.Node.{Node, table, Entries}
 use Rattle.nextest_tree.specs.Schema.{Schema, unknown, map_of}
-use Rattle.nextest_texts.specs.IdentifierReader.{identifier_cause, an_identifier}
+use Rattle.nextest_elements.specs.IdentifierReader.{identifier_cause, an_identifier}
 use Rattle.nextest_elements.specs.TestGroup.{group_fields, group_config}
 use Rattle.nextest_scripts.specs.Command.{command_fields, a_command}
 use Rattle.nextest_scripts.specs.CommandLine.{a_command_line}

@@ -2,8 +2,8 @@
 use Rattle.std.proofs.Common.{ℕ, List, Bool, true, refl}
 use Rattle.nextest_tree.specs.Leaf.{a_text, a_bool}
 use Rattle.nextest_tree.specs.Schema.{any, list_of}
-use Rattle.nextest_texts.specs.IdentifierReader.{an_identifier}
-use Rattle.nextest_texts.specs.Nanoseconds.{a_duration}
+use Rattle.nextest_elements.specs.IdentifierReader.{an_identifier}
+use Rattle.nextest_elements.specs.Nanoseconds.{a_duration}
 use Rattle.nextest_elements.specs.Bench.{bench_fields, bench, bench_override_fields, bench_override}
 use Rattle.nextest_elements.specs.FlakyResult.{a_flaky_result}
 use Rattle.nextest_elements.specs.Junit.{a_report_skip_policy, a_junit_flaky_fail_status, junit_override_fields, a_junit_override, junit_fields, a_junit}

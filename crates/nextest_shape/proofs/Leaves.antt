@@ -7,10 +7,10 @@ use Rattle.std.specs.Str.{bytes_eq}
 use Rattle.nextest_tree.specs.Node.{Node, table, array, text, int, bool, opaque, no_nodes, node}
 use Rattle.nextest_tree.specs.Leaf.{cause_of, value, text_at, a_text, bool_at, a_bool, name_at}
 use Rattle.nextest_tree.specs.Schema.{FaultCause, bad_value, out_of_range, leaf, at, is_one_of, faults, unknown, each_item}
-use Rattle.nextest_texts.specs.DurationFunction.{duration_of, duration_result}
-use Rattle.nextest_texts.specs.Identifier.{is_identifier}
-use Rattle.nextest_texts.specs.IdentifierReader.{identifier_expected, identifier_at, identifier_cause, an_identifier}
-use Rattle.nextest_texts.specs.Nanoseconds.{duration_value, duration_at, a_duration}
+use Rattle.nextest_elements.specs.DurationFunction.{duration_of, duration_result}
+use Rattle.nextest_elements.specs.Identifier.{is_identifier}
+use Rattle.nextest_elements.specs.IdentifierReader.{identifier_expected, identifier_at, identifier_cause, an_identifier}
+use Rattle.nextest_elements.specs.Nanoseconds.{duration_value, duration_at, a_duration}
 use Rattle.nextest_elements.specs.MaxFail.{limit_names, limit_expected, limit_at, limited, a_limit}
 use Rattle.nextest_elements.specs.Positive.{positive_at, a_positive}
 use Rattle.nextest_elements.specs.RetryPolicy.{count_at, a_count}

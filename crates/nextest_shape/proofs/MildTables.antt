@@ -2,7 +2,7 @@
 use Rattle.std.proofs.Common.{true, refl, Bool, false, inl, inr}
 use Rattle.nextest_tree.specs.Leaf.{a_text, any_key}
 use Rattle.nextest_tree.specs.Schema.{Schema, map_of}
-use Rattle.nextest_texts.specs.IdentifierReader.{identifier_cause}
+use Rattle.nextest_elements.specs.IdentifierReader.{identifier_cause}
 use Rattle.nextest_elements.specs.TestGroup.{group_fields, group_config}
 use Rattle.nextest_scripts.specs.Command.{command_fields, a_command}
 use Rattle.nextest_scripts.specs.EnvMap.{env_key_cause, an_env_map}

@@ -3,7 +3,7 @@ use Rattle.std.proofs.Common.{[], ◌∷◌, true, codes, refl}
 use Rattle.nextest_tree.specs.Leaf.{a_text}
 use Rattle.nextest_tree.specs.Schema.{Schema, list_of, map_of}
 use Rattle.nextest_documents.proofs.Laying.{equal_text}
-use Rattle.nextest_texts.specs.IdentifierReader.{identifier_cause}
+use Rattle.nextest_elements.specs.IdentifierReader.{identifier_cause}
 use Rattle.nextest_elements.specs.Bench.{bench_fields, bench, bench_override_fields, bench_override}
 use Rattle.nextest_elements.specs.FlakyResult.{flaky_result_names, flaky_result_expected, a_flaky_result}
 use Rattle.nextest_elements.specs.Junit.{report_skip_policy_names, report_skip_policy_expected, a_report_skip_policy, junit_flaky_fail_status_names, junit_flaky_fail_status_expected, a_junit_flaky_fail_status, junit_override_fields, a_junit_override, junit_fields, a_junit}

@@ -5,8 +5,8 @@ use Rattle.nextest_tree.specs.declared.key.Key.{Key}
 use Rattle.nextest_tree.specs.Key.{key_text}
 use Rattle.nextest_tree.specs.Node.{Node, table, array, text, int, bool, Nodes, no_nodes, node, Entries, get}
 use Rattle.nextest_tree.specs.Schema.{is_one_of, others}
-use Rattle.nextest_texts.specs.DurationFunction.{duration_of}
-use Rattle.nextest_texts.specs.Identifier.{is_identifier}
+use Rattle.nextest_elements.specs.DurationFunction.{duration_of}
+use Rattle.nextest_elements.specs.Identifier.{is_identifier}
 use Rattle.nextest_elements.specs.TestGroup.{global_text}
 use Rattle.nextest_scripts.specs.CommandLine.{words_cause}
 use Rattle.nextest_scripts.specs.EnvKey.{is_env_var_key}

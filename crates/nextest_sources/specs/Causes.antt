@@ -5,7 +5,7 @@ use Rattle.nextest_elements.specs.declared.experimental.ConfigExperimental.{Conf
 use Rattle.nextest_inheritance.specs.Faults.{ParentFault}
 use Rattle.nextest_scripts.specs.declared.script_type.ScriptType.{ScriptType}
 use Rattle.nextest_scripts.specs.declared.script_type.ProfileScriptType.{ProfileScriptType}
-use Rattle.nextest_texts.specs.Owner.{OwnerClass}
+use Rattle.nextest_elements.specs.Owner.{OwnerClass}
 use Rattle.nextest_sources.specs.Sources.{Source, Outcome}
 
 -- a set of names, as the test of being one of them

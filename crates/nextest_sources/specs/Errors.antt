@@ -9,8 +9,8 @@ use Rattle.nextest_elements.specs.declared.test_group.CustomTestGroup.{CustomTes
 use Rattle.nextest_inheritance.specs.View.{inherits_error_view}
 use Rattle.nextest_scripts.specs.ScriptId.{script_text}
 use Rattle.nextest_scripts.specs.declared.script_id.ScriptId.{ScriptId}
-use Rattle.nextest_texts.specs.IdentifierText.{tool_name_text}
-use Rattle.nextest_texts.specs.Owner.{no_owner, organisation_owner, some_tool}
+use Rattle.nextest_elements.specs.IdentifierText.{tool_name_text}
+use Rattle.nextest_elements.specs.Owner.{no_owner, organisation_owner, some_tool}
 use Rattle.nextest_sources.specs.Causes.{NameSet, RuleSection, in_default_filter, in_override, in_script_rule, CompileCause, no_constraint, two_filters, parse_refusals, CompileFault, UnknownGroup, UnknownScript, WrongScript, ListFilter, ScriptFaults, LoadCause, duplicate_tool, no_text, no_document, bad_element, ill_named_groups, ill_named_scripts, both_script_keys, missing_features, both_script_kinds, bad_parents, compile_refusals, unknown_groups, bad_scripts}
 use Rattle.nextest_sources.specs.Sources.{Source, source_view, outcome_view, path_view, is_of_organisation}
 use Rattle.nextest_sources.specs.declared.error.compile.ConfigCompileError.{ConfigCompileError}

@@ -1,7 +1,7 @@
 -- What contracts see of files, outcomes and sources.
 use Rattle.std.specs.Prelude.{ℕ, List, Bool, true, false, Option, string_bytes}
-use Rattle.nextest_texts.specs.IdentifierText.{tool_name_text}
-use Rattle.nextest_texts.specs.Owner.{Owner, nobody, the_organisation, a_tool, is_the_organisation, tool_of_owner}
+use Rattle.nextest_elements.specs.IdentifierText.{tool_name_text}
+use Rattle.nextest_elements.specs.Owner.{Owner, nobody, the_organisation, a_tool, is_the_organisation, tool_of_owner}
 use Rattle.nextest_sources.specs.declared.sources.ConfigPath.{ConfigPath}
 use Rattle.nextest_sources.specs.declared.sources.ReadOutcome.{ReadOutcome}
 use Rattle.nextest_sources.specs.declared.sources.ReadOutcome.TheVariants as outcomes

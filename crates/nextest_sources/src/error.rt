@@ -11,10 +11,9 @@ use crate::error::message::{begin_detail, separate, write_detail, write_each, wr
 use crate::sources::{ConfigPath, ConfigSource, ConfigSourceKind, ReadOutcome};
 pub use compile::{ConfigCompileError, ConfigCompileErrorKind, ConfigCompileSection};
 pub use groups::UnknownTestGroupError;
-use nextest_elements::{ConfigExperimental, CustomTestGroup};
+use nextest_elements::{ConfigExperimental, CustomTestGroup, ToolName};
 use nextest_inheritance::InheritsError;
 use nextest_scripts::ScriptId;
-use nextest_texts::ToolName;
 use nextest_tree::{ElementCause, ElementFault};
 pub use scripts::{
     ProfileListScriptUsesRunFiltersError, ProfileScriptErrors, ProfileUnknownScriptError,
@@ -257,7 +256,7 @@ impl std::error::Error for ConfigParseError {}
 #[tactic(auto, unfolding(crate::specs::Endings::error_view, nextest_tree::specs::Reads::fault_view))]
 impl ConfigParseError {
     ghost use Rattle.std.specs.Prelude.{◌≡◌, IsTrue, option_map, option_and_then, None, not, is_some, IsSome};
-    ghost use Rattle.nextest_texts.specs.IdentifierText.{tool_name_text};
+    ghost use Rattle.nextest_elements.specs.IdentifierText.{tool_name_text};
     ghost use Rattle.nextest_tree.specs.Reads.{fault_view};
     ghost use Rattle.nextest_sources.specs.Causes.{at_source, bad_element};
     ghost use Rattle.nextest_sources.specs.Endings.{error_view, no_memory, Refuses};

@@ -1,6 +1,6 @@
 //! What a load reads: the files that it is given, as sources in their order.
 ghost use Rattle.std.specs.Prelude.{◌≡◌, ◌++◌, ◌∷◌, [], List, IfOk, OnOk, MatchOption, map, option_map};
-ghost use Rattle.nextest_texts.specs.IdentifierText.{tool_name_text};
+ghost use Rattle.nextest_elements.specs.IdentifierText.{tool_name_text};
 ghost use Rattle.nextest_sources.specs.Endings.{Found, ending};
 ghost use Rattle.nextest_sources.specs.InputFaults.{fault_at_source, outcome_cause, first_path, second_cause, tool_steps};
 ghost use Rattle.nextest_sources.specs.InputsView.{input_view};
@@ -13,7 +13,7 @@ use crate::sources::{
     ConfigInputs, ConfigPath, ConfigSource, ConfigSourceKind, FileInput, ReadOutcome,
     ToolConfigFile,
 };
-use nextest_texts::ToolName;
+use nextest_elements::ToolName;
 use std::alloc::{AllocError, Global};
 use std::collections::BTreeMap;
 

@@ -5,11 +5,10 @@
 ghost use Rattle.std.specs.Prelude.{◌≡◌, IfOk, Some, option_map};
 ghost use Rattle.nextest_sources.specs.Inputs.{selecting};
 ghost use Rattle.nextest_sources.specs.Sources.{path_view, source_view, source_kind_view, tool_of_source};
-ghost use Rattle.nextest_texts.specs.IdentifierText.{tool_name_text};
+ghost use Rattle.nextest_elements.specs.IdentifierText.{tool_name_text};
 
 use crate::one_line::OneLine;
-use nextest_elements::ConfigExperimental;
-use nextest_texts::{IdentifierOwner, ToolName};
+use nextest_elements::{ConfigExperimental, IdentifierOwner, ToolName};
 use std::alloc::{AllocError, Global};
 use std::collections::BTreeSet;
 use std::fmt;
@@ -164,7 +163,7 @@ pub enum ConfigSourceKind {
 }
 
 impl ConfigSourceKind {
-    ghost use Rattle.nextest_texts.specs.OwnerView.{owner_view};
+    ghost use Rattle.nextest_elements.specs.OwnerView.{owner_view};
     ghost use Rattle.nextest_sources.specs.Sources.{owner_of_source};
     ghost use Rattle.nextest_sources.specs.Sources as specs;
 

@@ -4,9 +4,9 @@ use Rattle.nextest_tree.specs.Key.{key_text}
 use Rattle.nextest_tree.specs.Node.{IsSorted}
 use Rattle.nextest_tree.specs.Leaf.{a_text, a_bool}
 use Rattle.nextest_tree.specs.Schema.{faults, unknown, field_faults, field_unknown}
-use Rattle.nextest_texts.specs.Duration.{duration_units}
-use Rattle.nextest_texts.specs.DurationFunction.{unit_size, runs, without_spaces, words_of, sum_of, some_sum_of, duration_of}
-use Rattle.nextest_texts.specs.Nanoseconds.{a_duration}
+use Rattle.nextest_elements.specs.Duration.{duration_units}
+use Rattle.nextest_elements.specs.DurationFunction.{unit_size, runs, without_spaces, words_of, sum_of, some_sum_of, duration_of}
+use Rattle.nextest_elements.specs.Nanoseconds.{a_duration}
 use Rattle.nextest_elements.specs.FlakyResult.{flaky_result_names, a_flaky_result}
 use Rattle.nextest_elements.specs.Junit.{a_junit, report_skip_policy_names, a_report_skip_policy, junit_flaky_fail_status_names, a_junit_flaky_fail_status}
 use Rattle.nextest_elements.specs.MaxFail.{a_max_fail}

@@ -3,8 +3,8 @@ use Rattle.std.proofs.Common.{◌≡◌, ℕ, List, [], ◌∷◌, map, Bool, tr
 use Rattle.nextest_tree.specs.Node.{Node, table, array, text, int, bool, opaque, Nodes, no_nodes, node, as_text}
 use Rattle.nextest_tree.specs.Reads.{IsOptional, IsList}
 use Rattle.nextest_tree.specs.Schema.{FaultCause, bad_value}
-use Rattle.nextest_texts.specs.Identifier.{is_identifier}
-use Rattle.nextest_texts.specs.IdentifierReader.{identifier_expected}
+use Rattle.nextest_elements.specs.Identifier.{is_identifier}
+use Rattle.nextest_elements.specs.IdentifierReader.{identifier_expected}
 use Rattle.nextest_scripts.specs.declared.script_id.ScriptId.{ScriptId}
 use Rattle.nextest_scripts.specs.ScriptId.{script_text}
 use Rattle.nextest_scripts.specs.ScriptIdReader.{IsScriptId}

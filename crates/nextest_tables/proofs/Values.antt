@@ -18,7 +18,7 @@ use Rattle.nextest_tree.specs.Node.{Node, table, array, text, int, bool, opaque,
 use Rattle.nextest_tree.specs.Reads.{IsOptional, IsList, InTable}
 use Rattle.nextest_tree.specs.Leaf.{IsText, Spells, leaf_at}
 use Rattle.nextest_tree.specs.Schema.{FaultCause}
-use Rattle.nextest_texts.specs.Nanoseconds.{duration_at}
+use Rattle.nextest_elements.specs.Nanoseconds.{duration_at}
 use Rattle.nextest_elements.specs.Bench.{IsBench, IsBenchOverride}
 use Rattle.nextest_elements.specs.GlobalTimeout.{IsGlobalTimeout}
 use Rattle.nextest_elements.specs.Junit.{IsJunit, IsJunitOverride}

@@ -4,8 +4,8 @@ use Rattle.std.specs.Prelude.{None}
 use Rattle.nextest_tree.specs.declared.key.Key.TheVariants as keys
 use Rattle.nextest_tree.specs.Leaf.{a_text, any_key}
 use Rattle.nextest_tree.specs.Schema.{Schema, any, fields, are_noted, items_of, Fields, no_more, append_fields, may, must, struct, list_of, map_of}
-use Rattle.nextest_texts.specs.IdentifierReader.{identifier_cause, an_identifier}
-use Rattle.nextest_texts.specs.Nanoseconds.{a_duration}
+use Rattle.nextest_elements.specs.IdentifierReader.{identifier_cause, an_identifier}
+use Rattle.nextest_elements.specs.Nanoseconds.{a_duration}
 use Rattle.nextest_elements.specs.Bench.{bench, bench_override}
 use Rattle.nextest_elements.specs.FlakyResult.{a_flaky_result}
 use Rattle.nextest_elements.specs.Junit.{a_junit, a_junit_override}

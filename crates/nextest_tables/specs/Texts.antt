@@ -6,7 +6,7 @@ use Rattle.nextest_tree.specs.declared.key.Key.TheVariants as keys
 use Rattle.nextest_tree.specs.Key.{key_text}
 use Rattle.nextest_tree.specs.Leaf.{leaf_at, bool_at}
 use Rattle.nextest_tree.specs.Node.{Node, table, bool, Nodes, no_nodes, node, Entries, no_entries, entry, get, as_text, as_array, as_table, member_of}
-use Rattle.nextest_texts.specs.Nanoseconds.{duration_at}
+use Rattle.nextest_elements.specs.Nanoseconds.{duration_at}
 use Rattle.nextest_elements.specs.declared.bench.BenchConfig.{BenchConfig}
 use Rattle.nextest_elements.specs.declared.bench.BenchOverride.{BenchOverride}
 use Rattle.nextest_elements.specs.declared.global_timeout.GlobalTimeout.{GlobalTimeout}

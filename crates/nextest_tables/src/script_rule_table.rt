@@ -40,7 +40,7 @@ pub struct ScriptRuleTable {
 #[derive(Drop)]
 struct ScriptIds(Vec<ScriptId>);
 
-#[tactic(auto, using(crate::proofs::Ids::one_id, crate::proofs::Ids::ids_are), unfolding(nextest_tree::specs::Reads::reading, nextest_tree::specs::Reads::walk_view, nextest_texts::specs::IdentifierReader::an_identifier, crate::specs::Tables::script_ids))]
+#[tactic(auto, using(crate::proofs::Ids::one_id, crate::proofs::Ids::ids_are), unfolding(nextest_tree::specs::Reads::reading, nextest_tree::specs::Reads::walk_view, nextest_elements::specs::IdentifierReader::an_identifier, crate::specs::Tables::script_ids))]
 impl Element for ScriptIds {
     ghost schema = { script_ids };
 

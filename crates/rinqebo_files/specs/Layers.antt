@@ -8,7 +8,7 @@ use Rattle.nextest_sources.specs.declared.sources.ReadOutcome.{ReadOutcome}
 use Rattle.nextest_sources.specs.declared.sources.ReadOutcome.TheVariants as outcomes
 use Rattle.nextest_sources.specs.declared.sources.ToolConfigFile.{ToolConfigFile}
 use Rattle.nextest_tables.specs.Defaults.{defaults}
-use Rattle.nextest_texts.specs.IdentifierText.{tool_name_text}
+use Rattle.nextest_elements.specs.IdentifierText.{tool_name_text}
 use Rattle.nextest_tree.specs.Node.{Node}
 use Rattle.nextest_tree.specs.View.{tree_view}
 use Rattle.rinqebo_features.specs.Features.{tree_read}

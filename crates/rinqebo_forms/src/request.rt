@@ -4,13 +4,13 @@ ghost use Rattle.serde_json.specs.View.{view};
 ghost use Rattle.nextest_sources.specs.Sources.{file_view, tool_file_view};
 ghost use Rattle.rinqebo_forms.specs.Reading.{Reads};
 ghost use Rattle.rinqebo_forms.specs.Requests.{config_file_in, file_in, tool_in, tools_in, machine_in, machine_view, switches_in, target_in, target_directory_in, request_in, request_view, request_of, organisation_file_in, tool_name_in};
-ghost use Rattle.nextest_texts.specs.IdentifierText.{tool_name_text};
+ghost use Rattle.nextest_elements.specs.IdentifierText.{tool_name_text};
 
 use crate::fault::{ExpectedValue, FieldPlace, Holder, RequestFault};
 use crate::outcome::outcome_in;
 use crate::values::{optional_string_at, string_at};
+use nextest_elements::{InvalidIdentifier, ToolName};
 use nextest_sources::{ConfigPath, ConfigPaths, FileInput, ToolConfigFile};
-use nextest_texts::{InvalidIdentifier, ToolName};
 use serde_json::Value;
 use std::alloc::Global;
 

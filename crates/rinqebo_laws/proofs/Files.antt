@@ -7,7 +7,7 @@ use Rattle.nextest_sources.specs.InputFaults.{HaveOneFileEach}
 use Rattle.nextest_sources.specs.Sources.{Source, SourceKind, ToolFile, explicit_file, discovered_file, organisation_file, tool_file, tool_file_view}
 use Rattle.nextest_sources.specs.declared.sources.FileInput.{FileInput}
 use Rattle.nextest_sources.specs.declared.sources.ToolConfigFile.{ToolConfigFile}
-use Rattle.nextest_texts.specs.IdentifierText.{tool_name_text}
+use Rattle.nextest_elements.specs.IdentifierText.{tool_name_text}
 use Rattle.rinqebo_files.specs.Layers.{LayerRead, file_layer, layer_view, layers_read, organisation_layers, repository_layer, tool_layer}
 use Rattle.rinqebo_files.specs.Origins.{IsFileAt}
 use Rattle.rinqebo_files.specs.declared.files.Gathered.{Gathered}

@@ -2,7 +2,7 @@
 use Rattle.std.specs.Prelude.{◌≡◌, ℕ, Bool, true, false, List, [], ◌∷◌, Option, None, Some, Ok, MatchOption, All, codes, option_and_then, slice_get, string_bytes, if◌then◌else◌}
 use Rattle.std.specs.Str.{bytes_eq}
 use Rattle.nextest_places.specs.Path.{item_at}
-use Rattle.nextest_texts.specs.Nanoseconds.{duration_at}
+use Rattle.nextest_elements.specs.Nanoseconds.{duration_at}
 use Rattle.nextest_tree.specs.Node.{Node, text, as_array, as_text, member_of}
 use Rattle.rinqebo_files.specs.Layers.{layer_tree}
 use Rattle.rinqebo_files.specs.declared.layers.Layer.{Layer}

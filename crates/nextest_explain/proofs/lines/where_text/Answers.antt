@@ -1,8 +1,8 @@
 use Rattle.std.proofs.Common.{◌≡◌, ◌∙◌, ap, sym, append_assoc}
 use Rattle.nextest_config.proofs.SpelledTexts.{spelled_as}
 use Rattle.nextest_sources.specs.Sources.{source_view, owner_of_source}
-use Rattle.nextest_texts.specs.Owner.{nobody, a_tool, the_organisation}
-use Rattle.nextest_texts.specs.OwnerView.{owner_view}
+use Rattle.nextest_elements.specs.Owner.{nobody, a_tool, the_organisation}
+use Rattle.nextest_elements.specs.OwnerView.{owner_view}
 use Rattle.nextest_explain.proofs.lines.where_text.Goals as goal
 
 pub returns-in-Tool : goal.returns-in-Tool

@@ -4,7 +4,7 @@ use Rattle.nextest_sources.specs.Causes.{ill_named_groups}
 use Rattle.nextest_sources.specs.InputFaults.{fault_at_source}
 use Rattle.nextest_sources.specs.Errors.{group_names_view}
 use Rattle.nextest_sources.specs.Sources.{source_view, owner_of_source}
-use Rattle.nextest_texts.specs.Owner.{owner_class}
+use Rattle.nextest_elements.specs.Owner.{owner_class}
 use Rattle.nextest_rules.specs.Definitions.{source_class}
 use Rattle.nextest_rules.proofs.Gathering.{gathered_none, gathered_some, none_mapped, some_mapped}
 use Rattle.nextest_rules.proofs.Telling.{told}

@@ -1,6 +1,6 @@
 use Rattle.std.proofs.Common.{◌≡◌, ap, ◌∙◌}
-use Rattle.nextest_texts.specs.Owner.{is_same_owner, owner_of_name}
-use Rattle.nextest_texts.specs.OwnerView.{owner_view}
+use Rattle.nextest_elements.specs.Owner.{is_same_owner, owner_of_name}
+use Rattle.nextest_elements.specs.OwnerView.{owner_view}
 use Rattle.nextest_rules.proofs.ill_named.may_define.Goals as goal
 
 pub returns : goal.returns

@@ -13,8 +13,8 @@ use Rattle.nextest_elements.specs.TestThreads.{a_test_threads}
 use Rattle.nextest_elements.specs.ThreadsRequired.{a_threads_required}
 use Rattle.nextest_scripts.specs.Command.{a_relative_to}
 use Rattle.nextest_scripts.specs.WrapperScript.{a_target_runner}
-use Rattle.nextest_texts.specs.IdentifierReader.{an_identifier}
-use Rattle.nextest_texts.specs.Nanoseconds.{a_duration}
+use Rattle.nextest_elements.specs.IdentifierReader.{an_identifier}
+use Rattle.nextest_elements.specs.Nanoseconds.{a_duration}
 use Rattle.nextest_elements.specs.RetryPolicy.{backoff_at, backoff_expected}
 use Rattle.nextest_scripts.specs.SetupScript.{setup_result_at, setup_result_expected}
 use Rattle.nextest_tree.specs.Leaf.{a_text, a_bool, cause_of}

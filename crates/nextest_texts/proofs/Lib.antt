@@ -1,5 +1,0 @@
-pub mod DurationGrammar
-pub mod Durations
-pub mod IdentifierParts
-pub mod Identifiers
-pub mod Owners

@@ -1,5 +1,0 @@
-use Rattle.nextest_texts.proofs.Identifiers.{form_to, form_from}
-use Rattle.nextest_texts.proofs.laws.law_form.Goals as goal
-
-pub returns : goal.returns
-returns c text form = (form_to text form, form_from text form)
