@@ -6,3 +6,16 @@ pub mod Sorted
 pub mod Texts
 pub mod Parting
 pub mod Members
+pub mod Lists
+pub mod Ways
+pub mod Highest
+pub mod LeafPaths
+pub mod Descending
+pub mod Showing
+pub mod Nearest
+pub mod JoinedKeys
+pub mod KeySets
+pub mod Writing
+pub mod Results
+pub mod Finding
+pub mod Concluding

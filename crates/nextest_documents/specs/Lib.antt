@@ -5,3 +5,10 @@ pub mod Displaced
 pub mod DisplacedView
 pub mod Laid
 pub mod Shown
+pub mod Layers
+pub mod Along
+pub mod Leaves
+pub mod Grounds
+pub mod Sections
+pub mod Entries
+pub mod Writers

@@ -6,7 +6,7 @@ use Rattle.filter_engine.specs.Engine.{Filter}
 use Rattle.filter_language.specs.Filtersets.{marks_view}
 use Rattle.nextest_inheritance.specs.Parents.{parents_in}
 use Rattle.nextest_inheritance.specs.View.{borrowed_view}
-use Rattle.nextest_grounds.specs.Layers.{keys_view}
+use Rattle.nextest_documents.specs.Layers.{keys_view}
 use Rattle.nextest_lists.specs.Lists.{ListTest}
 use Rattle.nextest_lists.specs.ListView.{listed_view}
 use Rattle.nextest_lists.specs.declared.list.ListedBinary.{ListedBinary}

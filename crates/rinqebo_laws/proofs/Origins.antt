@@ -2,7 +2,7 @@
 use Rattle.std.proofs.Common.{◌≡◌, ◌∙◌, ℕ, zero, suc, false, List, [], ◌∷◌, ◌++◌, Option, None, Some, map, option_and_then, slice_get, string_bytes, codes, refl, sym, ap, subst}
 use Rattle.std.specs.List.{AllByRecursion, AllZip}
 use Rattle.nextest_documents.specs.Shown.{Path}
-use Rattle.nextest_grounds.specs.Grounds.{AreGrounds, ShowsLeafBelow, Writes, profile_path}
+use Rattle.nextest_documents.specs.Grounds.{AreGrounds, ShowsLeafBelow, Writes, profile_path}
 use Rattle.nextest_places.specs.declared.step.Step.{Step}
 use Rattle.nextest_rules.specs.Rules.{RuleId}
 use Rattle.nextest_settings.specs.Queries.{Origin as Decider, unwritten, by_profile, by_override, by_script}

@@ -3,8 +3,8 @@ use Rattle.std.proofs.Common.{◌≡◌, ◌≢◌, ◌∙◌, ◌<◌, ◌==◌
 use Rattle.std.proofs.lemmas.Bool.{false≢true}
 use Rattle.std.proofs.lemmas.Option.{slice_get_read}
 use Rattle.std.specs.List.{AllZip}
-use Rattle.nextest_grounds.specs.Grounds.{AreNearestGrounds}
-use Rattle.nextest_grounds.specs.declared.grounds.Grounds.{Grounds}
+use Rattle.nextest_documents.specs.Grounds.{AreNearestGrounds}
+use Rattle.nextest_documents.specs.declared.grounds.Grounds.{Grounds}
 use Rattle.nextest_tables.specs.Written.{Name}
 use Rattle.rinqebo_files.specs.declared.layers.Layer.{Layer}
 use Rattle.rinqebo_report.specs.declared.origin.Origin.{Origin}

@@ -4,7 +4,7 @@ use Rattle.std.proofs.lemmas.List.{append-nil, map-append, take_more}
 use Rattle.std.proofs.lemmas.List.Elements.{filter-append}
 use Rattle.std.proofs.lemmas.Slice.Zip.{all_zipped_more}
 use Rattle.std.specs.List.{AllZip, list_any}
-use Rattle.nextest_grounds.specs.Layers.{keys_view}
+use Rattle.nextest_documents.specs.Layers.{keys_view}
 use Rattle.nextest_places.specs.declared.step.Step.{Step}
 use Rattle.rinqebo_files.specs.Origins.{IsPathPlace}
 use Rattle.rinqebo_files.specs.declared.layers.Layer.{Layer}

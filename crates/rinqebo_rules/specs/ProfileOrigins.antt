@@ -3,7 +3,7 @@ use Rattle.std.specs.Prelude.{◌≡◌, ◌≢◌, ◌⊎◌, ◌++◌, ℕ, ze
 use Rattle.std.specs.declared.alloc.Global.{Global}
 use Rattle.std.specs.List.{AllByRecursion, AllZip}
 use Rattle.std.specs.Str.{bytes_eq}
-use Rattle.nextest_grounds.specs.Grounds.{AreGrounds, Writes, profile_path}
+use Rattle.nextest_documents.specs.Grounds.{AreGrounds, Writes, profile_path}
 use Rattle.nextest_documents.specs.Shown.{Path}
 use Rattle.nextest_tables.specs.Written.{Name}
 use Rattle.nextest_tree.specs.Node.{Node}

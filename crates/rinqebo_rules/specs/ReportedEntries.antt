@@ -1,7 +1,7 @@
 -- Leaves as they are reported.
 use Rattle.std.specs.Prelude.{◌≡◌, ◌<◌, ℕ, List, Option, None, Some, string_bytes}
-use Rattle.nextest_grounds.specs.Entries.{Leaf, dotted}
-use Rattle.nextest_grounds.specs.Sections.{Region, of_profile, beside}
+use Rattle.nextest_documents.specs.Entries.{Leaf, dotted}
+use Rattle.nextest_documents.specs.Sections.{Region, of_profile, beside}
 use Rattle.nextest_places.specs.declared.step.Step.{Step}
 use Rattle.nextest_places.specs.declared.step.Step.TheVariants as steps
 use Rattle.rinqebo_rules.specs.LeafValue.{IsValueOf}

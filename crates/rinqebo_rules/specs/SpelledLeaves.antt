@@ -3,7 +3,7 @@
 use Rattle.std.specs.Prelude.{◌≡◌, ℕ, suc, List, [], ◌∷◌, ◌++◌, Bool, true, false, ◌&&◌, ◌==◌, Option, None, Some, option_map, option_and_then, map, filter, flat_map, slice_get, length, take, drop, codes, decimal, string_bytes, if◌then◌else◌}
 use Rattle.std.specs.List.{AllZip, join_by, list_any}
 use Rattle.std.specs.Str.{bytes_eq}
-use Rattle.nextest_grounds.specs.Writers.{countdown}
+use Rattle.nextest_documents.specs.Writers.{countdown}
 use Rattle.nextest_places.specs.declared.step.Step.{Step}
 use Rattle.nextest_tables.specs.Written.{Name}
 use Rattle.nextest_tree.specs.Node.{Node, table, array, Nodes, no_nodes, node, Entries, no_entries, entry, member_of}

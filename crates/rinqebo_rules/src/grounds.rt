@@ -1,8 +1,8 @@
 //! Where values of profiles are written.
 ghost use Rattle.std.specs.Prelude.{◌≡◌, ◌↔◌, [], ◌∷◌, IfOk, false, option_map};
 ghost use Rattle.std.specs.List.{AllZip};
-ghost use Rattle.nextest_grounds.specs.Grounds.{AreNearestGrounds};
-ghost use Rattle.nextest_grounds.specs.Layers.{layers_view, keys_view};
+ghost use Rattle.nextest_documents.specs.Grounds.{AreNearestGrounds};
+ghost use Rattle.nextest_documents.specs.Layers.{layers_view, keys_view};
 ghost use Rattle.rinqebo_report.specs.declared.origin.Origin.TheVariants as kinds;
 ghost use Rattle.rinqebo_rules.specs.ProfileOrigins.{AreIdleOrigins, AreOriginsWritten, AreProfileOrigins, HasNoReport, IsLayerOrigin, IsUnwritten, is_rule_key, key_path, report_path};
 ghost use Rattle.rinqebo_rules.specs.Trees.{trees_of};
@@ -10,7 +10,7 @@ ghost use Rattle.rinqebo_rules.specs.Trees.{trees_of};
 use crate::rule_places::setting_path;
 use crate::trees::trees_of;
 use nextest_config::Tree;
-use nextest_grounds::{Grounds, grounds_of};
+use nextest_documents::{Grounds, grounds_of};
 use nextest_places::Step;
 use rinqebo_files::{Layer, path_place};
 use rinqebo_report::{Origin, Part, Written};

@@ -1,14 +1,14 @@
 //! Leaves of a configuration as they are reported.
 ghost use Rattle.std.specs.Prelude.{◌≡◌, ◌++◌, Some, false, IfOk, MatchOption, map, option_map};
-ghost use Rattle.nextest_grounds.specs.Entries.{leaf_view};
-ghost use Rattle.nextest_grounds.specs.Layers.{keys_view};
-ghost use Rattle.nextest_grounds.specs.Sections.{base_path, section_view};
+ghost use Rattle.nextest_documents.specs.Entries.{leaf_view};
+ghost use Rattle.nextest_documents.specs.Layers.{keys_view};
+ghost use Rattle.nextest_documents.specs.Sections.{base_path, section_view};
 ghost use Rattle.nextest_tree.specs.View.{tree_view};
 ghost use Rattle.rinqebo_rules.specs.LeafValue.{is_tellable};
 ghost use Rattle.rinqebo_rules.specs.ReportedEntries.{step_key, profile_of, IsOriginOf, IsEntryOf};
 
 use crate::leaf_value::reported_value;
-use nextest_grounds::{LayerLeaf, Section, key_text};
+use nextest_documents::{LayerLeaf, Section, key_text};
 use nextest_places::Step;
 use rinqebo_report::{FilePlace, Origin, Part, Written};
 use std::alloc::{AllocError, Global};

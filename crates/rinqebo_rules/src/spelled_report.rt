@@ -2,7 +2,7 @@
 //! nextest.
 ghost use Rattle.std.specs.Prelude.{◌≡◌, ◌++◌, false, true, IfOk, MatchOption, filter, map, option_map, string_bytes};
 ghost use Rattle.std.specs.List.{AllZip, list_any};
-ghost use Rattle.nextest_grounds.specs.Layers.{keys_view};
+ghost use Rattle.nextest_documents.specs.Layers.{keys_view};
 ghost use Rattle.nextest_inheritance.specs.View.{borrowed_view};
 ghost use Rattle.rinqebo_rules.specs.Origins.{step_view};
 ghost use Rattle.rinqebo_rules.specs.SpelledLeaves.{AreSpelledOut, IsEntryOfLeaf, IsOriginOfLeaf, IsPlacedOrigin, base_steps, ends_or_dot, is_spelled_out, is_under, part_at, rule_part, spelled_view, step_text, steps_text};

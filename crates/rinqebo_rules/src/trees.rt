@@ -1,6 +1,6 @@
 //! The trees of the layers of a run.
 ghost use Rattle.std.specs.Prelude.{◌≡◌, IfOk};
-ghost use Rattle.nextest_grounds.specs.Layers.{layers_view};
+ghost use Rattle.nextest_documents.specs.Layers.{layers_view};
 ghost use Rattle.rinqebo_rules.specs.Trees.{trees_of};
 
 use nextest_config::Tree;

@@ -4,8 +4,8 @@ use Rattle.std.proofs.lemmas.List.{append-nil, map-append, take_more}
 use Rattle.std.proofs.lemmas.List.Elements.{filter-append}
 use Rattle.std.proofs.lemmas.Slice.Zip.{all_zipped_more}
 use Rattle.std.specs.List.{AllZip}
-use Rattle.nextest_grounds.specs.Entries.{Leaf, leaf_view}
-use Rattle.nextest_grounds.specs.declared.entries.LayerLeaf.{LayerLeaf as Found}
+use Rattle.nextest_documents.specs.Entries.{Leaf, leaf_view}
+use Rattle.nextest_documents.specs.declared.entries.LayerLeaf.{LayerLeaf as Found}
 use Rattle.rinqebo_rules.specs.LeafValue.{is_tellable}
 use Rattle.rinqebo_report.specs.declared.report.Entry.{Entry}
 use Rattle.filter_engine.specs.Compiling.{names_of}
@@ -13,7 +13,7 @@ use Rattle.filter_engine.specs.Engine.{Filter}
 use Rattle.filter_engine.specs.declared.compiling.FieldMatcher.{FieldMatcher}
 use Rattle.filter_language.specs.Filtersets.{marks_view}
 use Rattle.filter_language.specs.declared.filterset.Filterset.{Filterset}
-use Rattle.nextest_grounds.specs.Layers.{keys_view}
+use Rattle.nextest_documents.specs.Layers.{keys_view}
 use Rattle.nextest_load.specs.Config.{ConfigModel}
 use Rattle.nextest_load.specs.Load.{Loaded}
 use Rattle.nextest_profiles.specs.Meaning.{configured_meaning}

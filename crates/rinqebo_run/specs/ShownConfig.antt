@@ -2,7 +2,7 @@
 use Rattle.std.specs.Prelude.{◌≡◌, ℕ, List, [], ◌∷◌, ◌++◌, Bool, filter, Option}
 use Rattle.std.specs.List.{AllZip}
 use Rattle.nextest_elements.specs.declared.run_mode.NextestRunMode.TheVariants as modes
-use Rattle.nextest_grounds.specs.Entries.{AreEntries, Leaf}
+use Rattle.nextest_documents.specs.Entries.{AreEntries, Leaf}
 use Rattle.filter_engine.specs.Engine.{Filter}
 use Rattle.nextest_inheritance.specs.Parents.{parents_in}
 use Rattle.nextest_load.specs.Config.{ScriptTables, config_parents}

@@ -3,7 +3,7 @@
 ghost use Rattle.std.specs.Prelude.{◌≡◌, ◌==◌, ◌||◌, IfOk, codes, filter, length, map, not, option_map};
 ghost use Rattle.std.specs.List.{list_any};
 ghost use Rattle.std.specs.Str.{bytes_eq};
-ghost use Rattle.nextest_grounds.specs.Layers.{keys_view};
+ghost use Rattle.nextest_documents.specs.Layers.{keys_view};
 ghost use Rattle.rinqebo_rules.specs.RulePlaces.{place_view};
 ghost use Rattle.rinqebo_run.specs.InForce.{IsDefaultEntry, IsInForce, hide, is_default, overridden};
 

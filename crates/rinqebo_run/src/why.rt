@@ -1,6 +1,6 @@
 //! The rules of a setting, and the result of each.
 ghost use Rattle.std.specs.Prelude.{◌≡◌, ◌∷◌, All, IfErr, IfOk, List, map, option_map};
-ghost use Rattle.nextest_grounds.specs.Layers.{keys_view};
+ghost use Rattle.nextest_documents.specs.Layers.{keys_view};
 ghost use Rattle.nextest_inheritance.specs.Parents.{parents_in};
 ghost use Rattle.nextest_load.specs.Config.{config_parents};
 ghost use Rattle.nextest_settings.specs.Settings.{fallback_of};

@@ -1,7 +1,7 @@
 //! Why a test runs or not: the overrides that have a default filter, and the result of each.
 ghost use Rattle.std.specs.Prelude.{◌≡◌, ◌∷◌, not, codes, IfErr, IfOk, None, option_map};
 ghost use Rattle.std.specs.List.{list_any};
-ghost use Rattle.nextest_grounds.specs.Layers.{keys_view};
+ghost use Rattle.nextest_documents.specs.Layers.{keys_view};
 ghost use Rattle.nextest_inheritance.specs.Parents.{parents_in};
 ghost use Rattle.nextest_load.specs.Config.{config_parents};
 ghost use Rattle.nextest_tables.specs.FileTexts.{names_in, IsIn};

@@ -1,5 +1,5 @@
-use Rattle.nextest_grounds.specs.Layers.{layers_view, keys_view}
-use Rattle.nextest_grounds.proofs.Results.{overruled}
+use Rattle.nextest_documents.specs.Layers.{layers_view, keys_view}
+use Rattle.nextest_documents.proofs.Results.{overruled}
 use Rattle.rinqebo_rules.specs.ProfileOrigins.{report_path}
 use Rattle.rinqebo_rules.proofs.grounds.has_report.Goals as goal
 

@@ -1,5 +1,5 @@
 use Rattle.std.proofs.Common.{◌∙◌, ap, subst}
-use Rattle.nextest_grounds.specs.Layers.{layers_view, keys_view}
+use Rattle.nextest_documents.specs.Layers.{layers_view, keys_view}
 use Rattle.rinqebo_rules.specs.ProfileOrigins.{IsUnwritten, unwritten}
 use Rattle.rinqebo_rules.specs.Trees.{trees_of}
 use Rattle.rinqebo_rules.proofs.grounds.idle_grounds.Goals as goal

@@ -1,6 +1,6 @@
 use Rattle.std.proofs.Common.{◌∙◌, ap, subst}
 use Rattle.std.proofs.lemmas.Result.{IfOk-weaker}
-use Rattle.nextest_grounds.specs.Layers.{layers_view, keys_view}
+use Rattle.nextest_documents.specs.Layers.{layers_view, keys_view}
 use Rattle.rinqebo_rules.specs.ProfileOrigins.{IsUnwritten, built_in, no_profile}
 use Rattle.rinqebo_rules.specs.Trees.{trees_of}
 use Rattle.rinqebo_rules.proofs.grounds.profile_grounds.Goals as goal

@@ -2,7 +2,7 @@ use Rattle.std.proofs.Common.{inl, length, option_map, subst, sym}
 use Rattle.std.proofs.lemmas.Bool.{ltb-true}
 use Rattle.std.proofs.lemmas.Result.{IfOk-weaker}
 use Rattle.std.specs.List.{AllZip}
-use Rattle.nextest_grounds.specs.Layers.{keys_view}
+use Rattle.nextest_documents.specs.Layers.{keys_view}
 use Rattle.rinqebo_rules.specs.ProfileOrigins.{IsLayerOrigin}
 use Rattle.rinqebo_rules.proofs.ProfileOrigins.{name_at, some_of, some_reported, reported_by}
 use Rattle.rinqebo_rules.proofs.grounds.written_origins.Goals as goal

@@ -1,6 +1,6 @@
 use Rattle.std.proofs.Common.{◌≡◌, ◌++◌, Some, map, take}
-use Rattle.nextest_grounds.specs.Layers.{keys_view}
-use Rattle.nextest_grounds.specs.Sections.{base_path, section_view}
+use Rattle.nextest_documents.specs.Layers.{keys_view}
+use Rattle.nextest_documents.specs.Sections.{base_path, section_view}
 use Rattle.rinqebo_rules.specs.ReportedEntries.{step_key}
 use Rattle.rinqebo_rules.proofs.reported_entries.steps_of.Given as goal
 

@@ -1,7 +1,7 @@
 use Rattle.std.proofs.Common.{◌∙◌, ap, filter, map, subst}
 use Rattle.std.proofs.lemmas.List.{take_all}
 use Rattle.std.specs.List.{AllZip}
-use Rattle.nextest_grounds.specs.Layers.{keys_view}
+use Rattle.nextest_documents.specs.Layers.{keys_view}
 use Rattle.rinqebo_rules.specs.SpelledLeaves.{IsEntryOfLeaf, is_spelled_out, spelled_view}
 use Rattle.rinqebo_rules.proofs.SpelledEntries.{passes_more, passes_not}
 use Rattle.rinqebo_rules.proofs.spelled_report.entries_of_leaves.Goals as goal

@@ -1,6 +1,6 @@
 use Rattle.std.proofs.Common.{filter, map, take}
 use Rattle.std.specs.List.{AllZip}
-use Rattle.nextest_grounds.specs.Layers.{keys_view}
+use Rattle.nextest_documents.specs.Layers.{keys_view}
 use Rattle.rinqebo_rules.specs.SpelledLeaves.{IsEntryOfLeaf, is_spelled_out, spelled_view}
 use Rattle.rinqebo_rules.proofs.spelled_report.entries_of_leaves.Given as goal
 

@@ -1,5 +1,5 @@
 use Rattle.std.proofs.Common.{◌≡◌, take}
-use Rattle.nextest_grounds.specs.Layers.{layers_view}
+use Rattle.nextest_documents.specs.Layers.{layers_view}
 use Rattle.rinqebo_rules.specs.Trees.{trees_of}
 use Rattle.rinqebo_rules.proofs.trees.trees_of.Given as goal
 

@@ -1,5 +1,5 @@
 use Rattle.std.proofs.Common.{map, take}
-use Rattle.nextest_grounds.specs.Entries.{leaf_view}
+use Rattle.nextest_documents.specs.Entries.{leaf_view}
 use Rattle.rinqebo_run.specs.ShownConfig.{TellLeaves}
 use Rattle.rinqebo_run.proofs.show.reported_leaves.Given as goal
 

@@ -1,0 +1,10 @@
+use Rattle.std.proofs.Common.{◌≡◌, drop}
+use Rattle.nextest_tree.specs.View.{tree_view}
+use Rattle.nextest_documents.specs.Along.{node_along}
+use Rattle.nextest_documents.specs.Layers.{keys_view}
+use Rattle.nextest_documents.proofs.along.node_along.Given as goal
+
+abbrev pub invariant-loop-key : goal.invariant-loop-key
+invariant-loop-key l =
+    node_along (keys_view (drop l.key-index l.path)) (tree_view l.node)
+    ≡ node_along (keys_view l.path) (tree_view l.tree)

@@ -1,7 +1,0 @@
-use Rattle.std.proofs.Common.{◌-◌}
-use Rattle.nextest_grounds.specs.Layers.{layers_view, keys_view}
-use Rattle.nextest_grounds.proofs.Descending.{AreGroundsFrom}
-use Rattle.nextest_grounds.proofs.grounds.layers_with_leaves.Given as goal
-
-abbrev pub invariant-down : goal.invariant-down
-invariant-down l = AreGroundsFrom (layers_view l.layers) (keys_view l.path) (l.count - l.back) l.positions.items
