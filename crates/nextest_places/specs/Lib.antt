@@ -12,3 +12,4 @@ pub mod Pieces
 pub mod Place
 pub mod Search
 pub mod Standing
+pub mod Spans

@@ -7,7 +7,7 @@ use Rattle.toml.specs.Parse.{parse_document}
 use Rattle.nextest_documents.specs.Text.{tree_of}
 use Rattle.nextest_documents.specs.Value.{from_data, from_members}
 use Rattle.nextest_tree.specs.Node.{table}
-use Rattle.nextest_spans.specs.Spans.{IsDocumentOf}
+use Rattle.nextest_places.specs.Spans.Spans.{IsDocumentOf}
 
 of_members : (read : Option Members) (root : Data) → option_map toml.table read ≡ Some root
     → option_map (λ members. table (from_members members)) read ≡ Some (from_data root)

@@ -3,12 +3,12 @@ use Rattle.std.proofs.Common.{◌≡◌, ◌⊎◌, ℕ, List, inl, inr, Option,
 use Rattle.std.specs.Option.{IfSome, option_or}
 use Rattle.std.specs.Str.{IsCharBoundary}
 use Rattle.std.proofs.lemmas.Option.{none-some, same_Some}
-use Rattle.nextest_spans.specs.Spans.{IsKeyOf, IsPathSpan, IsValueOf, StandsAt}
-use Rattle.nextest_spans.specs.declared.path_spans.PathSpan.{PathSpan}
+use Rattle.nextest_places.specs.Spans.Spans.{IsKeyOf, IsPathSpan, IsValueOf, StandsAt}
+use Rattle.nextest_places.specs.declared.spans.path_spans.PathSpan.{PathSpan}
 use Rattle.nextest_places.specs.declared.place.Lines.{Lines}
 use Rattle.nextest_places.specs.declared.step.Step.{Step}
-use Rattle.nextest_spans.specs.declared.item.Item.{Item}
-use Rattle.nextest_spans.specs.declared.token.Span.{Span}
+use Rattle.nextest_places.specs.declared.spans.item.Item.{Item}
+use Rattle.nextest_places.specs.declared.spans.token.Span.{Span}
 use Rattle.toml.specs.Data.{Data}
 use Rattle.rinqebo_files.specs.Origins.{part_span}
 use Rattle.rinqebo_files.specs.declared.places.SpanPart.{SpanPart}

@@ -3,15 +3,15 @@
 use Rattle.std.specs.Prelude.{◌≡◌, ◌≢◌, ◌+◌, ℕ, List, Option, None, Some, MatchOption, option_map, slice_get, string_bytes}
 use Rattle.std.specs.List.{AllByRecursion}
 use Rattle.std.specs.Option.{option_and_then, option_or}
-use Rattle.nextest_spans.specs.Spans.{IsPathSpan}
-use Rattle.nextest_spans.specs.declared.path_spans.PathSpan.{PathSpan}
+use Rattle.nextest_places.specs.Spans.Spans.{IsPathSpan}
+use Rattle.nextest_places.specs.declared.spans.path_spans.PathSpan.{PathSpan}
 use Rattle.nextest_places.specs.Place.{HasNoPlace, IsPlaceOfPath}
 use Rattle.nextest_places.specs.declared.place.Lines.{Lines}
 use Rattle.nextest_places.specs.declared.step.Step.{Step}
-use Rattle.nextest_spans.specs.Positions.{position_of}
-use Rattle.nextest_spans.specs.declared.position.ColumnUnit.TheVariants.{Char}
-use Rattle.nextest_spans.specs.declared.position.TextPosition.{TextPosition}
-use Rattle.nextest_spans.specs.declared.token.Span.{Span}
+use Rattle.nextest_places.specs.Spans.Positions.{position_of}
+use Rattle.nextest_places.specs.declared.spans.position.ColumnUnit.TheVariants.{Char}
+use Rattle.nextest_places.specs.declared.spans.position.TextPosition.{TextPosition}
+use Rattle.nextest_places.specs.declared.spans.token.Span.{Span}
 use Rattle.nextest_sources.specs.Sources.{Source, SourceKind, tool_file, organisation_file, explicit_file, discovered_file}
 use Rattle.rinqebo_report.specs.declared.origin.FileLines.{FileLines}
 use Rattle.rinqebo_report.specs.declared.origin.FilePlace.{FilePlace}

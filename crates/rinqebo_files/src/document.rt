@@ -1,12 +1,11 @@
 //! The tree and the places of a file's text, or why the text is not a document.
 ghost use Rattle.std.specs.Prelude.{◌≡◌, IfOk};
 ghost use Rattle.toml.specs.View.{view};
-ghost use Rattle.nextest_spans.specs.Spans.{IsDocumentOf};
+ghost use Rattle.nextest_places.specs.Spans.Spans.{IsDocumentOf};
 ghost use Rattle.rinqebo_files.specs.Layers.{text_read};
 
 use nextest_config::{ReadOutcome, Tree};
-use nextest_places::Places;
-use nextest_spans::{ColumnUnit, PathSpans, TextPosition, position_at};
+use nextest_places::{ColumnUnit, PathSpans, Places, TextPosition, position_at};
 use std::alloc::{AllocError, Global};
 use toml::Value;
 

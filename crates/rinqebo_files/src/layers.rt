@@ -10,7 +10,7 @@ use crate::files::Gathered;
 use nextest_config::{
     ConfigPath, ConfigSource, ConfigSourceKind, FileInput, IdentifierOwner, ToolConfigFile, Tree,
 };
-use nextest_spans::PathSpans;
+use nextest_places::PathSpans;
 use nextest_tables::default_tree;
 use rinqebo_report::{Source, SourceKind};
 use std::alloc::{AllocError, Global};

@@ -4,8 +4,7 @@ ghost use Rattle.std.specs.Str.{IsCharBoundary};
 ghost use Rattle.rinqebo_files.specs.Origins.{IsPartPlace, IsPathPlace, IsPlaceIn, part_span, range_of};
 
 use crate::layers::Layer;
-use nextest_places::Step;
-use nextest_spans::{PathSpan, PathSpans, Span};
+use nextest_places::{PathSpan, PathSpans, Span, Step};
 use rinqebo_report::{FileLines, FilePlace, Position, Range};
 
 /// What the range of a place is of.

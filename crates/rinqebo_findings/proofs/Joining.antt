@@ -3,8 +3,8 @@ use Rattle.std.proofs.Common.{◌≡◌, ◌≢◌, ◌<◌, ◌≤◌, ◌⊎�
 use Rattle.std.proofs.lemmas.Bool.{cases_lt}
 use Rattle.std.proofs.lemmas.List.{get_or_past, get_or-replicate, get_or-set_other, length-replicate, map-append, take_all, take_more}
 use Rattle.nextest_places.specs.declared.step.Step.{Step}
-use Rattle.nextest_spans.specs.Paths.{path_step}
-use Rattle.nextest_spans.specs.Paths as paths
+use Rattle.nextest_places.specs.Spans.Paths.{path_step}
+use Rattle.nextest_places.specs.Spans.Paths as paths
 use Rattle.rinqebo_findings.specs.declared.value_faults.ValueFault.{ValueFault}
 use Rattle.rinqebo_findings.specs.Faults.{AreJoined, IsJoined, IsKeyIn}
 

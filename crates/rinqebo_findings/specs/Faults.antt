@@ -8,8 +8,8 @@ use Rattle.nextest_documents.specs.Text.{tree_of}
 use Rattle.nextest_faults.specs.Found.{Adds, refused_at}
 use Rattle.nextest_faults.specs.declared.found.FoundFault.{FoundFault}
 use Rattle.nextest_places.specs.declared.step.Step.{Step}
-use Rattle.nextest_spans.specs.Paths.{path_step}
-use Rattle.nextest_spans.specs.Paths as paths
+use Rattle.nextest_places.specs.Spans.Paths.{path_step}
+use Rattle.nextest_places.specs.Spans.Paths as paths
 use Rattle.nextest_tables.specs.Defaults.{defaults}
 use Rattle.nextest_tables.specs.Tables.{a_file}
 use Rattle.nextest_tree.specs.Node.{Node}

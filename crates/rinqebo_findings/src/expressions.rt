@@ -8,8 +8,7 @@ use filter_engine::FaultKind;
 use nextest_config::{
     ConfigCompileError, ConfigCompileErrorKind, ConfigCompileSection, Refusal, Tree,
 };
-use nextest_places::Step;
-use nextest_spans::offsets_of;
+use nextest_places::{Step, offsets_of};
 use rinqebo_codes::Code;
 use rinqebo_files::{host_text, profile_table, rule_table, target_text, text_at};
 use rinqebo_report::{

@@ -1,8 +1,8 @@
 //! The findings of all faults of values of a source: one for each fault, but for a key that a table
 //! refuses in place of one that it lacks: these two are one finding.
 ghost use Rattle.std.specs.Prelude.{◌≡◌, ◌++◌, ◌∷◌, [], IfOk, IfSome, IsTrue, List, OnOk, Some, map, slice_get, slice_index_or, slice_set, true, false};
-ghost use Rattle.nextest_spans.specs.Paths.{path_step};
-ghost use Rattle.nextest_spans.specs.Paths as paths;
+ghost use Rattle.nextest_places.specs.Spans.Paths.{path_step};
+ghost use Rattle.nextest_places.specs.Spans.Paths as paths;
 ghost use Rattle.rinqebo_findings.specs.Faults.{AreJoined, IsFindingOf, IsJoined, IsKeyIn, IsRefusedKey, ReportFaults};
 ghost use Rattle.rinqebo_findings.specs.declared.value_faults.ValueFault.{ValueFault};
 

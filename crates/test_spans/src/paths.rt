@@ -4,8 +4,7 @@
 //! prints the lines, the bytes of the key and those of the value, or `-` if there are none:
 //! `2..2 key 13..20 value 23..24`. A path without a place prints `none`.
 
-use nextest_places::{Lines, Step};
-use nextest_spans::{PathSpans, Span};
+use nextest_places::{Lines, PathSpans, Span, Step};
 use std::alloc::{AllocError, Global};
 
 /// Where the value at a path is written in a text.

@@ -7,7 +7,7 @@
 //! name with other characters than those of a key without quotes is written in double quotes. One that
 //! reads as no key is `?`.
 
-use nextest_spans::{
+use nextest_places::{
     Container, Item, KeyKind, Role, Token, TokenKind, ValueKind, items_of, nodes_of, reads_as,
     tokens_of,
 };

@@ -1,8 +1,8 @@
 use Rattle.std.proofs.Common.{◌≡◌, ◌∙◌, true, ap}
 use Rattle.std.specs.Str.{bytes_eq}
 use Rattle.std.proofs.lemmas.Slice.Eq.{bytes_eq-Decides}
-use Rattle.nextest_spans.specs.Paths.{path_step}
-use Rattle.nextest_spans.specs.Paths as paths
+use Rattle.nextest_places.specs.Spans.Paths.{path_step}
+use Rattle.nextest_places.specs.Spans.Paths as paths
 use Rattle.rinqebo_findings.proofs.value_faults.is_named.Goals as goal
 
 pub returns-in-Key : goal.returns-in-Key

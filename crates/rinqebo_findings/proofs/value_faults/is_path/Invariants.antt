@@ -1,5 +1,5 @@
 use Rattle.std.proofs.Common.{◌≡◌, map, take}
-use Rattle.nextest_spans.specs.Paths.{path_step}
+use Rattle.nextest_places.specs.Spans.Paths.{path_step}
 use Rattle.rinqebo_findings.proofs.value_faults.is_path.Given as goal
 
 -- the paths are the same so far

@@ -1,5 +1,5 @@
 use Rattle.std.proofs.Common.{◌∙◌, ap, sym}
-use Rattle.nextest_spans.specs.Paths.{path_step}
+use Rattle.nextest_places.specs.Spans.Paths.{path_step}
 use Rattle.rinqebo_findings.proofs.value_faults.is_step.Goals as goal
 
 pub returns-in-Key : goal.returns-in-Key

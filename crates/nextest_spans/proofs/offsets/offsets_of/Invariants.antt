@@ -1,9 +1,0 @@
-use Rattle.std.proofs.Common.{length}
-use Rattle.nextest_spans.proofs.PositionWalk.{Walked}
-use Rattle.nextest_spans.proofs.offsets.offsets_of.Given as goal
-
-abbrev pub invariant-pieces : goal.invariant-pieces
-invariant-pieces l = Walked l.token l.offsets.items l.rest
-
-abbrev pub decreases-pieces : goal.decreases-pieces
-decreases-pieces l = length l.rest

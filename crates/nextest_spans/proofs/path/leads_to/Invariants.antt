@@ -1,5 +1,0 @@
-use Rattle.nextest_spans.proofs.Climbing.{Climbs}
-use Rattle.nextest_spans.proofs.path.leads_to.Given as goal
-
-abbrev pub invariant-up : goal.invariant-up
-invariant-up l = Climbs l.items l.fn.parent l.path l.base l.left

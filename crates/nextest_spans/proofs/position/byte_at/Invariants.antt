@@ -1,9 +1,0 @@
-use Rattle.std.proofs.Common.{◌≡◌, ◌-◌, length}
-use Rattle.nextest_spans.specs.Positions.{IsBefore, IsPlace, position_of}
-use Rattle.nextest_spans.proofs.position.byte_at.Given as goal
-
-abbrev pub invariant-places : goal.invariant-places
-invariant-places l = IsPlace l.text l.byte × (l.at ≡ position_of l.unit l.text l.byte) × (¬ IsBefore l.position l.at)
-
-abbrev pub decreases-places : goal.decreases-places
-decreases-places l = length l.text - l.byte
