@@ -6,3 +6,4 @@ pub mod About
 pub mod Page
 pub mod Keys
 pub mod Mild
+pub mod Faults

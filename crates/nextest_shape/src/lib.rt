@@ -1,8 +1,10 @@
-//! The shape of a configuration file as data, and the JSON schema that says it to editors.
+//! The shape of a configuration file as data, the JSON schema that says it to editors, and all
+//! faults of the values of a file (`faults`).
 #![tactic(auto)]
 
 mod about;
 mod expression;
+mod faults;
 mod file;
 mod keys;
 mod laws;
@@ -15,6 +17,7 @@ mod scripts;
 mod shape;
 mod values;
 
+pub use faults::{FoundFault, file_faults, unknown_keys};
 pub use file::file_shape;
 pub use keys::keys_of;
 pub use laws::{law_keys, law_schema, law_values};

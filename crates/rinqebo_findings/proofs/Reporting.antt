@@ -2,8 +2,8 @@
 use Rattle.std.proofs.Common.{◌≡◌, ◌<◌, ◌≤◌, ℕ, List, [], ◌∷◌, ◌++◌, ◌+◌, length, map, take, get_or, inl, inr, refl, sym, ap, ◌∙◌, subst, arith}
 use Rattle.std.proofs.lemmas.List.{append_assoc, append-nil, length-take, take_all, take_more}
 use Rattle.nextest_documents.specs.Merge.{over}
-use Rattle.nextest_faults.specs.Found.{Adds, refused_at}
-use Rattle.nextest_faults.specs.declared.found.FoundFault.{FoundFault}
+use Rattle.nextest_shape.specs.Faults.Found.{Adds, refused_at}
+use Rattle.nextest_shape.specs.declared.faults.found.FoundFault.{FoundFault}
 use Rattle.nextest_tables.specs.Defaults.{defaults}
 use Rattle.nextest_tables.specs.Tables.{a_file}
 use Rattle.nextest_tree.specs.Node.{Node}

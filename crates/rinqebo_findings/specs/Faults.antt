@@ -5,8 +5,8 @@ use Rattle.std.specs.Borrow.{Bor}
 use Rattle.std.specs.declared.alloc.Global.{Global}
 use Rattle.nextest_documents.specs.Merge.{over}
 use Rattle.nextest_documents.specs.Text.{tree_of}
-use Rattle.nextest_faults.specs.Found.{Adds, refused_at}
-use Rattle.nextest_faults.specs.declared.found.FoundFault.{FoundFault}
+use Rattle.nextest_shape.specs.Faults.Found.{Adds, refused_at}
+use Rattle.nextest_shape.specs.declared.faults.found.FoundFault.{FoundFault}
 use Rattle.nextest_places.specs.declared.step.Step.{Step}
 use Rattle.nextest_places.specs.Spans.Paths.{path_step}
 use Rattle.nextest_places.specs.Spans.Paths as paths

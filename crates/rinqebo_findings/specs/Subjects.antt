@@ -1,7 +1,7 @@
 -- What findings are about.
 use Rattle.std.specs.Prelude.{◌≡◌, ◌⊎◌, ℕ, List, [], ◌∷◌, ◌++◌, Option, None, Some, option_map, string_bytes, codes}
 use Rattle.std.specs.Borrow.{Bor}
-use Rattle.nextest_faults.specs.Found.{step_text}
+use Rattle.nextest_shape.specs.Faults.Found.{step_text}
 use Rattle.nextest_places.specs.declared.step.Step.{Step}
 use Rattle.nextest_places.specs.declared.step.Step.TheVariants as steps
 use Rattle.nextest_tree.specs.declared.fault.ElementCause.{ElementCause}

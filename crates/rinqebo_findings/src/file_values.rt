@@ -10,7 +10,7 @@ use crate::unknown_keys::key_findings;
 use crate::value_faults::{ValueFault, fault_findings, with_strays};
 use nextest_config::Tree;
 use nextest_documents::lay_over;
-use nextest_faults::{file_faults, unknown_keys};
+use nextest_shape::{file_faults, unknown_keys};
 use nextest_tables::default_tree;
 use rinqebo_files::Layer;
 use rinqebo_load::Session;

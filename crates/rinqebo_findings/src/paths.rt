@@ -1,6 +1,6 @@
 //! Paths into files, as lists of steps, and the texts that spell them.
 ghost use Rattle.std.specs.Prelude.{◌≡◌, ◌++◌, ◌∷◌, [], IfOk, OnOk, string_bytes};
-ghost use Rattle.nextest_faults.specs.Found.{step_text};
+ghost use Rattle.nextest_shape.specs.Faults.Found.{step_text};
 ghost use Rattle.rinqebo_findings.specs.Subjects.{shown_path};
 
 use crate::findings::SourceAt;

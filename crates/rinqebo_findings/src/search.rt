@@ -19,7 +19,7 @@ use nextest_config::{
     ConfigExperimental, ConfigParseError, ConfigParseErrorKind, DefaultConfigWarnings, Tree,
 };
 use nextest_documents::{TextFault, lay_over, tree_from_text};
-use nextest_faults::file_faults;
+use nextest_shape::file_faults;
 use nextest_tables::default_tree;
 use rinqebo_codes::Code;
 use rinqebo_load::Session;

@@ -8,8 +8,8 @@
 use crate::escapes::{Escapes, unescaped};
 use crate::row::RowError;
 use nextest_documents::{lay_over, tree_from_text};
-use nextest_faults::{FoundFault, file_faults};
 use nextest_places::Step;
+use nextest_shape::{FoundFault, file_faults};
 use nextest_tables::default_tree;
 use std::alloc::{AllocError, Global};
 

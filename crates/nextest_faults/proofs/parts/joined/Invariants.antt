@@ -1,5 +1,0 @@
-use Rattle.std.proofs.Common.{◌≡◌, ◌++◌}
-use Rattle.nextest_faults.proofs.parts.joined.Given as goal
-
-abbrev pub invariant-loop-field : goal.invariant-loop-field
-invariant-loop-field l = l.all.items ++ l.field-iterator.rest.items ≡ l.fn.fields.items ++ l.fn.more.items

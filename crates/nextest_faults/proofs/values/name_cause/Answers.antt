@@ -1,7 +1,0 @@
-use Rattle.nextest_faults.proofs.Reading.{refused_name}
-use Rattle.nextest_faults.proofs.values.name_cause.Goals as goal
-
-pub returns : goal.returns
-returns g c =
-    refused_name _ _ c.in-Err.fault c.in_ok-cause_in-in-Err.field-0 c.in-Err.ensures.fault
-    c.in_ok-cause_in-in-Err.ensures.same c.in_ok-cause_in-in-Err.ensures.seen
