@@ -3,7 +3,7 @@
 #![tactic(auto)]
 
 use nextest_explain::{explain, refuse_for_memory};
-use nextest_files::DiskFiles;
+use nextest_sources::DiskFiles;
 use std::process::ExitCode;
 use std::rt::Env;
 use std::{env, io};

@@ -17,7 +17,7 @@ use crate::sources::Sources;
 use crate::writing::{ExplainFault, write_rows};
 use nextest_config::run::{ResolveFault, TestRow, resolve};
 use nextest_config::{BinaryQuery, BuildPlatforms, DefaultConfigWarnings, ParseContext, TestQuery};
-use nextest_files::FileReader;
+use nextest_sources::FileReader;
 use std::alloc::{AllocError, Global};
 use std::io::{self, Write};
 use toy_engines::filters::{ToyFilters, ToyTally};

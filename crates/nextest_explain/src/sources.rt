@@ -12,7 +12,7 @@ use nextest_config::{
     CONFIG_PATH, ConfigFileSelection, ConfigPath, ConfigPaths, FileInput, ReadOutcome,
     ToolConfigFile, join_paths,
 };
-use nextest_files::FileReader;
+use nextest_sources::FileReader;
 use std::alloc::{AllocError, Global};
 
 /// The files that a command names, as they were read.

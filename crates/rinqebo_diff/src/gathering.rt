@@ -1,7 +1,7 @@
 //! The files of both sides.
 use crate::request::DiffRequest;
 use nextest_config::ReadOutcome;
-use nextest_files::FileReader;
+use nextest_sources::FileReader;
 use rinqebo_files::{GatherFault, Gathered, gather};
 use rinqebo_request::Environment;
 use std::alloc::{AllocError, Global};

@@ -6,7 +6,7 @@ use crate::root::root_above;
 use nextest_config::{
     CONFIG_PATH, ConfigPath, ConfigPaths, FileInput, ReadOutcome, ToolConfigFile, join_paths,
 };
-use nextest_files::FileReader;
+use nextest_sources::FileReader;
 use rinqebo_request::{
     ConfigFile, Environment, FileOption, FileOptions, ListFile, NamedFile, Request, ToolFile,
 };

@@ -1,6 +1,6 @@
 //! The root of a workspace, looked for from a folder upward.
 use nextest_config::{CONFIG_PATH, ReadOutcome, join_paths};
-use nextest_files::FileReader;
+use nextest_sources::FileReader;
 use rinqebo_features::tree_of;
 use std::alloc::{AllocError, Global};
 

@@ -1,7 +1,7 @@
 //! Writers that fail: nothing is written afterwards, and the status is right.
 use nextest_config::ReadOutcome;
 use nextest_explain::explain;
-use nextest_files::FileReader;
+use nextest_sources::FileReader;
 use std::alloc::{AllocError, Global};
 use std::io::{self, ErrorKind, Write};
 use std::process::Abort;

@@ -1,7 +1,7 @@
 //! Files in memory.
 use crate::case::CaseError;
 use nextest_config::ReadOutcome;
-use nextest_files::FileReader;
+use nextest_sources::FileReader;
 use std::alloc::{AllocError, Global};
 
 /// What is there at the path of a file.

@@ -3,7 +3,7 @@ use nextest_config::{
     BinaryQuery, BuildPlatform, ConfigPath, ConfigPaths, FileInput, TestQuery, ToolConfigFile,
     ToolName,
 };
-use nextest_files::FileReader;
+use nextest_sources::FileReader;
 use std::alloc::{AllocError, Global};
 use test_cases::{Case, CaseError, StoredFiles};
 

@@ -1,7 +1,7 @@
 //! What is printed of a run.
 use crate::case::Setup;
 use nextest_config::ReadOutcome;
-use nextest_files::FileReader;
+use nextest_sources::FileReader;
 use rinqebo_diff::{AnyCommand, DiffRequest, gather_sides, parse_all, perform_diff};
 use rinqebo_files::gather;
 use rinqebo_request::Command;

@@ -2,7 +2,7 @@
 ghost use Rattle.std.specs.Prelude.{ℕ, List, IfOk};
 ghost use Rattle.nextest_sources.specs.Sources.{Outcome, outcome_view};
 
-use nextest_sources::ReadOutcome;
+use crate::sources::ReadOutcome;
 use std::alloc::{AllocError, Global};
 
 /// A source of files: the disk, or a table in memory.

@@ -1,6 +1,6 @@
 //! The files of the disk, and standard input.
 use crate::reader::FileReader;
-use nextest_sources::ReadOutcome;
+use crate::sources::ReadOutcome;
 use std::alloc::{AllocError, Global};
 use std::rt::Files;
 use std::{fs, io};
