@@ -2,9 +2,9 @@
 use Rattle.std.proofs.Common.{◌≡◌, ◌++◌, ◌∙◌, ℕ, Bool, true, false, List, [], Option, Result, Ok, Err, map, refl, sym, ap, append-nil, string_bytes, Vec, Global}
 use Rattle.std.specs.Result.{IfOk}
 use Rattle.nextest_engines.specs.Engines.{Test}
-use Rattle.nextest_profiles.specs.Meaning.{configured_meaning, profile_meaning}
-use Rattle.nextest_profiles.specs.Profiles.{IsProfileOf}
-use Rattle.nextest_profiles.proofs.MeaningOfTexts.{profile_means}
+use Rattle.nextest_settings.specs.Profiles.Meaning.{configured_meaning, profile_meaning}
+use Rattle.nextest_settings.specs.Profiles.Profiles.{IsProfileOf}
+use Rattle.nextest_settings.proofs.profiles.MeaningOfTexts.{profile_means}
 use Rattle.nextest_settings.specs.Profile.{Configured, EarlyModel, EvaluatableModel, profile_on}
 use Rattle.nextest_tables.specs.FileTexts.{names_in, IsIn}
 use Rattle.nextest_tree.specs.Schema.{is_one_of}

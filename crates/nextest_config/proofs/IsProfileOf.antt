@@ -2,7 +2,7 @@
 use Rattle.std.proofs.Common.{◌≡◌, ◌∙◌, ℕ, List, subst}
 use Rattle.nextest_inheritance.specs.Parents.{parents_in, IsChain}
 use Rattle.nextest_load.specs.Config.{config_parents}
-use Rattle.nextest_profiles.specs.Profiles.{IsProfileOf}
+use Rattle.nextest_settings.specs.Profiles.Profiles.{IsProfileOf}
 use Rattle.nextest_settings.specs.Profile.{Configured, EarlyModel, profile_of}
 use Rattle.nextest_tables.specs.Written.{Name}
 

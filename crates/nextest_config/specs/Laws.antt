@@ -14,7 +14,7 @@ use Rattle.nextest_load.specs.Agreement.{AgreeOn, StaysApart, WritesOnlyParent}
 use Rattle.nextest_load.specs.Config.{ScriptTables, config_of, config_parents}
 use Rattle.nextest_load.specs.Scripts.{AreScriptsOf}
 use Rattle.nextest_load.specs.Trees.{tree_in}
-use Rattle.nextest_profiles.specs.Memberships.{HaveDistinctIds}
+use Rattle.nextest_settings.specs.Profiles.Memberships.{HaveDistinctIds}
 use Rattle.nextest_rules.specs.Accepted.{IsAmong}
 use Rattle.nextest_rules.specs.Definitions.{Features}
 use Rattle.nextest_rules.specs.Rules.{Compiled, OverrideUse, at_name}

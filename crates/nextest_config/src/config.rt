@@ -6,7 +6,7 @@ ghost use Rattle.std.specs.Ordering.{nat_cmp};
 ghost use Rattle.nextest_engines.specs.Readings.{Readings, readings_view};
 ghost use Rattle.nextest_load.specs.Load.{IsLoad};
 ghost use Rattle.nextest_load.specs.Meaning.{loaded_meaning};
-ghost use Rattle.nextest_profiles.specs.Profiles.{IsProfileOf};
+ghost use Rattle.nextest_settings.specs.Profiles.Profiles.{IsProfileOf};
 ghost use Rattle.nextest_rules.specs.Definitions.{Features};
 ghost use Rattle.nextest_rules.specs.KnownView.{features_view};
 ghost use Rattle.nextest_sources.specs.Inputs.{LoadInputs, load_inputs_view, selecting};
@@ -21,7 +21,7 @@ use nextest_elements::ConfigExperimental;
 use nextest_engines::{Filters, ParseContext, Specs};
 use nextest_inheritance::{DEFAULT_MIRI_PROFILE, DEFAULT_PROFILE};
 use nextest_load::{LoadedConfig, MergedProfile};
-use nextest_profiles::EarlyProfile;
+use nextest_settings::EarlyProfile;
 use nextest_sources::{
     ConfigFileSelection, ConfigInputs, ConfigParseError, ConfigPaths, ConfigWarnings,
     DefaultConfigWarnings, FileInput, ToolConfigFile,

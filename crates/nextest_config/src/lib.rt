@@ -56,15 +56,14 @@ pub use nextest_tree::{Element, ElementCause, ElementFault, Tree, Walk};
 
 // Profiles, settings and what decides them.
 pub use nextest_inheritance::{DEFAULT_MIRI_PROFILE, DEFAULT_PROFILE};
-pub use nextest_profiles::{EarlyProfile, EvaluatableProfile, KnownGroups};
 pub use nextest_rules::{
     CompiledOverride, CompiledProfileScripts, OverrideId, PlatformSpecs, ReadFilter, ScriptRuleId,
 };
 pub use nextest_settings::{
-    CompiledDefaultFilter, CompiledDefaultFilterSection, EvaluatedOverride, EvaluatedRule,
-    EvaluatedRules, EvaluatedScriptRule, GroupLookup, ListSettings, PrecomputedGroupMembership,
-    Setting, SettingSource, SettingValue, SettingValues, SetupScript, SetupScriptIter,
-    SetupScripts, TestSettings, TrackSource,
+    CompiledDefaultFilter, CompiledDefaultFilterSection, EarlyProfile, EvaluatableProfile,
+    EvaluatedOverride, EvaluatedRule, EvaluatedRules, EvaluatedScriptRule, GroupLookup,
+    KnownGroups, ListSettings, PrecomputedGroupMembership, Setting, SettingSource, SettingValue,
+    SettingValues, SetupScript, SetupScriptIter, SetupScripts, TestSettings, TrackSource,
 };
 pub use nextest_tables::{OverrideOutputs, OverrideRuns, OverrideSettings};
 
@@ -77,12 +76,10 @@ pub use nextest_tables::{ProfileEnds, ProfileFields, ProfileOutputs, ProfileRuns
 pub use nextest_load::laws::{
     law_closed, law_cycles, law_keys_ascend, law_least_element, law_own_steps, law_shown,
 };
-pub use nextest_profiles::{
-    law_group_of_settings, law_known_groups, law_last_group, law_settings_of_texts,
-};
 pub use nextest_settings::{
     law_all_settings, law_evaluated_at_most_once, law_evaluated_exactly, law_first_override,
-    law_first_script_rule, law_rule_order,
+    law_first_script_rule, law_group_of_settings, law_known_groups, law_last_group, law_rule_order,
+    law_settings_of_texts,
 };
 
 // Values and scripts.

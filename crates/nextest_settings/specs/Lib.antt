@@ -18,3 +18,4 @@ pub mod ListView
 pub mod SetupView
 pub mod Order
 pub mod GroupView
+pub mod Profiles

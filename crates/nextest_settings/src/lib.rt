@@ -1,4 +1,5 @@
-//! The settings that rules give to tests, each at the first rule that holds and sets it.
+//! The settings that rules give to tests, each at the first rule that holds and sets it, and the
+//! profiles of a configuration (`profiles`): what they say, and what they give to tests.
 #![tactic(auto)]
 
 mod default_filter;
@@ -11,6 +12,7 @@ mod laws;
 mod list_settings;
 mod pass;
 mod platforms;
+mod profiles;
 mod setting;
 mod setting_value;
 mod setup_scripts;
@@ -37,6 +39,10 @@ pub use pass::matches_test;
 pub use platforms::{
     EvaluatedOverride, EvaluatedRule, EvaluatedScriptRule, evaluate_overrides,
     evaluate_script_rules, runs_on,
+};
+pub use profiles::{
+    EarlyProfile, EvaluatableProfile, KnownGroups, law_group_of_settings, law_known_groups,
+    law_last_group, law_settings_of_texts,
 };
 pub use setting::Setting;
 pub use setting_value::{SettingValue, SettingValues};

@@ -11,8 +11,8 @@ use Rattle.nextest_lists.specs.Lists.{ListTest}
 use Rattle.nextest_lists.specs.ListView.{listed_view}
 use Rattle.nextest_lists.specs.declared.list.ListedBinary.{ListedBinary}
 use Rattle.nextest_load.specs.Config.{ConfigModel, config_parents}
-use Rattle.nextest_profiles.specs.Meaning.{profile_meaning}
-use Rattle.nextest_profiles.specs.Profiles.{IsChainAndDefault}
+use Rattle.nextest_settings.specs.Profiles.Meaning.{profile_meaning}
+use Rattle.nextest_settings.specs.Profiles.Profiles.{IsChainAndDefault}
 use Rattle.nextest_tables.specs.FileTexts.{names_in, IsIn}
 use Rattle.platform_language.specs.Expressions.{Spec, spec_view}
 use Rattle.rinqebo_changes.specs.Changes.{is_change}

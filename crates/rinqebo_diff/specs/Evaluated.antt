@@ -4,8 +4,8 @@ use Rattle.filter_language.specs.Filtersets.{marks_view}
 use Rattle.nextest_inheritance.specs.Parents.{parents_in}
 use Rattle.nextest_inheritance.specs.View.{borrowed_view}
 use Rattle.nextest_load.specs.Config.{config_parents}
-use Rattle.nextest_profiles.specs.Meaning.{profile_meaning}
-use Rattle.nextest_profiles.specs.Profiles.{IsChainAndDefault}
+use Rattle.nextest_settings.specs.Profiles.Meaning.{profile_meaning}
+use Rattle.nextest_settings.specs.Profiles.Profiles.{IsChainAndDefault}
 use Rattle.nextest_tables.specs.Written.{Name}
 use Rattle.rinqebo_changes.specs.declared.diff.Diff.{Diff}
 use Rattle.rinqebo_rules.specs.Conditions.{is_met_by}

@@ -8,7 +8,7 @@ use Rattle.nextest_inheritance.specs.Parents.{IsChain, Parents, parents_in, with
 use Rattle.nextest_lists.specs.Lists.{ListTest, TestList, list_tests}
 use Rattle.nextest_load.specs.Closed.{BinaryMatch}
 use Rattle.nextest_load.specs.Config.{ConfigModel, ScriptTables, config_parents}
-use Rattle.nextest_profiles.specs.Profiles.{IsChainAndDefault}
+use Rattle.nextest_settings.specs.Profiles.Profiles.{IsChainAndDefault}
 use Rattle.nextest_settings.specs.Profile.{Configured, EarlyModel, EvaluatableModel, profile_of, profile_on}
 use Rattle.nextest_settings.specs.Queries.{query_in, setting_origin, setting_value}
 use Rattle.nextest_sources.specs.Sources.{Source}

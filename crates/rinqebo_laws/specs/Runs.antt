@@ -2,7 +2,7 @@
 use Rattle.std.specs.Prelude.{◌≡◌, ◌∷◌, [], Bool, List, Contains, None, Some, codes, map, option_map}
 use Rattle.nextest_inheritance.specs.Parents.{parents_in}
 use Rattle.nextest_load.specs.Config.{config_parents}
-use Rattle.nextest_profiles.specs.Profiles.{IsChainAndDefault}
+use Rattle.nextest_settings.specs.Profiles.Profiles.{IsChainAndDefault}
 use Rattle.nextest_tables.specs.Written.{Name}
 use Rattle.rinqebo_files.specs.declared.layers.Layer.{Layer}
 use Rattle.rinqebo_laws.specs.Reasons.{IsWithin, NoneDecides, origins_of}

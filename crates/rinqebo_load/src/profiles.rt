@@ -3,7 +3,7 @@ ghost use Rattle.std.specs.Prelude.{◌≡◌, IfOk};
 ghost use Rattle.nextest_inheritance.specs.Parents.{parents_in, IsChain};
 ghost use Rattle.nextest_inheritance.specs.View.{borrowed_view};
 ghost use Rattle.nextest_load.specs.Config.{config_parents};
-ghost use Rattle.nextest_profiles.specs.Profiles.{IsChainAndDefault};
+ghost use Rattle.nextest_settings.specs.Profiles.Profiles.{IsChainAndDefault};
 ghost use Rattle.nextest_tables.specs.FileTexts.{names_in, IsIn};
 ghost use Rattle.nextest_tree.specs.Schema.{is_one_of};
 

@@ -2,7 +2,7 @@
 use Rattle.std.specs.Prelude.{◌≡◌, ℕ, List, Option, Some, codes, map, option_map, string_bytes}
 use Rattle.nextest_elements.specs.StatusLevel.{final_status_level_text, status_level_text}
 use Rattle.nextest_elements.specs.declared.run_mode.NextestRunMode.TheVariants.{Benchmark, Test}
-use Rattle.nextest_profiles.specs.Junit.{IsReportWhereSet}
+use Rattle.nextest_settings.specs.Profiles.Junit.{IsReportWhereSet}
 use Rattle.nextest_settings.specs.Profile.{ProfileFacts}
 use Rattle.nextest_settings.specs.Settings.{global_timeout_in}
 use Rattle.nextest_settings.specs.Values.{nearest}

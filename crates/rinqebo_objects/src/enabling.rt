@@ -2,7 +2,7 @@
 ghost use Rattle.std.specs.Prelude.{◌≡◌, ◌&&◌, IfOk, map, option_map};
 ghost use Rattle.serde_json.specs.View.{view};
 ghost use Rattle.nextest_engines.specs.Engines.{test_view};
-ghost use Rattle.nextest_profiles.specs.Meaning.{profile_meaning};
+ghost use Rattle.nextest_settings.specs.Profiles.Meaning.{profile_meaning};
 ghost use Rattle.nextest_scripts.specs.ScriptId.{script_text};
 ghost use Rattle.nextest_settings.specs.Deciding.{rule_holds};
 ghost use Rattle.nextest_settings.specs.Engines.{test_query_by};
@@ -13,9 +13,8 @@ ghost use Rattle.rinqebo_objects.specs.Enabling.{enabling_data, enabling_in, tes
 ghost use Rattle.rinqebo_report.specs.Documents.{list_data};
 
 use nextest_engines::{EvalContext, Filters, Specs, TestQuery};
-use nextest_profiles::EvaluatableProfile;
 use nextest_scripts::ScriptId;
-use nextest_settings::{EvaluatedScriptRule, matches_test};
+use nextest_settings::{EvaluatableProfile, EvaluatedScriptRule, matches_test};
 use serde_json::{Value, json};
 use std::alloc::{AllocError, Global};
 

@@ -10,7 +10,7 @@ use nextest_elements::{
     FinalStatusLevel, GlobalTimeout, JunitConfig, MaxFail, NextestRunMode, StatusLevel, TestThreads,
 };
 use nextest_engines::{Filters, Specs};
-use nextest_profiles::EvaluatableProfile;
+use nextest_settings::EvaluatableProfile;
 use serde_json::{Map, Value, put};
 use std::alloc::{AllocError, Global};
 

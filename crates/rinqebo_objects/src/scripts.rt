@@ -2,7 +2,7 @@
 ghost use Rattle.std.specs.Prelude.{◌≡◌, IfOk, map, option_map, string_bytes};
 ghost use Rattle.serde_json.specs.View.{view};
 ghost use Rattle.nextest_engines.specs.Engines.{test_view};
-ghost use Rattle.nextest_profiles.specs.Meaning.{profile_meaning};
+ghost use Rattle.nextest_settings.specs.Profiles.Meaning.{profile_meaning};
 ghost use Rattle.nextest_scripts.specs.EnvMap.{env_view};
 ghost use Rattle.nextest_scripts.specs.ScriptId.{script_text};
 ghost use Rattle.nextest_scripts.specs.ScriptTexts.{command_view, setup_script_view, wrapper_script_view};
@@ -14,11 +14,11 @@ use crate::enabling::optional_tests_json;
 use crate::values::{names_json, optional_leak_json, optional_slow_json};
 use indexmap::IndexMap;
 use nextest_engines::{Filters, Specs, TestQuery};
-use nextest_profiles::EvaluatableProfile;
 use nextest_scripts::{
     ScriptCommand, ScriptCommandEnvMap, ScriptCommandRelativeTo, ScriptId, SetupScriptConfig,
     SetupScriptJunitConfig, WrapperScriptConfig, WrapperScriptTargetRunner,
 };
+use nextest_settings::EvaluatableProfile;
 use serde_json::{Map, Value, json, put};
 use std::alloc::{AllocError, Global};
 

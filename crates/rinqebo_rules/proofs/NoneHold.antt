@@ -1,6 +1,6 @@
 -- The overrides of a profile, by what they mean.
 use Rattle.std.proofs.Common.{◌≡◌, ◌∙◌, List, ap, map, sym}
-use Rattle.nextest_profiles.specs.Meaning.{profile_meaning}
+use Rattle.nextest_settings.specs.Profiles.Meaning.{profile_meaning}
 use Rattle.nextest_rules.specs.declared.overrides.CompiledOverride.{CompiledOverride}
 use Rattle.nextest_settings.specs.Profile.{EvaluatableModel}
 use Rattle.nextest_settings.specs.View.{evaluated_override_meaning, evaluated_override_view, meant_override}

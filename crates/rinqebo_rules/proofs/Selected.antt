@@ -2,7 +2,7 @@
 use Rattle.std.proofs.Common.{◌≡◌, ◌∙◌, Bool, List, Option, ap, map, option_map, subst}
 use Rattle.nextest_rules.specs.Rules.{RuleId}
 use Rattle.nextest_rules.specs.declared.overrides.CompiledOverride.{CompiledOverride}
-use Rattle.nextest_profiles.specs.Meaning.{profile_meaning}
+use Rattle.nextest_settings.specs.Profiles.Meaning.{profile_meaning}
 use Rattle.nextest_settings.specs.Chains.{first_of}
 use Rattle.nextest_settings.specs.Deciding.{QueryContext}
 use Rattle.nextest_settings.specs.Profile.{EvaluatableModel}

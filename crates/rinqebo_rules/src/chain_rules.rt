@@ -1,6 +1,6 @@
 //! The rules of a profile that may write a setting, and what they say of a test.
 ghost use Rattle.std.specs.Prelude.{◌≡◌, IfOk, List, map, option_map};
-ghost use Rattle.nextest_profiles.specs.RulesOn.{AreOverridesOn, AreScriptRulesOn};
+ghost use Rattle.nextest_settings.specs.Profiles.RulesOn.{AreOverridesOn, AreScriptRulesOn};
 ghost use Rattle.nextest_settings.specs.View.{script_rule_ref_view};
 ghost use Rattle.rinqebo_rules.specs.Conditions.{is_met_by};
 ghost use Rattle.rinqebo_rules.specs.RuleAnswers.{judged_here};

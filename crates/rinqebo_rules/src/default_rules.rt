@@ -2,7 +2,7 @@
 //! test.
 ghost use Rattle.std.specs.Prelude.{◌≡◌, IfOk, List, filter, map};
 ghost use Rattle.nextest_engines.specs.Engines.{test_view};
-ghost use Rattle.nextest_profiles.specs.RulesOn.{AreOverridesOn};
+ghost use Rattle.nextest_settings.specs.Profiles.RulesOn.{AreOverridesOn};
 ghost use Rattle.rinqebo_rules.specs.Conditions.{filter_matches, is_met_by};
 ghost use Rattle.rinqebo_rules.specs.FilterRules.{filter_facts, filter_rule_view, filter_rules, held_default, held_filter_rule};
 ghost use Rattle.rinqebo_rules.specs.RuleViews.{ReadOverride};

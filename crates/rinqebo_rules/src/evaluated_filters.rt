@@ -3,7 +3,7 @@ ghost use Rattle.std.specs.Prelude.{◌≡◌, ◌++◌, IfOk, None, map, option
 ghost use Rattle.std.specs.List.{flat_map};
 ghost use Rattle.filter_engine.specs.Compiling.{names_of};
 ghost use Rattle.filter_language.specs.Filtersets.{marks_view};
-ghost use Rattle.nextest_profiles.specs.Meaning.{profile_meaning};
+ghost use Rattle.nextest_settings.specs.Profiles.Meaning.{profile_meaning};
 ghost use Rattle.nextest_settings.specs.View.{meant_override, meant_script_rule};
 ghost use Rattle.rinqebo_rules.specs.EvaluatedFilters.{asks_any, default_site, evaluated_filters, evaluated_of, open_filters, placed_view, site_key, site_rule, site_view, which_has};
 ghost use Rattle.nextest_inheritance.specs.View.{borrowed_view};
@@ -17,8 +17,7 @@ use crate::rule_places::RulePlace;
 use crate::runs::filtering_place;
 use filter_engine::{Field, NextestFilters};
 use nextest_engines::BuildPlatform;
-use nextest_profiles::EvaluatableProfile;
-use nextest_settings::{EvaluatedOverride, EvaluatedScriptRule};
+use nextest_settings::{EvaluatableProfile, EvaluatedOverride, EvaluatedScriptRule};
 use platform_language::TargetSpecs;
 use rinqebo_files::Layer;
 use rinqebo_report::Origin;

@@ -2,7 +2,7 @@
 //! is ignored.
 ghost use Rattle.std.specs.Prelude.{◌≡◌, IfOk, None, codes, map, option_map};
 ghost use Rattle.nextest_engines.specs.Engines.{test_view};
-ghost use Rattle.nextest_profiles.specs.Meaning.{profile_meaning};
+ghost use Rattle.nextest_settings.specs.Profiles.Meaning.{profile_meaning};
 ghost use Rattle.nextest_rules.specs.View.{id_view};
 ghost use Rattle.nextest_settings.specs.Chains.{first_of};
 ghost use Rattle.nextest_settings.specs.Queries.{query_in};
@@ -14,9 +14,8 @@ ghost use Rattle.rinqebo_rules.specs.Runs.{IsRunsRow, filtering_id, filtering_pl
 use crate::RulePlace;
 use crate::origins::Origins;
 use nextest_engines::{BuildPlatform, Filters, Specs, TestQuery};
-use nextest_profiles::EvaluatableProfile;
 use nextest_rules::OverrideId;
-use nextest_settings::EvaluatedOverride;
+use nextest_settings::{EvaluatableProfile, EvaluatedOverride};
 use rinqebo_report::{Origin, Scalar, SettingRow, Value};
 use rinqebo_request::{RUNS, RequestedSettings, SettingKey};
 use std::alloc::{AllocError, Global};

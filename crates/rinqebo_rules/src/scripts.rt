@@ -1,14 +1,14 @@
 //! The scripts of a list: the setup scripts that its tests enable, and what wraps its binaries.
 ghost use Rattle.std.specs.Prelude.{◌≡◌, IfOk, filter_map, map, option_map, string_bytes};
 ghost use Rattle.nextest_engines.specs.Engines.{binary_view, test_view};
-ghost use Rattle.nextest_profiles.specs.Meaning.{profile_meaning};
+ghost use Rattle.nextest_settings.specs.Profiles.Meaning.{profile_meaning};
 ghost use Rattle.nextest_scripts.specs.ScriptId.{script_text};
 ghost use Rattle.nextest_settings.specs.Queries.{list_wrapper_of};
 ghost use Rattle.rinqebo_rules.specs.Scripts.{binary_in, enabled_ids, wrapper_at, wrapper_view, AreScriptsReported};
 
 use nextest_engines::{BinaryQuery, Filters, Specs, TestQuery};
-use nextest_profiles::EvaluatableProfile;
 use nextest_scripts::ScriptId;
+use nextest_settings::EvaluatableProfile;
 use rinqebo_report::{ListScripts, ListWrapper};
 use std::alloc::{AllocError, Global};
 

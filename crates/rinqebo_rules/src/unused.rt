@@ -2,8 +2,8 @@
 ghost use Rattle.std.specs.Prelude.{◌≡◌, ◌++◌, ◌∷◌, [], ◌||◌, ◌+◌, ◌<◌, ◌^◌, IfOk, OnOk, List, false, length, map, option_and_then, replicate, slice_get, unwrap_or};
 ghost use Rattle.std.specs.List.{AllZip};
 ghost use Rattle.nextest_engines.specs.Engines.{test_view};
-ghost use Rattle.nextest_profiles.specs.Meaning.{profile_meaning};
-ghost use Rattle.nextest_profiles.specs.SettingsOf.{AreSettingsOf};
+ghost use Rattle.nextest_settings.specs.Profiles.Meaning.{profile_meaning};
+ghost use Rattle.nextest_settings.specs.Profiles.SettingsOf.{AreSettingsOf};
 ghost use Rattle.nextest_rules.specs.View.{id_view, script_rule_id_view};
 ghost use Rattle.nextest_settings.specs.Deciding.{QueryContext, rule_holds};
 ghost use Rattle.nextest_settings.specs.Engines.{test_query_by};
@@ -18,9 +18,8 @@ use crate::passed::{is_ruled_out, passed_in, some_written};
 use crate::values::SourcedSettings;
 use nextest_elements::NextestRunMode;
 use nextest_engines::{EvalContext, Filters, Specs, TestQuery};
-use nextest_profiles::EvaluatableProfile;
 use nextest_rules::{OverrideId, ScriptRuleId};
-use nextest_settings::{EvaluatedOverride, EvaluatedScriptRule, Setting};
+use nextest_settings::{EvaluatableProfile, EvaluatedOverride, EvaluatedScriptRule, Setting};
 use std::alloc::{AllocError, Global};
 
 /// The ids of the rules of a profile that hold for none of some tests.

@@ -11,9 +11,9 @@ use Rattle.filter_engine.specs.declared.compiling.FieldMatcher.{FieldMatcher}
 use Rattle.nextest_inheritance.specs.Parents.{parents_in}
 use Rattle.nextest_load.specs.Config.{ConfigModel, config_parents}
 use Rattle.nextest_load.specs.Load.{Loaded}
-use Rattle.nextest_profiles.proofs.MeaningOfTexts.{profile_means}
-use Rattle.nextest_profiles.specs.Meaning.{configured_meaning, profile_meaning}
-use Rattle.nextest_profiles.specs.Profiles.{IsChainAndDefault}
+use Rattle.nextest_settings.proofs.profiles.MeaningOfTexts.{profile_means}
+use Rattle.nextest_settings.specs.Profiles.Meaning.{configured_meaning, profile_meaning}
+use Rattle.nextest_settings.specs.Profiles.Profiles.{IsChainAndDefault}
 use Rattle.nextest_rules.specs.Rules.{OverrideUse, RuleId, ScriptRuleUse}
 use Rattle.nextest_rules.specs.View.{id_view, script_rule_id_view}
 use Rattle.nextest_rules.specs.declared.overrides.OverrideId.{OverrideId}

@@ -9,7 +9,7 @@ use Rattle.filter_engine.specs.declared.engine.Packages.{Packages}
 use Rattle.filter_language.specs.Filtersets.{marks_view}
 use Rattle.filter_language.specs.declared.filterset.Filterset.{Filterset}
 use Rattle.nextest_load.specs.Load.{Loaded}
-use Rattle.nextest_profiles.specs.Meaning.{profile_meaning}
+use Rattle.nextest_settings.specs.Profiles.Meaning.{profile_meaning}
 use Rattle.nextest_settings.specs.Platforms.{EvaluatedRule}
 use Rattle.nextest_settings.specs.Profile.{EvaluatableModel}
 use Rattle.nextest_tables.specs.Written.{Name}

@@ -6,7 +6,7 @@ use Rattle.nextest_elements.specs.declared.run_mode.NextestRunMode.{NextestRunMo
 use Rattle.nextest_inheritance.specs.Parents.{Parents, parents_in}
 use Rattle.nextest_load.specs.Config.{config_parents}
 use Rattle.nextest_load.specs.Load.{Loaded}
-use Rattle.nextest_profiles.specs.Profiles.{IsChainAndDefault}
+use Rattle.nextest_settings.specs.Profiles.Profiles.{IsChainAndDefault}
 use Rattle.nextest_tables.specs.Written.{Name}
 use Rattle.platform_language.specs.declared.expression.TargetSpec.{TargetSpec}
 use Rattle.rinqebo_load.specs.Meant.{config_meant}

@@ -16,7 +16,7 @@ use Rattle.filter_language.specs.declared.filterset.Filterset.{Filterset}
 use Rattle.nextest_documents.specs.Layers.{keys_view}
 use Rattle.nextest_load.specs.Config.{ConfigModel}
 use Rattle.nextest_load.specs.Load.{Loaded}
-use Rattle.nextest_profiles.specs.Meaning.{configured_meaning}
+use Rattle.nextest_settings.specs.Profiles.Meaning.{configured_meaning}
 use Rattle.nextest_tables.specs.FileTexts.{names_in, IsIn}
 use Rattle.nextest_tables.specs.Written.{Name}
 use Rattle.platform_language.specs.Expressions.{Spec, spec_view}

@@ -8,7 +8,7 @@ use Rattle.nextest_inheritance.specs.Parents.{parents_in, IsChain}
 use Rattle.nextest_load.specs.Closed.{BinaryMatch}
 use Rattle.nextest_load.specs.Config.{ScriptTables, config_parents}
 use Rattle.nextest_load.specs.Scripts.{AreScriptsOf}
-use Rattle.nextest_profiles.specs.Profiles.{IsChainAndDefault}
+use Rattle.nextest_settings.specs.Profiles.Profiles.{IsChainAndDefault}
 use Rattle.nextest_settings.specs.Deciding.{QueryContext}
 use Rattle.nextest_settings.specs.Profile.{Configured, EvaluatableModel, profile_of, profile_on}
 use Rattle.nextest_settings.specs.Queries.{query_in}

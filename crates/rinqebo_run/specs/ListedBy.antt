@@ -6,7 +6,7 @@ use Rattle.nextest_elements.specs.declared.run_mode.NextestRunMode.{NextestRunMo
 use Rattle.filter_engine.specs.Compiling.{names_of}
 use Rattle.filter_engine.specs.declared.compiling.FieldMatcher.{FieldMatcher}
 use Rattle.nextest_load.specs.Load.{Loaded}
-use Rattle.nextest_profiles.specs.Meaning.{configured_meaning}
+use Rattle.nextest_settings.specs.Profiles.Meaning.{configured_meaning}
 use Rattle.nextest_rules.specs.View.{id_view, script_rule_id_view}
 use Rattle.nextest_settings.specs.Profile.{Configured}
 use Rattle.nextest_tables.specs.Written.{Name}

@@ -6,7 +6,7 @@ use Rattle.filter_engine.specs.Engine.{Filter}
 use Rattle.nextest_inheritance.specs.Parents.{parents_in}
 use Rattle.nextest_load.specs.Config.{ScriptTables, config_of, config_parents}
 use Rattle.nextest_load.specs.Scripts.{AreScriptsOf}
-use Rattle.nextest_profiles.specs.Profiles.{IsChainAndDefault, IsProfileOf}
+use Rattle.nextest_settings.specs.Profiles.Profiles.{IsChainAndDefault, IsProfileOf}
 use Rattle.nextest_settings.specs.Profile.{Configured, EarlyModel, profile_on}
 use Rattle.nextest_settings.specs.Queries.{query_in}
 use Rattle.nextest_settings.specs.Settings.{fallback_of}

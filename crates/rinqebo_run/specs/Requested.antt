@@ -3,7 +3,7 @@ use Rattle.std.specs.Prelude.{◌≡◌, Bool, false, true, List, map, option_ma
 use Rattle.nextest_elements.specs.declared.run_mode.NextestRunMode.{NextestRunMode}
 use Rattle.nextest_elements.specs.declared.run_mode.NextestRunMode.TheVariants as modes
 use Rattle.nextest_inheritance.specs.Parents.{Parents}
-use Rattle.nextest_profiles.specs.Profiles.{IsChainAndDefault}
+use Rattle.nextest_settings.specs.Profiles.Profiles.{IsChainAndDefault}
 use Rattle.nextest_tables.specs.Written.{Name}
 use Rattle.rinqebo_load.specs.declared.fault.TripleSource.{TripleSource}
 use Rattle.rinqebo_load.specs.declared.fault.TripleSource.TheVariants as sources

@@ -7,7 +7,7 @@ use Rattle.nextest_engines.specs.declared.queries.BuildPlatforms.{BuildPlatforms
 use Rattle.nextest_inheritance.specs.Parents.{parents_in}
 use Rattle.nextest_load.specs.Config.{ScriptTables, config_parents}
 use Rattle.nextest_load.specs.Scripts.{AreScriptsOf}
-use Rattle.nextest_profiles.specs.Profiles.{IsChainAndDefault, IsProfileOf}
+use Rattle.nextest_settings.specs.Profiles.Profiles.{IsChainAndDefault, IsProfileOf}
 use Rattle.nextest_settings.specs.Profile.{Configured, EarlyModel, EvaluatableModel, profile_on}
 use Rattle.nextest_settings.specs.Queries.{query_in}
 use Rattle.nextest_sources.specs.Inputs.{sources_in}

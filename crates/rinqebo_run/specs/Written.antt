@@ -9,8 +9,8 @@ use Rattle.filter_engine.specs.declared.compiling.FieldMatcher.{FieldMatcher}
 use Rattle.nextest_inheritance.specs.Parents.{parents_in}
 use Rattle.nextest_load.specs.Config.{config_parents}
 use Rattle.nextest_load.specs.Load.{Loaded}
-use Rattle.nextest_profiles.specs.Meaning.{configured_meaning}
-use Rattle.nextest_profiles.specs.Profiles.{IsChainAndDefault}
+use Rattle.nextest_settings.specs.Profiles.Meaning.{configured_meaning}
+use Rattle.nextest_settings.specs.Profiles.Profiles.{IsChainAndDefault}
 use Rattle.nextest_settings.specs.Deciding.{QueryContext}
 use Rattle.nextest_settings.specs.Profile.{EvaluatableModel}
 use Rattle.nextest_tables.specs.Written.{Name}

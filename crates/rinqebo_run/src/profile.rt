@@ -1,6 +1,6 @@
 //! The profile of a name, before the platforms of a build are known.
 ghost use Rattle.std.specs.Prelude.{IfOk};
-ghost use Rattle.nextest_profiles.specs.Profiles.{IsProfileOf};
+ghost use Rattle.nextest_settings.specs.Profiles.Profiles.{IsProfileOf};
 ghost use Rattle.nextest_tables.specs.FileTexts.{names_in, IsIn};
 ghost use Rattle.rinqebo_run.specs.ListedBy.{read_by};
 

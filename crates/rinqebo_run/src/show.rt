@@ -4,7 +4,7 @@ ghost use Rattle.filter_engine.specs.Compiling.{names_of};
 ghost use Rattle.filter_language.specs.Filtersets.{marks_view};
 ghost use Rattle.nextest_documents.specs.Entries.{leaf_view};
 ghost use Rattle.nextest_documents.specs.Layers.{keys_view};
-ghost use Rattle.nextest_profiles.specs.Meaning.{configured_meaning};
+ghost use Rattle.nextest_settings.specs.Profiles.Meaning.{configured_meaning};
 ghost use Rattle.nextest_tables.specs.FileTexts.{names_in, IsIn};
 ghost use Rattle.rinqebo_rules.specs.LeafValue.{is_tellable};
 ghost use Rattle.rinqebo_findings.specs.Failures.{IsFailureAbout};

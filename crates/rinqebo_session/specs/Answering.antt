@@ -9,7 +9,7 @@ use Rattle.nextest_elements.specs.declared.test_group.TestGroup.TheVariants as g
 use Rattle.nextest_elements.specs.declared.test_threads.TestThreads.{TestThreads}
 use Rattle.nextest_engines.specs.Engines.{Test}
 use Rattle.filter_engine.specs.Engine.{filter_holds}
-use Rattle.nextest_profiles.specs.Meaning.{profile_meaning}
+use Rattle.nextest_settings.specs.Profiles.Meaning.{profile_meaning}
 use Rattle.nextest_settings.specs.Queries.{query_in, setting_value}
 use Rattle.nextest_settings.specs.Settings.{ValueOf}
 use Rattle.nextest_settings.specs.declared.setting.Setting.{Setting}

@@ -3,7 +3,7 @@ use Rattle.std.specs.Prelude.{◌≡◌, ◌⊎◌, ℕ, List, Option, option_an
 use Rattle.nextest_elements.specs.declared.run_mode.NextestRunMode.{NextestRunMode}
 use Rattle.nextest_engines.specs.Engines.{Test}
 use Rattle.filter_engine.specs.Engine.{filter_holds}
-use Rattle.nextest_profiles.specs.Meaning.{profile_meaning}
+use Rattle.nextest_settings.specs.Profiles.Meaning.{profile_meaning}
 use Rattle.nextest_settings.specs.Queries.{query_in, setting_value}
 use Rattle.nextest_settings.specs.declared.setting.Setting.TheVariants as at
 use Rattle.rinqebo_session.specs.Asking.{IsFaultIn, IsKnownTest, fault_status}

@@ -9,7 +9,7 @@ use Rattle.nextest_elements.specs.declared.test_group.TestGroupConfig.{TestGroup
 use Rattle.nextest_engines.specs.declared.queries.BuildPlatform.TheVariants.{Host, Target}
 use Rattle.nextest_inheritance.specs.Parents.{parents_in, IsChain}
 use Rattle.nextest_load.specs.Config.{config_parents}
-use Rattle.nextest_profiles.specs.Meaning.{configured_meaning, profile_meaning}
+use Rattle.nextest_settings.specs.Profiles.Meaning.{configured_meaning, profile_meaning}
 use Rattle.nextest_settings.specs.Profile.{ProfileFacts, profile_of, profile_on}
 use Rattle.nextest_sources.specs.WarningsView.{warnings_view}
 use Rattle.nextest_tables.specs.FileTexts.{names_in, IsIn}

@@ -1,7 +1,7 @@
 //! The rows that a configuration gives for tests.
 ghost use Rattle.std.specs.Prelude.{◌≡◌, ◌++◌, List, ℕ, IfOk, map};
 ghost use Rattle.nextest_engines.specs.Engines.{test_view};
-ghost use Rattle.nextest_profiles.specs.Meaning.{configured_meaning, profile_meaning};
+ghost use Rattle.nextest_settings.specs.Profiles.Meaning.{configured_meaning, profile_meaning};
 ghost use Rattle.nextest_config.specs.Answers.{Answers, AreRowsIn};
 ghost use Rattle.nextest_config.specs.ConfigView.{configured_in};
 ghost use Rattle.nextest_config.specs.RowView.{row_view};
@@ -12,7 +12,7 @@ use crate::run::fault::ResolveFault;
 use crate::run::row::{TestRow, row_of};
 use nextest_elements::NextestRunMode;
 use nextest_engines::{BuildPlatforms, Filters, Specs, Tally, TestQuery};
-use nextest_profiles::EvaluatableProfile;
+use nextest_settings::EvaluatableProfile;
 use std::alloc::{AllocError, Global};
 
 /// The rows of tests in a profile, in order. Rules whose filters are evaluated go into the tally.

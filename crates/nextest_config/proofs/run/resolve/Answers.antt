@@ -1,7 +1,7 @@
 use Rattle.std.proofs.Common.{subst}
 use Rattle.nextest_engines.specs.Readings.{readings_view}
 use Rattle.nextest_load.specs.Load.{IsLoad}
-use Rattle.nextest_profiles.specs.Meaning.{configured_meaning}
+use Rattle.nextest_settings.specs.Profiles.Meaning.{configured_meaning}
 use Rattle.nextest_sources.specs.Endings.{error_view}
 use Rattle.nextest_sources.proofs.Ends.{not_passed}
 use Rattle.nextest_config.specs.ConfigView.{configured_in, loaded_by}

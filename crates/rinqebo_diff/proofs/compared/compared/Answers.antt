@@ -2,7 +2,7 @@ use Rattle.std.proofs.Common.{◌∙◌, ◌+◌, arith, map, refl, take}
 use Rattle.filter_engine.specs.Compiling.{names_of}
 use Rattle.filter_engine.specs.Engine.{filter_holds}
 use Rattle.filter_language.specs.Filtersets.{marks_view}
-use Rattle.nextest_profiles.specs.Meaning.{profile_meaning}
+use Rattle.nextest_settings.specs.Profiles.Meaning.{profile_meaning}
 use Rattle.rinqebo_diff.specs.Compared.{ReportsBy}
 use Rattle.rinqebo_sides.specs.Matched.{pair_view}
 use Rattle.rinqebo_diff.proofs.Comparing.{compared_more, compared_none, moved_bases}

@@ -1,6 +1,6 @@
 use Rattle.std.proofs.Common.{◌≡◌, ◌++◌, drop, map}
 use Rattle.nextest_engines.specs.Engines.{test_view}
-use Rattle.nextest_profiles.specs.Meaning.{profile_meaning}
+use Rattle.nextest_settings.specs.Profiles.Meaning.{profile_meaning}
 use Rattle.nextest_scripts.specs.ScriptId.{script_text}
 use Rattle.serde_json.specs.View.{view}
 use Rattle.rinqebo_objects.specs.Enabling.{test_data, tests_enabling}

@@ -1,6 +1,6 @@
 use Rattle.std.proofs.Common.{◌∙◌, ◌++◌, ap, map, option_map, sym}
 use Rattle.nextest_engines.specs.Engines.{test_view}
-use Rattle.nextest_profiles.specs.Meaning.{profile_meaning}
+use Rattle.nextest_settings.specs.Profiles.Meaning.{profile_meaning}
 use Rattle.nextest_scripts.specs.ScriptId.{script_text}
 use Rattle.nextest_scripts.specs.ScriptTexts.{SetupScriptText, setup_script_view}
 use Rattle.nextest_scripts.specs.declared.script_id.ScriptId.{ScriptId}

@@ -1,7 +1,7 @@
 use Rattle.std.proofs.Common.{◌≡◌, ◌∙◌, IfOk, ap, map, subst, sym}
 use Rattle.filter_engine.specs.Compiling.{names_of}
 use Rattle.filter_language.specs.Filtersets.{marks_view}
-use Rattle.nextest_profiles.specs.Meaning.{profile_meaning}
+use Rattle.nextest_settings.specs.Profiles.Meaning.{profile_meaning}
 use Rattle.rinqebo_rules.specs.EvaluatedFilters.{placed_view}
 use Rattle.rinqebo_rules.proofs.OpenFilters.{all_open, none_open}
 use Rattle.rinqebo_rules.proofs.evaluated_filters.filters_left_open.Goals as goal

@@ -1,7 +1,7 @@
 use Rattle.std.proofs.Common.{◌≡◌, List, map, take}
 use Rattle.std.specs.List.{AllZip}
 use Rattle.nextest_elements.specs.declared.run_mode.NextestRunMode.{NextestRunMode}
-use Rattle.nextest_profiles.specs.SettingsOf.{AreSettingsOf}
+use Rattle.nextest_settings.specs.Profiles.SettingsOf.{AreSettingsOf}
 use Rattle.nextest_settings.specs.Deciding.{QueryContext}
 use Rattle.nextest_settings.specs.Profile.{EvaluatableModel}
 use Rattle.nextest_settings.specs.Settings.{settings}

@@ -1,6 +1,6 @@
 use Rattle.std.proofs.Common.{◌∙◌, List, Vec, Global, ap, map, refl}
 use Rattle.nextest_engines.specs.Engines.{binary_view}
-use Rattle.nextest_profiles.specs.Meaning.{profile_meaning}
+use Rattle.nextest_settings.specs.Profiles.Meaning.{profile_meaning}
 use Rattle.nextest_settings.proofs.FilterMap.{filter_turn}
 use Rattle.rinqebo_rules.specs.Scripts.{wrapper_at, wrapper_view}
 use Rattle.rinqebo_rules.proofs.ScriptRules.{wrapper_given, wrapper_more, wrapper_none}

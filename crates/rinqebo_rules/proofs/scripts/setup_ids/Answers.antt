@@ -1,7 +1,7 @@
 use Rattle.std.proofs.Common.{◌∙◌, ap, map, sym}
 use Rattle.std.proofs.lemmas.Iterator.Consumers.{YieldsList-end, YieldsList-from_first}
 use Rattle.nextest_engines.specs.Engines.{test_view}
-use Rattle.nextest_profiles.specs.Meaning.{profile_meaning}
+use Rattle.nextest_settings.specs.Profiles.Meaning.{profile_meaning}
 use Rattle.nextest_scripts.specs.ScriptTexts.{SetupScriptText}
 use Rattle.nextest_settings.specs.Queries.{enabled_scripts, query_in}
 use Rattle.nextest_settings.specs.SetupView.{named_setup_script_view, script_id_view, scripts_left_view}

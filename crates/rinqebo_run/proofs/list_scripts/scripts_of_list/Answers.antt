@@ -3,7 +3,7 @@ use Rattle.filter_language.specs.Filtersets.{marks_view}
 use Rattle.nextest_engines.specs.Engines.{binary_view, test_view}
 use Rattle.filter_engine.specs.Compiling.{names_of}
 use Rattle.filter_engine.specs.Engine.{filter_holds, filter_holds_binary}
-use Rattle.nextest_profiles.specs.Meaning.{profile_meaning}
+use Rattle.nextest_settings.specs.Profiles.Meaning.{profile_meaning}
 use Rattle.rinqebo_rules.specs.Scripts.{AreScriptsReported}
 use Rattle.nextest_lists.specs.ListView.{list_view}
 use Rattle.nextest_lists.specs.Lists.{all_binaries}

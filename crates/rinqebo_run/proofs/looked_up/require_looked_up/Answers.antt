@@ -1,7 +1,7 @@
 use Rattle.std.proofs.Common.{◌∙◌, ap, map, sym}
 use Rattle.filter_engine.specs.Compiling.{names_of}
 use Rattle.filter_language.specs.Filtersets.{marks_view}
-use Rattle.nextest_profiles.specs.Meaning.{profile_meaning}
+use Rattle.nextest_settings.specs.Profiles.Meaning.{profile_meaning}
 use Rattle.rinqebo_rules.specs.EvaluatedFilters.{placed_view}
 use Rattle.rinqebo_run.proofs.LookedUp.{fails_for, first_asks, open_here}
 use Rattle.rinqebo_run.proofs.looked_up.require_looked_up.Goals as goal

@@ -3,7 +3,7 @@ use Rattle.filter_engine.specs.Compiling.{names_of}
 use Rattle.filter_language.specs.Filtersets.{marks_view}
 use Rattle.nextest_inheritance.specs.View.{borrowed_view}
 use Rattle.nextest_elements.specs.declared.run_mode.NextestRunMode.TheVariants as modes
-use Rattle.nextest_profiles.specs.Meaning.{profile_meaning}
+use Rattle.nextest_settings.specs.Profiles.Meaning.{profile_meaning}
 use Rattle.platform_language.specs.Expressions.{spec_view}
 use Rattle.rinqebo_load.specs.Sessions.{readings}
 use Rattle.rinqebo_run.proofs.Listing.{given_means}

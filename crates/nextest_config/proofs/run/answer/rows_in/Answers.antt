@@ -2,7 +2,7 @@ use Rattle.std.proofs.Common.{◌≡◌, ◌++◌, map, take, refl, subst}
 use Rattle.std.proofs.lemmas.List.{take_all}
 use Rattle.std.specs.List.{AllZip, flat_map}
 use Rattle.nextest_engines.specs.Engines.{test_view}
-use Rattle.nextest_profiles.specs.Meaning.{profile_meaning}
+use Rattle.nextest_settings.specs.Profiles.Meaning.{profile_meaning}
 use Rattle.nextest_settings.specs.SettingsView.{value_at, origin_at}
 use Rattle.nextest_config.specs.Headline.{IsTestRow, numbers_for}
 use Rattle.nextest_config.specs.RowView.{row_view}

@@ -1,7 +1,7 @@
 use Rattle.std.proofs.Common.{◌≡◌, ◌++◌, map, take}
 use Rattle.std.specs.List.{AllZip, flat_map}
 use Rattle.nextest_engines.specs.Engines.{test_view}
-use Rattle.nextest_profiles.specs.Meaning.{profile_meaning}
+use Rattle.nextest_settings.specs.Profiles.Meaning.{profile_meaning}
 use Rattle.nextest_config.specs.Headline.{IsTestRow, numbers_for}
 use Rattle.nextest_config.specs.RowView.{row_view}
 use Rattle.nextest_config.proofs.run.answer.rows_in.Given as goal

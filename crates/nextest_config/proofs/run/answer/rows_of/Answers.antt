@@ -1,6 +1,6 @@
 use Rattle.std.proofs.Common.{map}
 use Rattle.std.proofs.lemmas.Result.{err_from_is_err_and}
-use Rattle.nextest_profiles.specs.Meaning.{configured_meaning, profile_meaning}
+use Rattle.nextest_settings.specs.Profiles.Meaning.{configured_meaning, profile_meaning}
 use Rattle.nextest_config.specs.ConfigView.{configured_in}
 use Rattle.nextest_config.specs.RowView.{row_view}
 use Rattle.nextest_config.specs.RunView.{question_view}

@@ -1,6 +1,6 @@
 use Rattle.std.proofs.Common.{◌∙◌, ap, refl, subst}
 use Rattle.nextest_engines.specs.Engines.{test_view}
-use Rattle.nextest_profiles.specs.Meaning.{profile_meaning}
+use Rattle.nextest_settings.specs.Profiles.Meaning.{profile_meaning}
 use Rattle.nextest_settings.specs.Queries.{query_in, setting_origin, setting_value}
 use Rattle.nextest_settings.specs.SettingsView.{origin_at, value_at}
 use Rattle.rinqebo_rules.specs.Rows.{AreSettingsReported}

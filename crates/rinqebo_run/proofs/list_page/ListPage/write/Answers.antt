@@ -4,7 +4,7 @@ use Rattle.filter_language.specs.Filtersets.{marks_view}
 use Rattle.filter_engine.specs.Compiling.{names_of}
 use Rattle.filter_engine.specs.Engine.{filter_holds}
 use Rattle.nextest_inheritance.specs.View.{borrowed_view}
-use Rattle.nextest_profiles.specs.Meaning.{profile_meaning}
+use Rattle.nextest_settings.specs.Profiles.Meaning.{profile_meaning}
 use Rattle.rinqebo_run.proofs.Listing.{listed_here}
 use Rattle.rinqebo_run.proofs.Requests.{requested_on}
 use Rattle.rinqebo_run.proofs.Writing.{all_first, first_here, none_first, passed_stop, stops_behind, stops_so, whole_page}

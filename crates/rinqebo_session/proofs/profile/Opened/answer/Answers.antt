@@ -1,7 +1,7 @@
 use Rattle.std.proofs.Common.{◌∙◌, ap, subst}
 use Rattle.nextest_engines.specs.Engines.{test_view}
 use Rattle.filter_engine.specs.Engine.{filter_holds}
-use Rattle.nextest_profiles.specs.Meaning.{profile_meaning}
+use Rattle.nextest_settings.specs.Profiles.Meaning.{profile_meaning}
 use Rattle.nextest_settings.specs.Queries.{query_in, setting_value}
 use Rattle.nextest_settings.specs.SettingsView.{value_at}
 use Rattle.rinqebo_forms.specs.Numbers.{flag_number}
