@@ -1,6 +1,6 @@
 -- Which values are known, and that features change no known value.
 use Rattle.std.proofs.Common.{◌≡◌, ℕ, ◌⊎◌, inl, inr, Bool, true, false, ◌||◌, List, Option, None, Some, IsSome, codes, if◌then◌else◌, refl, ◌∙◌, ap}
-use Rattle.platform_table.specs.Platforms.{PlatformData}
+use Rattle.platform_language.specs.Platforms.Platforms.{PlatformData}
 use Rattle.platform_language.specs.Expressions.{Leaf, Has, Feature, Nowhere, Expression, Asks, Every, Some_of, Negated, Expressions, no_parts, part, OfTriple, OfExpression}
 use Rattle.platform_language.specs.Values.{lesser, greater, mirror, least, greatest, has, line_of, leaf_value, value, values}
 use Rattle.platform_language.specs.Laws.{asks_feature, some_asks_feature, ValuesAreKnown, given, FeaturesChangeNothingKnown}

@@ -4,7 +4,7 @@ use Rattle.std.specs.List.{list_any}
 use Rattle.std.specs.Cmp.Lexicographic.{same_text}
 use Rattle.std.proofs.lemmas.Slice.Eq.{bytes_eq-Decides}
 use Rattle.std.proofs.lemmas.List.Elements.{Contains-append_right, Contains-append_cases, Contains-push_cases}
-use Rattle.platform_table.specs.Platforms.{Line}
+use Rattle.platform_language.specs.Platforms.Platforms.{Line}
 use Rattle.platform_language.specs.Values.{same_value, same_line}
 use Rattle.platform_language.specs.Laws.{LinesAreAmong}
 

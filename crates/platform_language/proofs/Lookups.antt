@@ -1,9 +1,9 @@
 -- Lines are sought in memory as in what they mean.
 use Rattle.std.proofs.Common.{◌≡◌, ℕ, ◌||◌, Bool, true, List, [], ◌∷◌, map, Some, codes, refl, ◌∙◌, ap}
 use Rattle.std.specs.List.{list_any}
-use Rattle.platform_table.specs.declared.CfgLine.{CfgLine}
-use Rattle.platform_table.specs.declared.Platform.{Platform}
-use Rattle.platform_table.specs.Platforms.{Line, line_view, platform_view}
+use Rattle.platform_language.specs.declared.platforms.CfgLine.{CfgLine}
+use Rattle.platform_language.specs.declared.platforms.Platform.{Platform}
+use Rattle.platform_language.specs.Platforms.Platforms.{Line, line_view, platform_view}
 use Rattle.platform_language.specs.Expressions.{Has, Feature}
 use Rattle.platform_language.specs.Values.{same_line, line_of, leaf_value}
 

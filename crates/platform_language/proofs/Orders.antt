@@ -2,7 +2,7 @@
 use Rattle.std.proofs.Common.{◌≡◌, ◌⊎◌, inl, inr, Bool, true, false, List, [], ◌∷◌, map, Option, None, Some, Contains, refl, sym, ◌∙◌, ap, arith}
 use Rattle.std.proofs.lemmas.List.Elements.{Contains-append_right, Contains-append_cases, Contains-push_cases}
 use Rattle.std.proofs.lemmas.List.Sorted.{IsPermutation-sym, IsPermutation-map, Contains-permutation}
-use Rattle.platform_table.specs.Platforms.{PlatformData}
+use Rattle.platform_language.specs.Platforms.Platforms.{PlatformData}
 use Rattle.platform_language.specs.Expressions.{Expression, Negated, parts_of}
 use Rattle.platform_language.specs.Values.{lesser, greater, mirror, least, greatest, value, values}
 use Rattle.platform_language.specs.Laws.{at_most, IsLeast, IsGreatest, AllIsLeast, AnyIsGreatest, OrderIsFree, OppositesChangePlaces}

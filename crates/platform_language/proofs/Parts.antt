@@ -1,6 +1,6 @@
 -- The least and the greatest of the values of parts, part by part.
 use Rattle.std.proofs.Common.{◌≡◌, ℕ, zero, suc, ◌+◌, ◌<◌, Bool, true, false, List, [], ◌∷◌, map, take, length, get_or, Option, None, Some, refl, sym, ◌∙◌, ap, arith}
-use Rattle.platform_table.specs.Platforms.{PlatformData}
+use Rattle.platform_language.specs.Platforms.Platforms.{PlatformData}
 use Rattle.platform_language.specs.declared.expression.Expression as expression
 use Rattle.platform_language.specs.Expressions.{expression_view, parts_view}
 use Rattle.platform_language.specs.Values.{lesser, greater, least, greatest, value, values}

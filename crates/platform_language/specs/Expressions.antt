@@ -1,6 +1,6 @@
 -- What specs say, without where they lie in memory.
 use Rattle.std.specs.Prelude.{ℕ, List, [], ◌∷◌, map, string_bytes}
-use Rattle.platform_table.specs.Platforms.{Line, line_view}
+use Rattle.platform_language.specs.Platforms.Platforms.{Line, line_view}
 use Rattle.platform_language.specs.declared.expression.Leaf as leaf
 use Rattle.platform_language.specs.declared.expression.Leaf.TheVariants as asked
 use Rattle.platform_language.specs.declared.expression.Expression as expression

@@ -1,6 +1,6 @@
 -- What holds of the values of all specs.
 use Rattle.std.specs.Prelude.{◌≡◌, ◌⊎◌, ◌↔◌, ◌||◌, Bool, true, false, List, map, Option, None, Some, IsSome, Contains, IsPermutation}
-use Rattle.platform_table.specs.Platforms.{Line, PlatformData}
+use Rattle.platform_language.specs.Platforms.Platforms.{Line, PlatformData}
 use Rattle.platform_language.specs.Expressions.{Feature, Expression, Asks, Every, Some_of, Negated, Expressions, no_parts, part, parts_of, Spec, OfTriple, OfExpression}
 use Rattle.platform_language.specs.Values.{least, greatest, has, value, spec_value}
 

@@ -10,3 +10,4 @@ pub mod Reading
 pub mod Texts
 pub mod Values
 pub mod Refusals
+pub mod Platforms

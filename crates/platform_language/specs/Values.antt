@@ -1,7 +1,7 @@
 -- The values of specs. False, unknown and true are in this order.
 use Rattle.std.specs.Prelude.{ℕ, Bool, true, false, not, ◌&&◌, List, [], ◌∷◌, Option, None, Some, option_map, codes, bytes_eq, if◌then◌else◌}
 use Rattle.std.specs.List.{list_any}
-use Rattle.platform_table.specs.Platforms.{Line, PlatformData}
+use Rattle.platform_language.specs.Platforms.Platforms.{Line, PlatformData}
 use Rattle.platform_language.specs.Expressions.{Leaf, Has, Feature, Nowhere, Expression, Asks, Every, Some_of, Negated, Expressions, no_parts, part, Spec, OfTriple, OfExpression}
 
 -- the lesser of two values

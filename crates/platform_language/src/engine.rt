@@ -1,5 +1,5 @@
 //! The engine of platforms.
-ghost use Rattle.platform_table.specs.Platforms.{platform_view};
+ghost use Rattle.platform_language.specs.Platforms.Platforms.{platform_view};
 ghost use Rattle.platform_language.specs.Expressions.{Spec, spec_view};
 ghost use Rattle.platform_language.specs.Messages.{spec_read};
 ghost use Rattle.platform_language.specs.Refusals.{IsSpanOf, Says, SaysFirstFault};
@@ -9,9 +9,9 @@ ghost use Rattle.std.specs.Prelude.{◌≡◌, Ok, Err, IfOk, IfErr};
 
 use crate::expression::TargetSpec;
 use crate::fault::TargetSpecFault;
+use crate::platforms::Platform;
 use crate::spec::TargetSpecError;
 use nextest_engines::{LabeledSpan, Refusal, SpecFault, Specs};
-use platform_table::Platform;
 use std::alloc::{AllocError, Global};
 
 /// The engine of platforms. It has no state.

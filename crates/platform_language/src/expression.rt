@@ -1,6 +1,6 @@
 //! What a spec says.
 
-use platform_table::CfgLine;
+use crate::platforms::CfgLine;
 
 /// What joins parts to an expression.
 #[derive(Clone, Copy, Debug, PartialEq, Eq)]

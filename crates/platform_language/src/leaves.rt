@@ -7,7 +7,7 @@ ghost use Rattle.platform_language.specs.Leaves.{piece_view, plain_to, has_line 
 use crate::expression::Leaf;
 use crate::fault::{FaultKind, Place, Stop, fault};
 use crate::keys::KeyKind;
-use platform_table::CfgLine;
+use crate::platforms::CfgLine;
 use std::alloc::{AllocError, Global};
 
 /// A part of a body that has a text.

@@ -1,7 +1,7 @@
-//! The language of platforms: triples and `cfg(..)` expressions, read and evaluated.
+//! The language of platforms: triples and `cfg(..)` expressions, read and evaluated, and platforms
+//! as data (`platforms`).
 //!
-//! A text is read to a [`TargetSpec`], whose value on a platform is false, unknown or true.
-//! Platforms come from the crate `platform_table`.
+//! A text is read to a [`TargetSpec`], whose value on a [`Platform`] is false, unknown or true.
 #![tactic(auto)]
 
 mod display;
@@ -13,6 +13,7 @@ pub mod laws;
 mod leaves;
 mod marks;
 mod messages;
+pub mod platforms;
 mod reading;
 mod spec;
 mod values;
@@ -20,4 +21,5 @@ mod values;
 pub use engine::TargetSpecs;
 pub use expression::{Expression, Function, Leaf, TargetSpec};
 pub use fault::{Expected, FaultKind, Span, TargetSpecFault};
+pub use platforms::{CfgLine, Platform, PlatformFault, TargetRow, targets};
 pub use spec::TargetSpecError;

@@ -1,13 +1,13 @@
 //! What a spec says of a platform.
 ghost use Rattle.std.specs.Prelude.{◌≡◌, codes};
 ghost use Rattle.std.specs.List.{list_any};
-ghost use Rattle.platform_table.specs.Platforms.{line_view, platform_view};
+ghost use Rattle.platform_language.specs.Platforms.Platforms.{line_view, platform_view};
 ghost use Rattle.platform_language.specs.Expressions.{leaf_view, expression_view, parts_view, spec_view};
 ghost use Rattle.platform_language.specs.Values.{same_line, leaf_value, value, values, spec_value, line_of, name_of};
 ghost use Rattle.platform_language.specs.Values.{lesser as lesser_of, greater as greater_of, mirror as mirror_of, least as least_of, greatest as greatest_of};
 
 use crate::expression::{Expression, Leaf, TargetSpec};
-use platform_table::{CfgLine, Platform};
+use crate::platforms::{CfgLine, Platform};
 
 /// The lesser of two values: false is least, and then unknown.
 fn lesser(left: Option<bool>, right: Option<bool>) -> Option<bool>

@@ -7,14 +7,14 @@ use Rattle.filter_engine.specs.declared.engine.Packages.TheVariants as packages
 use Rattle.filter_packages.specs.Graph.{Graph}
 use Rattle.filter_packages.specs.GraphView.{graph_view}
 use Rattle.filter_packages.specs.Metadata.{graph_of_text}
-use Rattle.platform_table.specs.CfgList.{IsPlatformOf, IsRefusedFor}
-use Rattle.platform_table.specs.Platforms.{platform_view}
-use Rattle.platform_table.specs.Rows.{platform_of_row}
-use Rattle.platform_table.specs.Table.{targets}
-use Rattle.platform_table.specs.Targets.{row_of}
-use Rattle.platform_table.specs.declared.Platform.{Platform}
-use Rattle.platform_table.specs.declared.fault.PlatformFault.{PlatformFault}
-use Rattle.platform_table.specs.declared.fault.PlatformFault.TheVariants as faults
+use Rattle.platform_language.specs.Platforms.CfgList.{IsPlatformOf, IsRefusedFor}
+use Rattle.platform_language.specs.Platforms.Platforms.{platform_view}
+use Rattle.platform_language.specs.Platforms.Rows.{platform_of_row}
+use Rattle.platform_language.specs.Platforms.Table.{targets}
+use Rattle.platform_language.specs.Platforms.Targets.{row_of}
+use Rattle.platform_language.specs.declared.platforms.Platform.{Platform}
+use Rattle.platform_language.specs.declared.platforms.fault.PlatformFault.{PlatformFault}
+use Rattle.platform_language.specs.declared.platforms.fault.PlatformFault.TheVariants as faults
 use Rattle.rinqebo_forms.specs.Requests.{MachineText}
 use Rattle.rinqebo_forms.specs.declared.machines.EngineFault.{EngineFault}
 use Rattle.rinqebo_forms.specs.declared.machines.EngineFault.TheVariants as refused

@@ -6,7 +6,7 @@ ghost use Rattle.rinqebo_forms.specs.Requests.{machine_view};
 use crate::request::{LoadRequest, Machine};
 use filter_engine::{MetadataFault, NextestFilters, PackageGraph};
 use nextest_engines::BuildPlatforms;
-use platform_table::{Platform, PlatformFault};
+use platform_language::{Platform, PlatformFault};
 use std::alloc::{AllocError, Global};
 use thiserror::Error;
 

@@ -7,7 +7,7 @@ use Rattle.nextest_lists.specs.ListView.{list_view}
 use Rattle.nextest_lists.specs.Lists.{list_tests}
 use Rattle.nextest_tables.specs.Written.{Name}
 use Rattle.platform_language.specs.Expressions.{Spec}
-use Rattle.platform_table.specs.declared.Platform.{Platform}
+use Rattle.platform_language.specs.declared.platforms.Platform.{Platform}
 use Rattle.rinqebo_files.specs.declared.files.Gathered.{Gathered}
 use Rattle.rinqebo_laws.proofs.Files.{one_layer}
 use Rattle.rinqebo_laws.proofs.Listed.{from_kept}

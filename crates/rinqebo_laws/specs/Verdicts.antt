@@ -11,7 +11,7 @@ use Rattle.nextest_settings.specs.Settings.{ValueOf}
 use Rattle.nextest_settings.specs.declared.setting.Setting.{Setting}
 use Rattle.nextest_tables.specs.Written.{WrittenFields}
 use Rattle.platform_language.specs.Expressions.{Spec}
-use Rattle.platform_table.specs.declared.Platform.{Platform}
+use Rattle.platform_language.specs.declared.platforms.Platform.{Platform}
 use Rattle.rinqebo_rules.specs.SettingRules.{RuleValue, rules_for, writes_it}
 use Rattle.rinqebo_rules.specs.Verdicts.{verdicts_of}
 use Rattle.rinqebo_rules.specs.declared.verdict.RuleVerdict.{RuleVerdict}

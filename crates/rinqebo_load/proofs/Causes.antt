@@ -12,8 +12,8 @@ use Rattle.nextest_lists.specs.Reading.{IsFaultIn}
 use Rattle.nextest_lists.specs.declared.fault.ListFault.{ListFault}
 use Rattle.nextest_lists.specs.declared.fault.ListFault.TheVariants as lists
 use Rattle.rinqebo_files.specs.declared.files.Gathered.{Gathered}
-use Rattle.platform_table.specs.declared.fault.PlatformFault.{PlatformFault}
-use Rattle.platform_table.specs.declared.fault.PlatformFault.TheVariants as platforms
+use Rattle.platform_language.specs.declared.platforms.fault.PlatformFault.{PlatformFault}
+use Rattle.platform_language.specs.declared.platforms.fault.PlatformFault.TheVariants as platforms
 use Rattle.rinqebo_forms.specs.Machines.{AreOpenFiltersFor}
 use Rattle.rinqebo_forms.specs.Requests.{MachineText}
 use Rattle.rinqebo_forms.specs.declared.machines.EngineFault.{EngineFault}

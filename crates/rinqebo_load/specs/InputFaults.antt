@@ -5,8 +5,8 @@ use Rattle.std.specs.Str.{NoCharPasses}
 use Rattle.std.specs.declared.alloc.Global.{Global}
 use Rattle.filter_packages.specs.Graph.{Graph}
 use Rattle.filter_packages.specs.Metadata.{graph_of_text}
-use Rattle.platform_table.specs.declared.Platform.{Platform}
-use Rattle.platform_table.specs.declared.fault.PlatformFault.TheVariants as platforms
+use Rattle.platform_language.specs.declared.platforms.Platform.{Platform}
+use Rattle.platform_language.specs.declared.platforms.fault.PlatformFault.TheVariants as platforms
 use Rattle.rinqebo_files.specs.declared.files.Gathered.{Gathered}
 use Rattle.rinqebo_request.specs.declared.named.FileOption.{FileOption}
 use Rattle.rinqebo_request.specs.declared.named.FileOption.TheVariants as options

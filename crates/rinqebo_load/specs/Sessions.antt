@@ -22,8 +22,8 @@ use Rattle.platform_language.specs.Expressions.{Spec, spec_view}
 use Rattle.platform_language.specs.Messages.{spec_read}
 use Rattle.platform_language.specs.Values.{spec_value}
 use Rattle.platform_language.specs.declared.expression.TargetSpec.{TargetSpec}
-use Rattle.platform_table.specs.Platforms.{platform_view}
-use Rattle.platform_table.specs.declared.Platform.{Platform}
+use Rattle.platform_language.specs.Platforms.Platforms.{platform_view}
+use Rattle.platform_language.specs.declared.platforms.Platform.{Platform}
 use Rattle.rinqebo_files.specs.declared.files.Gathered.{Gathered}
 
 -- the files of a load, as they were read

@@ -11,7 +11,7 @@ use crate::list_path::list_path;
 use crate::triples::Triples;
 use filter_engine::NextestFilters;
 use nextest_config::BuildPlatforms;
-use platform_table::Platform;
+use platform_language::Platform;
 use rinqebo_files::Gathered;
 use rinqebo_forms::{open_filters_of, platform_of};
 use rinqebo_request::{FileOption, NamedFile, Question, Request};

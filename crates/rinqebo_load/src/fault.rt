@@ -5,7 +5,7 @@ ghost use Rattle.rinqebo_load.specs.InputFaults.{engine_fault};
 
 use filter_engine::Field;
 use nextest_lists::ListFault;
-use platform_table::PlatformFault;
+use platform_language::PlatformFault;
 use rinqebo_forms::EngineFault;
 use rinqebo_request::NamedFile;
 use std::alloc::AllocError;

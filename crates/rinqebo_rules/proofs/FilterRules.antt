@@ -9,7 +9,7 @@ use Rattle.nextest_settings.specs.Platforms.{rule_on}
 use Rattle.nextest_settings.specs.View.{evaluated_override_view, override_ref_view}
 use Rattle.nextest_settings.specs.declared.platforms.EvaluatedRule.{EvaluatedRule as Held}
 use Rattle.platform_language.specs.declared.expression.TargetSpec.{TargetSpec}
-use Rattle.platform_table.specs.declared.Platform.{Platform}
+use Rattle.platform_language.specs.declared.platforms.Platform.{Platform}
 use Rattle.rinqebo_rules.specs.Conditions.{is_met_by}
 use Rattle.rinqebo_rules.specs.FilterRules.{filter_rule, filter_rule_on, filter_rules, has_default, held_default, held_filter_rule}
 use Rattle.rinqebo_rules.proofs.RowsMore.{filter_more, filter_same}

@@ -11,8 +11,8 @@ use Rattle.rinqebo_report.specs.declared.report.ConditionAnswer.TheVariants as s
 use Rattle.platform_language.specs.Expressions.{spec_view}
 use Rattle.platform_language.specs.Values.{spec_value}
 use Rattle.platform_language.specs.declared.expression.TargetSpec.{TargetSpec}
-use Rattle.platform_table.specs.Platforms.{platform_view}
-use Rattle.platform_table.specs.declared.Platform.{Platform}
+use Rattle.platform_language.specs.Platforms.Platforms.{platform_view}
+use Rattle.platform_language.specs.declared.platforms.Platform.{Platform}
 use Rattle.rinqebo_rules.specs.declared.verdict.RuleFacts.{RuleFacts}
 
 -- a value that may be unknown, as a report shows it

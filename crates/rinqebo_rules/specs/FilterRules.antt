@@ -8,7 +8,7 @@ use Rattle.nextest_settings.specs.Platforms.{platforms_hold, runs_on}
 use Rattle.nextest_settings.specs.View.{override_ref_view}
 use Rattle.nextest_settings.specs.declared.platforms.EvaluatedRule.{EvaluatedRule}
 use Rattle.platform_language.specs.declared.expression.TargetSpec.{TargetSpec}
-use Rattle.platform_table.specs.declared.Platform.{Platform}
+use Rattle.platform_language.specs.declared.platforms.Platform.{Platform}
 use Rattle.rinqebo_report.specs.declared.report.ConditionAnswer.{ConditionAnswer}
 use Rattle.rinqebo_rules.specs.Conditions.{is_met_by, reported_condition}
 use Rattle.rinqebo_rules.specs.RulePlaces.{Place, id_place, place_view}

@@ -10,8 +10,7 @@ use nextest_config::{
     BuildPlatform, BuildPlatforms, EvalContext, Filters, PlatformSpecs, Specs, TestQuery,
 };
 use nextest_settings::runs_on;
-use platform_language::TargetSpecs;
-use platform_table::Platform;
+use platform_language::{Platform, TargetSpecs};
 use rinqebo_report::ConditionAnswer;
 
 /// A filter that was read.

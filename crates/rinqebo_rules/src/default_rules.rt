@@ -15,8 +15,7 @@ use crate::verdict::RuleFacts;
 use filter_engine::{NextestFilters, NextestTally};
 use nextest_config::{BuildPlatform, BuildPlatforms, EvalContext, Filters, TestQuery};
 use nextest_settings::{EvaluatedOverride, EvaluatedRules, runs_on};
-use platform_language::TargetSpecs;
-use platform_table::Platform;
+use platform_language::{Platform, TargetSpecs};
 use rinqebo_report::ConditionAnswer;
 use std::alloc::{AllocError, Global};
 

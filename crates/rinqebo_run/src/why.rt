@@ -33,7 +33,7 @@ use filter_engine::NextestFilters;
 use nextest_config::{
     BuildPlatforms, DefaultConfigWarnings, Filters, NextestRunMode, Setting, TestQuery,
 };
-use platform_table::Platform;
+use platform_language::Platform;
 use rinqebo_files::Layer;
 use rinqebo_findings::report_of;
 use rinqebo_load::{Config, Failure, FoundTest, Session, chain_of_profile};

@@ -11,8 +11,8 @@ use Rattle.filter_engine.specs.declared.compiling.FieldMatcher.{FieldMatcher}
 use Rattle.platform_language.specs.Expressions.{Spec}
 use Rattle.platform_language.specs.Messages.{spec_read}
 use Rattle.platform_language.specs.Values.{spec_value}
-use Rattle.platform_table.specs.Platforms.{platform_view}
-use Rattle.platform_table.specs.declared.Platform.{Platform}
+use Rattle.platform_language.specs.Platforms.Platforms.{platform_view}
+use Rattle.platform_language.specs.declared.platforms.Platform.{Platform}
 
 -- what a filter means
 abbrev pub filter_meaning : Filterset FieldMatcher → Filter

@@ -16,8 +16,7 @@ use nextest_config::{
     BuildPlatforms, ConfigExperimental, ConfigFileSelection, ConfigParseError,
     DefaultConfigWarnings, FileInput, NextestConfig, ParseContext, Tree,
 };
-use platform_language::TargetSpecs;
-use platform_table::Platform;
+use platform_language::{Platform, TargetSpecs};
 use rinqebo_features::{features_by, tree_of};
 use rinqebo_forms::{LoadRequest, filters_of, platforms_of};
 use std::alloc::{AllocError, Global};

@@ -1,5 +1,5 @@
 //! Platforms of the table, and of what a compiler prints.
-use platform_table::{CfgLine, Platform, PlatformFault};
+use platform_language::{CfgLine, Platform, PlatformFault};
 use std::alloc::{AllocError, Global};
 use std::test::Fail;
 

@@ -1,7 +1,6 @@
 //! The engine of platforms, called through its trait.
 use nextest_engines::{SpecFault, Specs};
-use platform_language::TargetSpecs;
-use platform_table::Platform;
+use platform_language::{Platform, TargetSpecs};
 use std::alloc::{AllocError, Global};
 use std::test::Fail;
 

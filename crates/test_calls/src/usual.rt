@@ -6,8 +6,7 @@ use nextest_config::{
     BinaryQuery, BuildPlatform, BuildPlatforms, DefaultConfigWarnings, NextestRunMode,
     ParseContext, Setting, TestQuery,
 };
-use platform_language::TargetSpecs;
-use platform_table::Platform;
+use platform_language::{Platform, TargetSpecs};
 use std::alloc::{AllocError, Global};
 use std::collections::BTreeSet;
 use std::test::Fail;

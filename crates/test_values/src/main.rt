@@ -25,7 +25,7 @@ mod schema;
 mod value;
 
 use filter_engine::NextestFilters;
-use platform_table::TargetRow;
+use platform_language::TargetRow;
 use row::RowError;
 use std::alloc::Global;
 use std::io;

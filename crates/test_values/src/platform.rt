@@ -16,8 +16,9 @@
 //! | the platform is not known | `refused UnknownTriple` |
 use crate::escapes::{Escapes, push_escaped, unescaped};
 use crate::row::{RowError, name_of};
-use platform_language::{FaultKind, TargetSpec, TargetSpecError, TargetSpecFault};
-use platform_table::{Platform, PlatformFault, TargetRow};
+use platform_language::{
+    FaultKind, Platform, PlatformFault, TargetRow, TargetSpec, TargetSpecError, TargetSpecFault,
+};
 use std::alloc::{AllocError, Global};
 
 /// What is printed for a row, if it defines no triple.

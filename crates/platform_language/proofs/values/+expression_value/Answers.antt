@@ -1,5 +1,5 @@
 use Rattle.std.proofs.Common.{◌≡◌, ◌∙◌, ap, get_or, rules}
-use Rattle.platform_table.specs.Platforms.{platform_view}
+use Rattle.platform_language.specs.Platforms.Platforms.{platform_view}
 use Rattle.platform_language.proofs.Parts.{said, least_step, greatest_step, least_end, greatest_end}
 use Rattle.platform_language.proofs.values.+expression_value.Goals as goal
 

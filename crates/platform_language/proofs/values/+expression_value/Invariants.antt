@@ -1,5 +1,5 @@
 use Rattle.std.proofs.Common.{◌≡◌}
-use Rattle.platform_table.specs.Platforms.{platform_view}
+use Rattle.platform_language.specs.Platforms.Platforms.{platform_view}
 use Rattle.platform_language.proofs.Parts.{least_of, greatest_of}
 use Rattle.platform_language.proofs.values.+expression_value.Given as goal
 

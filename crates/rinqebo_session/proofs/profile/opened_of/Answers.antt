@@ -8,7 +8,7 @@ use Rattle.nextest_scripts.specs.ScriptId.{script_text}
 use Rattle.nextest_scripts.specs.ScriptTexts.{wrapper_script_view}
 use Rattle.nextest_tables.specs.FileTexts.{names_in}
 use Rattle.platform_language.specs.Expressions.{spec_view}
-use Rattle.platform_table.specs.declared.Platform.{Platform}
+use Rattle.platform_language.specs.declared.platforms.Platform.{Platform}
 use Rattle.rinqebo_session.specs.Readings.{filter_meaning, holds_on}
 use Rattle.rinqebo_session.proofs.profile.opened_of.Goals as goal
 

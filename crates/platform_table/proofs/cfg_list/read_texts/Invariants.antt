@@ -1,8 +1,0 @@
-use Rattle.std.proofs.Common.{map, take}
-use Rattle.platform_table.specs.Platforms.{line_view}
-use Rattle.platform_table.specs.CfgLines.{WritesLines}
-use Rattle.platform_table.proofs.cfg_list.read_texts.Given as goal
-
--- the texts so far write the lines so far
-abbrev pub invariant-loop-index : goal.invariant-loop-index
-invariant-loop-index l = WritesLines (take l.index (map (λ text. text.now) l.texts)) (map line_view l.read.items)
