@@ -9,13 +9,13 @@ use Rattle.regex_hir.specs.Re.{Re}
 use Rattle.regex_syntax.specs.Brackets.{Nested}
 use Rattle.regex_syntax.specs.Grammar.{Names, read}
 use Rattle.regex_syntax.specs.Verdict.{default_config}
-use Rattle.filter_matchers.specs.GlobDecisions.{writes_glob}
-use Rattle.filter_matchers.specs.GlobSizes.{glob_size}
-use Rattle.filter_matchers.specs.Globs.{IsGlob}
-use Rattle.filter_matchers.specs.Matches.{NameQuestion, equal, contains, glob, regex, Matches}
-use Rattle.filter_matchers.specs.RegexSizes.{most_states, regex_size}
-use Rattle.filter_matchers.specs.RegexTexts.{IsRegex, RegexMatches}
-use Rattle.filter_matchers.proofs.GlobDecisions.{writes_glob_decides, glob_takes_decides}
+use Rattle.filter_engine.specs.GlobDecisions.{writes_glob}
+use Rattle.filter_engine.specs.GlobSizes.{glob_size}
+use Rattle.filter_engine.specs.Globs.{IsGlob}
+use Rattle.filter_engine.specs.Matches.{NameQuestion, equal, contains, glob, regex, Matches}
+use Rattle.filter_engine.specs.RegexSizes.{most_states, regex_size}
+use Rattle.filter_engine.specs.RegexTexts.{IsRegex, RegexMatches}
+use Rattle.filter_engine.proofs.GlobDecisions.{writes_glob_decides, glob_takes_decides}
 use Rattle.filter_language.proofs.PartsOfTexts.{after_is, after_own}
 use Rattle.filter_language.specs.Texts.{after_prefix}
 use Rattle.filter_language.specs.declared.matchers.PatternFault.TheVariants.{Malformed, TooLarge}

@@ -28,12 +28,12 @@ use Rattle.filter_language.specs.Values.{package_name, field_answer, answer, of_
 use Rattle.filter_language.specs.Writing.{SpellsBody, SpellsRegex, SpellsFilled, SpellsPattern, SpellsQuestion, Writes, IsFilter, field_word, sign_spelling}
 use Rattle.filter_language.proofs.MarksTell.{marks_truth}
 use Rattle.filter_language.proofs.Writings.{filter_is_read, read_is_filter}
-use Rattle.filter_matchers.specs.GlobDecisions.{writes_glob}
-use Rattle.filter_matchers.specs.GlobSizes.{glob_size}
-use Rattle.filter_matchers.specs.Globs.{IsGlob, GlobMatches}
-use Rattle.filter_matchers.specs.Matches.{NameQuestion, equal, contains, glob, regex}
-use Rattle.filter_matchers.specs.RegexSizes.{most_states, regex_size}
-use Rattle.filter_matchers.specs.RegexTexts.{IsRegex}
+use Rattle.filter_engine.specs.GlobDecisions.{writes_glob}
+use Rattle.filter_engine.specs.GlobSizes.{glob_size}
+use Rattle.filter_engine.specs.Globs.{IsGlob, GlobMatches}
+use Rattle.filter_engine.specs.Matches.{NameQuestion, equal, contains, glob, regex}
+use Rattle.filter_engine.specs.RegexSizes.{most_states, regex_size}
+use Rattle.filter_engine.specs.RegexTexts.{IsRegex}
 use Rattle.filter_packages.specs.declared.graph.PackageGraph.{PackageGraph}
 use Rattle.filter_packages.specs.GraphView.{graph_view}
 use Rattle.filter_engine.specs.declared.engine.NextestFilters.{NextestFilters}

@@ -6,3 +6,17 @@ pub mod Open
 pub mod Refusals
 pub mod Decided
 pub mod Truth
+pub mod StateLists
+pub mod Runs
+pub mod Classes
+pub mod Tables
+pub mod RegexTexts
+pub mod RegexSizes
+pub mod GlobSizes
+pub mod GlobClasses
+pub mod Globs
+pub mod GlobTexts
+pub mod GlobDecisions
+pub mod Patterns
+pub mod GlobReading
+pub mod Matches

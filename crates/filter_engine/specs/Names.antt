@@ -6,10 +6,10 @@ use Rattle.regex_hir.specs.Re.{Re}
 use Rattle.regex_syntax.specs.Brackets.{Nested}
 use Rattle.regex_syntax.specs.Grammar.{Names, read}
 use Rattle.regex_syntax.specs.Verdict.{default_config}
-use Rattle.filter_matchers.specs.GlobDecisions.{writes_glob, glob_takes}
-use Rattle.filter_matchers.specs.GlobSizes.{glob_size}
-use Rattle.filter_matchers.specs.RegexSizes.{most_states, regex_size}
-use Rattle.filter_matchers.specs.Matches.{NameQuestion, equal, contains, glob, regex}
+use Rattle.filter_engine.specs.GlobDecisions.{writes_glob, glob_takes}
+use Rattle.filter_engine.specs.GlobSizes.{glob_size}
+use Rattle.filter_engine.specs.RegexSizes.{most_states, regex_size}
+use Rattle.filter_engine.specs.Matches.{NameQuestion, equal, contains, glob, regex}
 use Rattle.filter_language.specs.declared.matchers.PatternFault.{PatternFault}
 use Rattle.filter_language.specs.declared.matchers.PatternFault.TheVariants.{Malformed, TooLarge}
 use Rattle.filter_language.specs.declared.words.Sign.{Sign}

@@ -13,7 +13,7 @@ use Rattle.filter_language.specs.declared.words.Sign.TheVariants.{Equal, Contain
 use Rattle.filter_language.specs.Formula.{Pattern, Question, Always, Never, TheDefault, OfPlatform, OfName, Formula, Asks, Negated, Both, Either, Without, Grouped}
 use Rattle.filter_language.specs.Truth.{NameHas}
 use Rattle.filter_language.specs.Writing.{WritesFilter}
-use Rattle.filter_matchers.specs.Globs.{GlobMatches}
+use Rattle.filter_engine.specs.Globs.{GlobMatches}
 use Rattle.filter_packages.specs.Edges.{Reaches}
 use Rattle.filter_packages.specs.Graph.{Graph, IsMemberNamed}
 use Rattle.filter_packages.specs.GraphView.{graph_view}

@@ -1,6 +1,6 @@
 //! What predicates test of fields.
 ghost use Rattle.std.specs.Prelude.{◌≡◌, List, ℕ, Bool, IfOk};
-ghost use Rattle.filter_matchers.specs.Matches.{question_of};
+ghost use Rattle.filter_engine.specs.Matches.{question_of};
 ghost use Rattle.filter_packages.specs.GraphView.{graph_view};
 ghost use Rattle.filter_engine.specs.Compiling.{names_of, sought_with, sought_openly, sought, reads_packages, compiled_in};
 ghost use Rattle.filter_engine.specs.Engine.{is_among};

@@ -11,8 +11,8 @@ ghost use Rattle.filter_engine.specs.Engine.{Filter, read_filter, everything, fi
 ghost use Rattle.filter_engine.specs.Refusals.{IsSpanOf, Says, SaysFirstFault};
 
 use crate::compiling::FieldMatcher;
+use crate::machine::SearchTable;
 use filter_language::{Field, Filterset, FiltersetFault, ParseFault};
-use filter_matchers::SearchTable;
 use filter_packages::PackageGraph;
 use nextest_engines::history::RuleHistory;
 use nextest_engines::{

@@ -1,12 +1,15 @@
 //! What predicates test of names.
 ghost use Rattle.std.specs.Prelude.{◌≡◌, IfOk};
 ghost use Rattle.std.specs.Result.{result_map_both};
-ghost use Rattle.filter_matchers.specs.Matches as asked;
-ghost use Rattle.filter_matchers.specs.Matches.{question_of};
+ghost use Rattle.filter_engine.specs.Matches as asked;
+ghost use Rattle.filter_engine.specs.Matches.{question_of};
 ghost use Rattle.filter_engine.specs.Names.{question_in, regex_question, glob_question, asks};
 
+use crate::glob::GlobFault;
+use crate::machine::SearchTable;
+use crate::name_matcher::PatternMatcher;
+use crate::regex_matcher::RegexFault;
 use filter_language::{PatternFault, Sign};
-use filter_matchers::{GlobFault, PatternMatcher, RegexFault, SearchTable};
 use nextest_engines::NameMatcher as NameTest;
 use std::alloc::{AllocError, Global};
 

@@ -1,4 +1,4 @@
-use Rattle.filter_matchers.specs.Matches.{question_of}
+use Rattle.filter_engine.specs.Matches.{question_of}
 use Rattle.filter_engine.proofs.Asks.{asks_is}
 use Rattle.filter_engine.proofs.names.NamePatternNameTest.is_match.Goals as goal
 

@@ -1,6 +1,0 @@
-use Rattle.std.proofs.Common.{take}
-use Rattle.filter_matchers.specs.Runs.{Reads}
-use Rattle.filter_matchers.proofs.machine.search.Search.advance.Given as goal
-
-abbrev pub invariant-loop-i : goal.invariant-loop-i
-invariant-loop-i g l = Reads l.self.nfa.now l.byte (take l.i l.states) l.initial.next l.next

@@ -1,6 +1,0 @@
-use Rattle.std.proofs.Common.{take}
-use Rattle.filter_matchers.specs.Tables.{ReadsNothing}
-use Rattle.filter_matchers.proofs.machine.search.Search.reads_some.Given as goal
-
-abbrev pub invariant-loop-i : goal.invariant-loop-i
-invariant-loop-i g l = ReadsNothing l.self.nfa.now (take l.i l.states)

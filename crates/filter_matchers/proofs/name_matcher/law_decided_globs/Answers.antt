@@ -1,5 +1,0 @@
-use Rattle.filter_matchers.proofs.GlobDecisions.{glob_takes_decides, writes_glob_decides}
-use Rattle.filter_matchers.proofs.name_matcher.law_decided_globs.Goals as goal
-
-pub returns : goal.returns
-returns c = record { written = writes_glob_decides; taken = glob_takes_decides }

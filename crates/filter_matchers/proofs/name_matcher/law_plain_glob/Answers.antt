@@ -1,5 +1,0 @@
-use Rattle.filter_matchers.proofs.GlobParts.{plain_is_equality}
-use Rattle.filter_matchers.proofs.name_matcher.law_plain_glob.Goals as goal
-
-pub returns : goal.returns
-returns c = plain_is_equality

@@ -1,7 +1,0 @@
-use Rattle.filter_matchers.specs.RegexSizes.{scan_view, whole_of}
-use Rattle.filter_matchers.proofs.RegexSizes.{IsClosing}
-use Rattle.filter_matchers.proofs.regex_size.scan.Scan.whole.Given as goal
-
-abbrev pub invariant-loop-done : goal.invariant-loop-done
-invariant-loop-done l =
-    IsClosing (scan_view l.self) (whole_of (scan_view l.fn.self)) l.done l.done-end
