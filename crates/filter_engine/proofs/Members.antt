@@ -6,12 +6,12 @@ use Rattle.std.specs.List.{list_any, slice_get}
 use Rattle.std.specs.Str.{bytes_eq}
 use Rattle.std.proofs.lemmas.Bool.Decides.{same_from_decides, eqb_tells}
 use Rattle.std.proofs.lemmas.Slice.Eq.{bytes_eq-Decides}
-use Rattle.filter_packages.specs.declared.edges.Edge.{Edge}
-use Rattle.filter_packages.specs.declared.member_set.MemberSet.{MemberSet}
-use Rattle.filter_packages.specs.Edges.{DependsOn, Reaches, itself, onward}
-use Rattle.filter_packages.specs.Graph.{Graph, IsMemberNamed, IsMatched, IsDependency, IsDependent}
-use Rattle.filter_packages.specs.GraphView.{has_member}
-use Rattle.filter_packages.proofs.Reaching.{reaches_through}
+use Rattle.filter_inputs.specs.declared.packages.edges.Edge.{Edge}
+use Rattle.filter_inputs.specs.declared.packages.member_set.MemberSet.{MemberSet}
+use Rattle.filter_inputs.specs.Packages.Edges.{DependsOn, Reaches, itself, onward}
+use Rattle.filter_inputs.specs.Packages.Graph.{Graph, IsMemberNamed, IsMatched, IsDependency, IsDependent}
+use Rattle.filter_inputs.specs.Packages.GraphView.{has_member}
+use Rattle.filter_inputs.proofs.packages.Reaching.{reaches_through}
 use Rattle.filter_engine.specs.Members.{reaches, name_has, is_named, is_dependency, is_dependent}
 use Rattle.filter_engine.specs.Truth.{IsMemberWith, IsInDeps, IsInRdeps}
 

@@ -5,7 +5,7 @@ use Rattle.filter_language.specs.declared.matchers.PatternFault.{PatternFault}
 use Rattle.filter_language.specs.declared.words.Field.{Field}
 use Rattle.filter_language.specs.declared.words.Sign.{Sign}
 use Rattle.filter_engine.specs.Matches.{NameQuestion}
-use Rattle.filter_packages.specs.declared.graph.PackageGraph.{PackageGraph}
+use Rattle.filter_inputs.specs.declared.packages.graph.PackageGraph.{PackageGraph}
 use Rattle.filter_engine.specs.declared.engine.NextestFilters.{NextestFilters}
 use Rattle.filter_engine.specs.Compiling.{sought_with, sought_openly, sought, compiled_in}
 use Rattle.filter_engine.specs.declared.engine.Packages.{Packages}

@@ -34,8 +34,8 @@ use Rattle.filter_engine.specs.Globs.{IsGlob, GlobMatches}
 use Rattle.filter_engine.specs.Matches.{NameQuestion, equal, contains, glob, regex}
 use Rattle.filter_engine.specs.RegexSizes.{most_states, regex_size}
 use Rattle.filter_engine.specs.RegexTexts.{IsRegex}
-use Rattle.filter_packages.specs.declared.graph.PackageGraph.{PackageGraph}
-use Rattle.filter_packages.specs.GraphView.{graph_view}
+use Rattle.filter_inputs.specs.declared.packages.graph.PackageGraph.{PackageGraph}
+use Rattle.filter_inputs.specs.Packages.GraphView.{graph_view}
 use Rattle.filter_engine.specs.declared.engine.NextestFilters.{NextestFilters}
 use Rattle.filter_engine.specs.declared.engine.Packages.{Packages}
 use Rattle.filter_engine.specs.declared.engine.Packages.TheVariants.{Known, Unknown, Open}

@@ -6,8 +6,8 @@ use Rattle.filter_language.specs.declared.words.Field.{Field}
 use Rattle.filter_language.specs.declared.words.Field.TheVariants.{TestName, Package, Deps, Rdeps, BinaryId, BinaryName, Kind, Group}
 use Rattle.filter_language.specs.declared.words.Sign.{Sign}
 use Rattle.filter_engine.specs.Matches.{question_of}
-use Rattle.filter_packages.specs.declared.graph.PackageGraph.{PackageGraph}
-use Rattle.filter_packages.specs.GraphView.{graph_view, has_member}
+use Rattle.filter_inputs.specs.declared.packages.graph.PackageGraph.{PackageGraph}
+use Rattle.filter_inputs.specs.Packages.GraphView.{graph_view, has_member}
 use Rattle.filter_engine.specs.declared.compiling.FieldMatcher.{FieldMatcher}
 use Rattle.filter_engine.specs.declared.compiling.FieldMatcher.TheVariants as matchers
 use Rattle.filter_engine.specs.declared.engine.NextestFilters.{NextestFilters}

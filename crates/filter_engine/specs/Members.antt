@@ -2,8 +2,8 @@
 use Rattle.std.specs.Prelude.{ℕ, ◌==◌, Bool, false, ◌&&◌, ◌||◌, List, [], ◌∷◌, Option, None, Some}
 use Rattle.std.specs.List.{list_any, slice_get}
 use Rattle.std.specs.Str.{bytes_eq}
-use Rattle.filter_packages.specs.declared.edges.Edge.{Edge}
-use Rattle.filter_packages.specs.Graph.{Graph}
+use Rattle.filter_inputs.specs.declared.packages.edges.Edge.{Edge}
+use Rattle.filter_inputs.specs.Packages.Graph.{Graph}
 
 -- Whether one place is another, or is reached from it over the first edge or the others.
 abbrev pub reaches : List Edge → ℕ → ℕ → Bool

@@ -14,9 +14,9 @@ use Rattle.filter_language.specs.Formula.{Pattern, Question, Always, Never, TheD
 use Rattle.filter_language.specs.Truth.{NameHas}
 use Rattle.filter_language.specs.Writing.{WritesFilter}
 use Rattle.filter_engine.specs.Globs.{GlobMatches}
-use Rattle.filter_packages.specs.Edges.{Reaches}
-use Rattle.filter_packages.specs.Graph.{Graph, IsMemberNamed}
-use Rattle.filter_packages.specs.GraphView.{graph_view}
+use Rattle.filter_inputs.specs.Packages.Edges.{Reaches}
+use Rattle.filter_inputs.specs.Packages.Graph.{Graph, IsMemberNamed}
+use Rattle.filter_inputs.specs.Packages.GraphView.{graph_view}
 use Rattle.filter_engine.specs.declared.engine.NextestFilters.{NextestFilters}
 use Rattle.filter_engine.specs.declared.engine.Packages.{Packages}
 use Rattle.filter_engine.specs.declared.engine.Packages.TheVariants.{Known, Unknown, Open}

@@ -1,7 +1,7 @@
 //! What predicates test of fields.
 ghost use Rattle.std.specs.Prelude.{◌≡◌, List, ℕ, Bool, IfOk};
 ghost use Rattle.filter_engine.specs.Matches.{question_of};
-ghost use Rattle.filter_packages.specs.GraphView.{graph_view};
+ghost use Rattle.filter_inputs.specs.Packages.GraphView.{graph_view};
 ghost use Rattle.filter_engine.specs.Compiling.{names_of, sought_with, sought_openly, sought, reads_packages, compiled_in};
 ghost use Rattle.filter_engine.specs.Engine.{is_among};
 ghost use Rattle.filter_engine.specs.Members.{is_dependency, is_dependent};
@@ -9,8 +9,8 @@ ghost use Rattle.filter_engine.specs.Names.{asks};
 
 use crate::engine::{NextestFilters, Packages};
 use crate::names::NamePattern;
+use filter_inputs::{MemberSet, PackageGraph};
 use filter_language::{Field, Matchers, PatternFault, Sign};
-use filter_packages::{MemberSet, PackageGraph};
 use nextest_engines::NameMatcher as NameTest;
 use std::alloc::{AllocError, Global};
 

@@ -12,8 +12,8 @@ ghost use Rattle.filter_engine.specs.Refusals.{IsSpanOf, Says, SaysFirstFault};
 
 use crate::compiling::FieldMatcher;
 use crate::machine::SearchTable;
+use filter_inputs::PackageGraph;
 use filter_language::{Field, Filterset, FiltersetFault, ParseFault};
-use filter_packages::PackageGraph;
 use nextest_engines::history::RuleHistory;
 use nextest_engines::{
     BinaryQuery, EvalContext, FilterFault, Filters, FiltersetKind, LabeledSpan, Refusal, Tally,

@@ -22,10 +22,10 @@ mod regex_size;
 
 pub use compiling::FieldMatcher;
 pub use engine::{NextestFilters, NextestTally, Packages};
+pub use filter_inputs::{MetadataFault, PackageGraph};
 pub use filter_language::{
     Ban, FaultKind, Field, Filterset, FiltersetFault, ParseFault, PatternFault, Span,
 };
-pub use filter_packages::{MetadataFault, PackageGraph};
 pub use glob::{GlobFault, GlobMatcher};
 pub use laws::{
     law_deps, law_equality, law_filters, law_glob, law_predicates, law_regex, law_substring,

@@ -4,9 +4,9 @@ use Rattle.nextest_engines.specs.declared.queries.BuildPlatforms.{BuildPlatforms
 use Rattle.filter_engine.specs.declared.engine.NextestFilters.{NextestFilters}
 use Rattle.filter_engine.specs.declared.engine.Packages.{Packages}
 use Rattle.filter_engine.specs.declared.engine.Packages.TheVariants as packages
-use Rattle.filter_packages.specs.Graph.{Graph}
-use Rattle.filter_packages.specs.GraphView.{graph_view}
-use Rattle.filter_packages.specs.Metadata.{graph_of_text}
+use Rattle.filter_inputs.specs.Packages.Graph.{Graph}
+use Rattle.filter_inputs.specs.Packages.GraphView.{graph_view}
+use Rattle.filter_inputs.specs.Packages.Metadata.{graph_of_text}
 use Rattle.platform_language.specs.Platforms.CfgList.{IsPlatformOf, IsRefusedFor}
 use Rattle.platform_language.specs.Platforms.Platforms.{platform_view}
 use Rattle.platform_language.specs.Platforms.Rows.{platform_of_row}

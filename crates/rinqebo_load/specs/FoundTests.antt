@@ -3,7 +3,7 @@ use Rattle.std.specs.Prelude.{◌≡◌, ◌≢◌, ◌++◌, ◌&&◌, ◌||◌
 use Rattle.std.specs.List.{after_first, before_first, ends_with, filter, position_or_len}
 use Rattle.std.specs.Str.{bytes_eq}
 use Rattle.filter_language.specs.Values.{package_name}
-use Rattle.filter_packages.specs.Targets.{TargetText, binary_id}
+use Rattle.filter_inputs.specs.Packages.Targets.{TargetText, binary_id}
 use Rattle.nextest_engines.specs.declared.queries.BuildPlatform.{BuildPlatform}
 use Rattle.nextest_engines.specs.declared.queries.BuildPlatform.TheVariants.{Host}
 use Rattle.nextest_lists.specs.Lists.{ListTest}

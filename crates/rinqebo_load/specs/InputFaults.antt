@@ -3,8 +3,8 @@ use Rattle.std.specs.Prelude.{◌≡◌, ◌⊎◌, ℕ, List, Option, None, Som
 use Rattle.std.specs.Char.{is_not_whitespace}
 use Rattle.std.specs.Str.{NoCharPasses}
 use Rattle.std.specs.declared.alloc.Global.{Global}
-use Rattle.filter_packages.specs.Graph.{Graph}
-use Rattle.filter_packages.specs.Metadata.{graph_of_text}
+use Rattle.filter_inputs.specs.Packages.Graph.{Graph}
+use Rattle.filter_inputs.specs.Packages.Metadata.{graph_of_text}
 use Rattle.platform_language.specs.declared.platforms.Platform.{Platform}
 use Rattle.platform_language.specs.declared.platforms.fault.PlatformFault.TheVariants as platforms
 use Rattle.rinqebo_files.specs.declared.files.Gathered.{Gathered}

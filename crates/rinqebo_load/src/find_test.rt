@@ -1,8 +1,8 @@
 //! Finds the test that a request names.
 ghost use Rattle.std.specs.Prelude.{◌≡◌, ◌↔◌, ◌++◌, ◌≢◌, eqb, Contains, IfErr, IfOk, IsTrue, MatchOption, Ok, codes, map};
 ghost use Rattle.std.specs.List.{ends_with};
-ghost use Rattle.filter_packages.specs.Targets.{TargetText, binary_id, targets_of_text};
-ghost use Rattle.filter_packages.specs.TargetView.{target_view, targets_view};
+ghost use Rattle.filter_inputs.specs.Packages.Targets.{TargetText, binary_id, targets_of_text};
+ghost use Rattle.filter_inputs.specs.Packages.TargetView.{target_view, targets_view};
 ghost use Rattle.nextest_lists.specs.ListView.{list_test_view};
 ghost use Rattle.rinqebo_load.specs.FindTests.{AreNoTargets, IsFoundFor, IsNotFound, IsNotOfMetadata, IsNotOne, IsOfMetadata, IsOnlyOne, named_in};
 ghost use Rattle.rinqebo_load.specs.FoundTests.{is_end_of, is_named, named_tests};
@@ -12,7 +12,7 @@ use crate::fault::{InputFault, Subject};
 use crate::found_test::FoundTest;
 use crate::missing::{Missing, TestFault, several_tests};
 use crate::session::Session;
-use filter_packages::{MetadataFault, PackageTarget, targets_of};
+use filter_inputs::{MetadataFault, PackageTarget, targets_of};
 use nextest_lists::ListedTest;
 use rinqebo_forms::EngineFault;
 use rinqebo_request::{FileOption, NamedFile, RequestedTest};

@@ -1,5 +1,5 @@
 use Rattle.std.proofs.Common.{ap, refl, subst}
-use Rattle.filter_packages.specs.GraphView.{graph_view}
+use Rattle.filter_inputs.specs.Packages.GraphView.{graph_view}
 use Rattle.rinqebo_forms.specs.Machines.{IsGraph}
 use Rattle.rinqebo_forms.proofs.machines.filters_or.Goals as goal
 

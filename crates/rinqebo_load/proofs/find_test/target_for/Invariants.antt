@@ -1,5 +1,5 @@
-use Rattle.filter_packages.specs.Targets.{binary_id}
-use Rattle.filter_packages.specs.TargetView.{targets_view}
+use Rattle.filter_inputs.specs.Packages.Targets.{binary_id}
+use Rattle.filter_inputs.specs.Packages.TargetView.{targets_view}
 use Rattle.rinqebo_request.proofs.KeyLists.{NoneHas}
 use Rattle.rinqebo_load.proofs.find_test.target_for.Given as goal
 

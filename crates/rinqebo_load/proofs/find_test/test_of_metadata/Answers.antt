@@ -1,5 +1,5 @@
 use Rattle.std.proofs.lemmas.Result.{err_from_is_err_and}
-use Rattle.filter_packages.specs.TargetView.{targets_view}
+use Rattle.filter_inputs.specs.Packages.TargetView.{targets_view}
 use Rattle.rinqebo_load.proofs.Causes.{not_of_metadata}
 use Rattle.rinqebo_load.proofs.find_test.test_of_metadata.Goals as goal
 

@@ -1,9 +1,0 @@
-use Rattle.std.proofs.Common.{map}
-use Rattle.serde_json.specs.View.{view}
-use Rattle.filter_packages.specs.Metadata.{member_at}
-use Rattle.filter_packages.specs.Names.{ids_view}
-use Rattle.filter_packages.proofs.Gathering.{Gave}
-use Rattle.filter_packages.proofs.metadata.member_list.Given as goal
-
-abbrev pub invariant-loop-place : goal.invariant-loop-place
-invariant-loop-place l = Gave (member_at (ids_view l.ids)) (map view l.values) l.place l.members.items
