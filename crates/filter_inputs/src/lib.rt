@@ -1,10 +1,12 @@
 //! What `cargo metadata` and `cargo nextest list` print, read from their JSON: the packages of a
-//! workspace (`packages`).
+//! workspace (`packages`) and its tests (`lists`).
 #![tactic(auto)]
 
+mod lists;
 mod packages;
 
 pub use json_fields::Wanted;
+pub use lists::{ListFault, ListedBinary, ListedTest, ListedTests, TestCase, queries_of, tests_of};
 pub use packages::{
     MemberSet, MetadataFault, MetadataPlace, PackageGraph, PackageTarget, law_reaching, targets_of,
 };

@@ -7,9 +7,9 @@ use Rattle.filter_language.specs.Filtersets.{marks_view}
 use Rattle.nextest_inheritance.specs.Parents.{parents_in}
 use Rattle.nextest_inheritance.specs.View.{borrowed_view}
 use Rattle.nextest_documents.specs.Layers.{keys_view}
-use Rattle.nextest_lists.specs.Lists.{ListTest}
-use Rattle.nextest_lists.specs.ListView.{listed_view}
-use Rattle.nextest_lists.specs.declared.list.ListedBinary.{ListedBinary}
+use Rattle.filter_inputs.specs.Lists.Lists.{ListTest}
+use Rattle.filter_inputs.specs.Lists.ListView.{listed_view}
+use Rattle.filter_inputs.specs.declared.lists.list.ListedBinary.{ListedBinary}
 use Rattle.nextest_load.specs.Config.{ConfigModel, config_parents}
 use Rattle.nextest_settings.specs.Profiles.Meaning.{profile_meaning}
 use Rattle.nextest_settings.specs.Profiles.Profiles.{IsChainAndDefault}

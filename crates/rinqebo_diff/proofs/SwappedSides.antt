@@ -4,7 +4,7 @@ use Rattle.std.specs.List.{AllZip, filter_map}
 use Rattle.std.specs.Vec.{with_items}
 use Rattle.std.proofs.lemmas.List.{length-map, with_items_is}
 use Rattle.nextest_elements.specs.declared.run_mode.NextestRunMode.{NextestRunMode}
-use Rattle.nextest_lists.specs.Lists.{ListTest}
+use Rattle.filter_inputs.specs.Lists.Lists.{ListTest}
 use Rattle.rinqebo_changes.specs.Changes.{changed_rows, is_change, rows_in}
 use Rattle.rinqebo_changes.specs.Laws.{swapped}
 use Rattle.rinqebo_changes.specs.declared.change.RowChange.{RowChange}

@@ -1,8 +1,8 @@
 -- What a diff has beside its changes.
 use Rattle.std.specs.Prelude.{List, map}
 use Rattle.std.specs.List.{AllZip}
-use Rattle.nextest_lists.specs.Lists.{Listed}
-use Rattle.nextest_lists.specs.ListView.{list_test_view}
+use Rattle.filter_inputs.specs.Lists.Lists.{Listed}
+use Rattle.filter_inputs.specs.Lists.ListView.{list_test_view}
 use Rattle.rinqebo_diff.specs.Differences.{IsCountOf, IsIdOf}
 use Rattle.rinqebo_diff.specs.declared.sides.Beside.{Beside}
 use Rattle.rinqebo_sides.specs.declared.matched.Matched.{Matched}

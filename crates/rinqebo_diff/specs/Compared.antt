@@ -3,7 +3,7 @@ use Rattle.std.specs.Prelude.{◌≡◌, [], Bool, List, Option, MatchOption, fi
 use Rattle.std.specs.List.{AllZip}
 use Rattle.nextest_elements.specs.declared.run_mode.NextestRunMode.{NextestRunMode}
 use Rattle.nextest_engines.specs.Engines.{Test}
-use Rattle.nextest_lists.specs.Lists.{ListTest}
+use Rattle.filter_inputs.specs.Lists.Lists.{ListTest}
 use Rattle.nextest_settings.specs.Profile.{EvaluatableModel}
 use Rattle.nextest_settings.specs.Queries.{query_in}
 use Rattle.rinqebo_changes.specs.Changes.{changed_rows, rows_in, IsChangedTest}

@@ -2,8 +2,8 @@
 use Rattle.std.specs.Prelude.{◌≡◌, ℕ, not, List, Option, length, filter, string_bytes, if◌then◌else◌}
 use Rattle.std.specs.List.{AllZip}
 use Rattle.nextest_elements.specs.declared.run_mode.NextestRunMode.{NextestRunMode}
-use Rattle.nextest_lists.specs.Lists.{Listed, ListTest, list_tests}
-use Rattle.nextest_lists.specs.ListView.{list_view}
+use Rattle.filter_inputs.specs.Lists.Lists.{Listed, ListTest, list_tests}
+use Rattle.filter_inputs.specs.Lists.ListView.{list_view}
 use Rattle.rinqebo_changes.specs.Changes.{is_change}
 use Rattle.rinqebo_changes.specs.Diffs.{is_empty}
 use Rattle.rinqebo_changes.specs.declared.diff.BinaryTests.{BinaryTests}

@@ -1,7 +1,7 @@
 -- That nothing changes.
 use Rattle.std.specs.Prelude.{◌≡◌, List, [], filter, not}
 use Rattle.std.specs.List.{AllZip}
-use Rattle.nextest_lists.specs.Lists.{ListTest}
+use Rattle.filter_inputs.specs.Lists.Lists.{ListTest}
 use Rattle.rinqebo_changes.specs.Keyed.{AreAlike}
 use Rattle.rinqebo_changes.specs.declared.change.TestChanges.{TestChanges}
 use Rattle.rinqebo_report.specs.declared.report.SettingRow.{SettingRow}

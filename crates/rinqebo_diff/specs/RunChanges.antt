@@ -1,7 +1,7 @@
 -- What changes for the whole run.
 use Rattle.std.specs.Prelude.{◌≡◌, Bool, true, false, List, []}
-use Rattle.nextest_lists.specs.ListView.{list_view}
-use Rattle.nextest_lists.specs.Lists.{all_binaries, all_tests}
+use Rattle.filter_inputs.specs.Lists.ListView.{list_view}
+use Rattle.filter_inputs.specs.Lists.Lists.{all_binaries, all_tests}
 use Rattle.rinqebo_changes.specs.Keyed.{AreKeyedChanges}
 use Rattle.rinqebo_changes.specs.declared.change.RowChange.{RowChange}
 use Rattle.rinqebo_load.specs.Sessions.{readings}

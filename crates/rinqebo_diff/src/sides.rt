@@ -1,8 +1,8 @@
 //! What changes between two sides that are loaded.
 ghost use Rattle.std.specs.Prelude.{IfOk, map};
 ghost use Rattle.std.specs.List.{AllZip};
-ghost use Rattle.nextest_lists.specs.Lists.{list_tests};
-ghost use Rattle.nextest_lists.specs.ListView.{list_test_view, list_view, listed_view};
+ghost use Rattle.filter_inputs.specs.Lists.Lists.{list_tests};
+ghost use Rattle.filter_inputs.specs.Lists.ListView.{list_test_view, list_view, listed_view};
 ghost use Rattle.nextest_tables.specs.FileTexts.{names_in, IsIn};
 ghost use Rattle.rinqebo_changes.specs.Changes.{is_change};
 ghost use Rattle.rinqebo_diff.specs.Asked.{compares_runs};
@@ -17,7 +17,7 @@ ghost use Rattle.rinqebo_diff.specs.Sides.{IsSideOf};
 use crate::compared::{TestLister, compared};
 use crate::loaded::Loaded;
 use crate::request::{DiffRequest, DiffSide};
-use nextest_lists::{ListedBinary, ListedTest};
+use filter_inputs::{ListedBinary, ListedTest};
 use rinqebo_changes::{
     BinaryTests, Comparison, Diff, RowChange, Side, TestChanges, TwoSources, keyed_changes,
 };

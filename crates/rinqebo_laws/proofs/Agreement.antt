@@ -3,8 +3,8 @@ use Rattle.std.proofs.Common.{◌≡◌, zero, ◌∷◌, [], ◌∙◌, ℕ, Bo
 use Rattle.nextest_engines.specs.Engines.{Test}
 use Rattle.filter_engine.specs.Engine.{Filter}
 use Rattle.nextest_load.specs.Config.{ScriptTables}
-use Rattle.nextest_lists.specs.ListView.{list_view}
-use Rattle.nextest_lists.specs.Lists.{list_tests}
+use Rattle.filter_inputs.specs.Lists.ListView.{list_view}
+use Rattle.filter_inputs.specs.Lists.Lists.{list_tests}
 use Rattle.nextest_tables.specs.Written.{Name}
 use Rattle.platform_language.specs.Expressions.{Spec}
 use Rattle.platform_language.specs.declared.platforms.Platform.{Platform}

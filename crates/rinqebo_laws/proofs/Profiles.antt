@@ -5,7 +5,7 @@ use Rattle.nextest_engines.specs.Engines.{Test}
 use Rattle.nextest_engines.specs.declared.queries.BuildPlatforms.{BuildPlatforms}
 use Rattle.nextest_inheritance.proofs.Chains.{lead_default_one}
 use Rattle.nextest_inheritance.specs.Parents.{IsChain, Parents, parents_in, with_default}
-use Rattle.nextest_lists.specs.Lists.{ListTest, TestList, list_tests}
+use Rattle.filter_inputs.specs.Lists.Lists.{ListTest, TestList, list_tests}
 use Rattle.nextest_load.specs.Closed.{BinaryMatch}
 use Rattle.nextest_load.specs.Config.{ConfigModel, ScriptTables, config_parents}
 use Rattle.nextest_settings.specs.Profiles.Profiles.{IsChainAndDefault}

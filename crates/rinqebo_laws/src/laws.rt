@@ -1,7 +1,7 @@
 //! The laws: what commands report of one test agrees.
 ghost use Rattle.std.specs.Prelude.{◌≡◌, ℕ, Contains, List, Some, slice_get, string_bytes};
-ghost use Rattle.nextest_lists.specs.ListView.{list_view};
-ghost use Rattle.nextest_lists.specs.Lists.{list_tests};
+ghost use Rattle.filter_inputs.specs.Lists.ListView.{list_view};
+ghost use Rattle.filter_inputs.specs.Lists.Lists.{list_tests};
 ghost use Rattle.nextest_settings.specs.declared.setting.Setting.{Setting};
 ghost use Rattle.nextest_tables.specs.Written.{Name};
 ghost use Rattle.rinqebo_files.specs.declared.files.Gathered.{Gathered};

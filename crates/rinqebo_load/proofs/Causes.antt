@@ -7,10 +7,10 @@ use Rattle.std.proofs.lemmas.List.{take-append-drop}
 use Rattle.std.proofs.lemmas.Str.{NoCharPasses-append}
 use Rattle.std.proofs.lemmas.Str.Pattern.{IsTrimResult}
 use Rattle.filter_engine.specs.declared.engine.NextestFilters.{NextestFilters}
-use Rattle.nextest_lists.specs.Faults.{fault_view}
-use Rattle.nextest_lists.specs.Reading.{IsFaultIn}
-use Rattle.nextest_lists.specs.declared.fault.ListFault.{ListFault}
-use Rattle.nextest_lists.specs.declared.fault.ListFault.TheVariants as lists
+use Rattle.filter_inputs.specs.Lists.Faults.{fault_view}
+use Rattle.filter_inputs.specs.Lists.Reading.{IsFaultIn}
+use Rattle.filter_inputs.specs.declared.lists.fault.ListFault.{ListFault}
+use Rattle.filter_inputs.specs.declared.lists.fault.ListFault.TheVariants as lists
 use Rattle.rinqebo_files.specs.declared.files.Gathered.{Gathered}
 use Rattle.platform_language.specs.declared.platforms.fault.PlatformFault.{PlatformFault}
 use Rattle.platform_language.specs.declared.platforms.fault.PlatformFault.TheVariants as platforms

@@ -6,7 +6,7 @@ use Rattle.filter_language.specs.Values.{package_name}
 use Rattle.filter_inputs.specs.Packages.Targets.{TargetText, binary_id}
 use Rattle.nextest_engines.specs.declared.queries.BuildPlatform.{BuildPlatform}
 use Rattle.nextest_engines.specs.declared.queries.BuildPlatform.TheVariants.{Host}
-use Rattle.nextest_lists.specs.Lists.{ListTest}
+use Rattle.filter_inputs.specs.Lists.Lists.{ListTest}
 use Rattle.rinqebo_request.specs.declared.request.RequestedTest.{RequestedTest}
 use Rattle.rinqebo_load.specs.declared.found_test.FoundTest.{FoundTest}
 use denote.Ref.{Bor}

@@ -16,12 +16,12 @@ use Rattle.rinqebo_forms.specs.Machines.{IsMachineRefused, IsMetadataFault, IsPl
 use Rattle.rinqebo_forms.specs.Requests.{MachineText}
 use Rattle.rinqebo_forms.specs.declared.machines.EngineFault.{EngineFault}
 use Rattle.rinqebo_forms.specs.declared.machines.EngineFault.TheVariants as refused
-use Rattle.nextest_lists.specs.Demands.{not_json}
-use Rattle.nextest_lists.specs.Faults.{fault_view}
-use Rattle.nextest_lists.specs.ListView.{list_view}
-use Rattle.nextest_lists.specs.Lists.{TestList}
-use Rattle.nextest_lists.specs.Reading.{IsFaultIn}
-use Rattle.nextest_lists.specs.declared.list.ListedTests.{ListedTests}
+use Rattle.filter_inputs.specs.Lists.Demands.{not_json}
+use Rattle.filter_inputs.specs.Lists.Faults.{fault_view}
+use Rattle.filter_inputs.specs.Lists.ListView.{list_view}
+use Rattle.filter_inputs.specs.Lists.Lists.{TestList}
+use Rattle.filter_inputs.specs.Lists.Reading.{IsFaultIn}
+use Rattle.filter_inputs.specs.declared.lists.list.ListedTests.{ListedTests}
 use Rattle.rinqebo_load.specs.HostLines.{NamesHost, host_in, printed_host}
 use Rattle.rinqebo_load.specs.ListPath.{list_path, path_of}
 use Rattle.rinqebo_load.specs.Machines.{machine_of}

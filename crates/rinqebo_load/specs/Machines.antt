@@ -7,7 +7,7 @@ use Rattle.rinqebo_files.specs.declared.files.Gathered.{Gathered}
 use Rattle.rinqebo_request.specs.declared.request.EngineOptions.{EngineOptions}
 use Rattle.rinqebo_forms.specs.Machines.{ArePlatformsFor as AreOfMachines}
 use Rattle.rinqebo_forms.specs.Requests.{MachineText}
-use Rattle.nextest_lists.specs.Lists.{TestList}
+use Rattle.filter_inputs.specs.Lists.Lists.{TestList}
 use Rattle.rinqebo_load.specs.HostLines.{printed_host}
 use Rattle.rinqebo_load.specs.Triples.{host_for, target_for}
 

@@ -5,7 +5,7 @@ use Rattle.rinqebo_files.specs.Layers.{layer_view, layers_read}
 use Rattle.rinqebo_files.specs.declared.files.Gathered.{Gathered}
 use Rattle.rinqebo_request.specs.declared.request.Request.{Request}
 use Rattle.rinqebo_forms.specs.Machines.{AreOpenFiltersFor}
-use Rattle.nextest_lists.specs.ListView.{list_view}
+use Rattle.filter_inputs.specs.Lists.ListView.{list_view}
 use Rattle.rinqebo_load.specs.HostLines.{printed_host}
 use Rattle.rinqebo_load.specs.Machines.{ArePlatformsFor}
 use Rattle.rinqebo_load.specs.Triples.{IsListFor, host_for, target_for}

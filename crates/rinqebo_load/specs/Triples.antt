@@ -4,10 +4,10 @@ use Rattle.std.specs.Option.{option_or}
 use Rattle.std.specs.declared.alloc.Global.{Global}
 use Rattle.rinqebo_request.specs.declared.request.TheConstants.{HOST}
 use Rattle.rinqebo_request.specs.declared.request.EngineOptions.{EngineOptions}
-use Rattle.nextest_lists.specs.ListView.{list_view}
-use Rattle.nextest_lists.specs.Lists.{TestList}
-use Rattle.nextest_lists.specs.Reading.{IsListIn}
-use Rattle.nextest_lists.specs.declared.list.ListedTests.{ListedTests}
+use Rattle.filter_inputs.specs.Lists.ListView.{list_view}
+use Rattle.filter_inputs.specs.Lists.Lists.{TestList}
+use Rattle.filter_inputs.specs.Lists.Reading.{IsListIn}
+use Rattle.filter_inputs.specs.declared.lists.list.ListedTests.{ListedTests}
 use Rattle.rinqebo_load.specs.declared.fault.TripleSource.{TripleSource}
 use Rattle.rinqebo_load.specs.declared.fault.TripleSource.TheVariants as sources
 use Rattle.rinqebo_load.specs.declared.triples.Triples.{Triples}

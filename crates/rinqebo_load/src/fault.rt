@@ -4,7 +4,7 @@ ghost use Rattle.rinqebo_forms.specs.declared.machines.EngineFault.TheVariants.{
 ghost use Rattle.rinqebo_load.specs.InputFaults.{engine_fault};
 
 use filter_engine::Field;
-use nextest_lists::ListFault;
+use filter_inputs::ListFault;
 use platform_language::PlatformFault;
 use rinqebo_forms::EngineFault;
 use rinqebo_request::NamedFile;

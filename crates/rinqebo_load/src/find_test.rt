@@ -3,7 +3,7 @@ ghost use Rattle.std.specs.Prelude.{◌≡◌, ◌↔◌, ◌++◌, ◌≢◌, e
 ghost use Rattle.std.specs.List.{ends_with};
 ghost use Rattle.filter_inputs.specs.Packages.Targets.{TargetText, binary_id, targets_of_text};
 ghost use Rattle.filter_inputs.specs.Packages.TargetView.{target_view, targets_view};
-ghost use Rattle.nextest_lists.specs.ListView.{list_test_view};
+ghost use Rattle.filter_inputs.specs.Lists.ListView.{list_test_view};
 ghost use Rattle.rinqebo_load.specs.FindTests.{AreNoTargets, IsFoundFor, IsNotFound, IsNotOfMetadata, IsNotOne, IsOfMetadata, IsOnlyOne, named_in};
 ghost use Rattle.rinqebo_load.specs.FoundTests.{is_end_of, is_named, named_tests};
 ghost use Rattle.rinqebo_load.specs.InputFaults.{IsAnySubject, OfEngine, OrMemory};
@@ -12,8 +12,7 @@ use crate::fault::{InputFault, Subject};
 use crate::found_test::FoundTest;
 use crate::missing::{Missing, TestFault, several_tests};
 use crate::session::Session;
-use filter_inputs::{MetadataFault, PackageTarget, targets_of};
-use nextest_lists::ListedTest;
+use filter_inputs::{ListedTest, MetadataFault, PackageTarget, targets_of};
 use rinqebo_forms::EngineFault;
 use rinqebo_request::{FileOption, NamedFile, RequestedTest};
 use std::alloc::{AllocError, Global};

@@ -3,13 +3,12 @@ ghost use Rattle.std.specs.Prelude.{◌≡◌, ◌++◌, IfOk, MatchOption, code
 ghost use Rattle.std.specs.List.{after_first, before_first};
 ghost use Rattle.filter_language.specs.Values.{package_name};
 ghost use Rattle.filter_inputs.specs.Packages.TargetView.{target_view};
-ghost use Rattle.nextest_lists.specs.ListView.{list_test_view};
+ghost use Rattle.filter_inputs.specs.Lists.ListView.{list_test_view};
 ghost use Rattle.rinqebo_load.specs.FoundTests.{HasNoSlash, HasSlash, IsOnePart, IsReadAs, IsTestOfId, found_view, is_slash, platform_for, test_of_target};
 ghost use Rattle.rinqebo_load.specs.declared.found_test.TestSource.TheVariants as sources;
 
-use filter_inputs::PackageTarget;
+use filter_inputs::{ListedTest, PackageTarget};
 use nextest_config::{BinaryQuery, BuildPlatform, NextestRunMode, TestQuery};
-use nextest_lists::ListedTest;
 use rinqebo_request::RequestedTest;
 use std::alloc::{AllocError, Global};
 

@@ -1,7 +1,6 @@
 //! Why a test that a request names is not found.
 use crate::fault::InputFault;
-use filter_inputs::PackageTarget;
-use nextest_lists::{ListedBinary, ListedTest, ListedTests};
+use filter_inputs::{ListedBinary, ListedTest, ListedTests, PackageTarget};
 use rinqebo_report::nearest_name;
 use rinqebo_request::RequestedTest;
 use std::alloc::{AllocError, Global};

@@ -15,12 +15,12 @@ use crate::list_path::list_path;
 use crate::printed_host::printed_host;
 use crate::triples::{Triples, listed_tests, triples_for};
 use filter_engine::NextestFilters;
+use filter_inputs::ListedTests;
 use nextest_config::run::Inputs;
 use nextest_config::{
     ConfigExperimental, ConfigFileSelection, ConfigParseError, ConfigPath, DefaultConfigWarnings,
     FileInput, LoadedConfig, ParseContext, ReadOutcome, ToolConfigFile,
 };
-use nextest_lists::ListedTests;
 use nextest_sources::ConfigInputs;
 use platform_language::TargetSpecs;
 use rinqebo_files::{Gathered, Layer, features_of, layers_of};

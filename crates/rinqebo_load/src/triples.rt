@@ -1,15 +1,15 @@
 //! The list of tests that a run is about, and the triples of its build.
 ghost use Rattle.std.specs.Prelude.{◌≡◌, [], IfErr, IfOk, IfSome, IsTrue, option_map, string_bytes, unwrap_or};
-ghost use Rattle.nextest_lists.specs.Demands.{not_json};
-ghost use Rattle.nextest_lists.specs.Faults.{fault_view};
-ghost use Rattle.nextest_lists.specs.ListView.{list_view};
-ghost use Rattle.nextest_lists.specs.Reading.{IsFaultIn};
+ghost use Rattle.filter_inputs.specs.Lists.Demands.{not_json};
+ghost use Rattle.filter_inputs.specs.Lists.Faults.{fault_view};
+ghost use Rattle.filter_inputs.specs.Lists.ListView.{list_view};
+ghost use Rattle.filter_inputs.specs.Lists.Reading.{IsFaultIn};
 ghost use Rattle.rinqebo_load.specs.InputFaults.{IsBlank, IsFaultOfList, IsListFault, OrMemory};
 ghost use Rattle.rinqebo_load.specs.ListPath.{path_of};
 ghost use Rattle.rinqebo_load.specs.Triples.{host_for, host_source, target_for, target_source, IsListFor};
 
 use crate::fault::{InputFault, TripleSource};
-use nextest_lists::{ListFault, ListedTests, tests_of};
+use filter_inputs::{ListFault, ListedTests, tests_of};
 use rinqebo_files::Gathered;
 use rinqebo_request::{EngineOptions, FileOption, HOST, NamedFile};
 use std::alloc::{AllocError, Global};

@@ -1,7 +1,7 @@
 //! Lists what a profile gives to tests, one test after another.
 ghost use Rattle.std.specs.Prelude.{◌≡◌, ◌++◌, ◌∷◌, [], IfOk, List, map};
 ghost use Rattle.nextest_engines.specs.Engines.{test_view};
-ghost use Rattle.nextest_lists.specs.ListView.{list_test_view};
+ghost use Rattle.filter_inputs.specs.Lists.ListView.{list_test_view};
 ghost use Rattle.nextest_settings.specs.Profiles.Meaning.{profile_meaning};
 ghost use Rattle.nextest_settings.specs.Profiles.SettingsOf.{AreSettingsOf};
 ghost use Rattle.nextest_settings.specs.Deciding.{QueryContext};
@@ -15,9 +15,9 @@ use crate::rows::rows_of;
 use crate::runs::{is_selected, runs_if, runs_row, shows_runs};
 use crate::unused::{UnusedRules, UsedRules};
 use crate::values::SourcedSettings;
+use filter_inputs::ListedTest;
 use nextest_elements::NextestRunMode;
 use nextest_engines::{BuildPlatform, Filters, Specs};
-use nextest_lists::ListedTest;
 use nextest_settings::EvaluatableProfile;
 use rinqebo_report::{BuiltFor, TestRows};
 use rinqebo_request::RequestedSettings;

@@ -2,7 +2,7 @@
 use Rattle.std.proofs.Common.{◌≡◌, List, string_bytes, subst, sym}
 use Rattle.filter_language.specs.Filtersets.{marks_view}
 use Rattle.filter_language.specs.declared.filterset.Filterset.{Filterset}
-use Rattle.nextest_lists.specs.Lists.{ListTest}
+use Rattle.filter_inputs.specs.Lists.Lists.{ListTest}
 use Rattle.filter_engine.specs.Compiling.{names_of}
 use Rattle.filter_engine.specs.Engine.{Filter, filter_holds}
 use Rattle.filter_engine.specs.declared.compiling.FieldMatcher.{FieldMatcher}

@@ -42,9 +42,9 @@ use Rattle.rinqebo_request.specs.declared.request.Question.TheVariants as questi
 use Rattle.rinqebo_request.specs.declared.request.Request.{Request}
 use Rattle.platform_language.specs.Expressions.{Spec, spec_view}
 use Rattle.platform_language.specs.declared.expression.TargetSpec.{TargetSpec}
-use Rattle.nextest_lists.specs.ListView.{list_test_view, list_view}
-use Rattle.nextest_lists.specs.Lists.{ListTest, list_tests}
-use Rattle.nextest_lists.specs.declared.list.ListedTest.{ListedTest}
+use Rattle.filter_inputs.specs.Lists.ListView.{list_test_view, list_view}
+use Rattle.filter_inputs.specs.Lists.Lists.{ListTest, list_tests}
+use Rattle.filter_inputs.specs.declared.lists.list.ListedTest.{ListedTest}
 use Rattle.rinqebo_run.proofs.Documents.{text_or_json}
 use Rattle.rinqebo_run.proofs.Listing.{given_means, tells_tests, zip_mapped}
 use Rattle.rinqebo_run.proofs.Refused.{failure_reported}

@@ -28,8 +28,8 @@ use Rattle.rinqebo_request.specs.declared.request.RequestedSettings.{RequestedSe
 use Rattle.rinqebo_request.specs.declared.request.Question.{Question}
 use Rattle.rinqebo_request.specs.declared.request.Question.TheVariants as questions
 use Rattle.rinqebo_request.specs.declared.request.Request.{Request}
-use Rattle.nextest_lists.specs.ListView.{list_view}
-use Rattle.nextest_lists.specs.Lists.{ListTest, list_tests}
+use Rattle.filter_inputs.specs.Lists.ListView.{list_view}
+use Rattle.filter_inputs.specs.Lists.Lists.{ListTest, list_tests}
 use Rattle.rinqebo_load.specs.Accepted.{AreAccepted}
 use Rattle.rinqebo_run.specs.Listed.{IsProfileOn}
 use Rattle.rinqebo_load.specs.SessionOf.{IsSessionOf}

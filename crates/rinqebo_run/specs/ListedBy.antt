@@ -17,7 +17,7 @@ use Rattle.rinqebo_report.specs.declared.report.TestRows.{TestRows}
 use Rattle.rinqebo_request.specs.declared.request.RequestedSettings.{RequestedSettings}
 use Rattle.platform_language.specs.Expressions.{spec_view}
 use Rattle.platform_language.specs.declared.expression.TargetSpec.{TargetSpec}
-use Rattle.nextest_lists.specs.ListView.{list_view}
+use Rattle.filter_inputs.specs.Lists.ListView.{list_view}
 use Rattle.rinqebo_run.specs.Explained.{IsTestOf}
 use Rattle.rinqebo_run.specs.Listed.{AreTestsOf}
 use Rattle.rinqebo_rules.specs.TestOrigins.{Basis}

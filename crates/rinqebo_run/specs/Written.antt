@@ -29,8 +29,8 @@ use Rattle.rinqebo_request.specs.declared.request.Question.{Question}
 use Rattle.rinqebo_request.specs.declared.request.Question.TheVariants as questions
 use Rattle.platform_language.specs.Expressions.{spec_view}
 use Rattle.platform_language.specs.declared.expression.TargetSpec.{TargetSpec}
-use Rattle.nextest_lists.specs.ListView.{list_view}
-use Rattle.nextest_lists.specs.Lists.{ListTest, list_tests}
+use Rattle.filter_inputs.specs.Lists.ListView.{list_view}
+use Rattle.filter_inputs.specs.Lists.Lists.{ListTest, list_tests}
 use Rattle.rinqebo_run.specs.Begun.{AreFirstOf}
 use Rattle.rinqebo_run.specs.Listed.{ReportsTests}
 use Rattle.rinqebo_run.specs.ListedBy.{listed_by, read_by}

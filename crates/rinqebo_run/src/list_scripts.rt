@@ -4,8 +4,8 @@ ghost use Rattle.filter_language.specs.Filtersets.{marks_view};
 ghost use Rattle.filter_engine.specs.Compiling.{names_of};
 ghost use Rattle.filter_engine.specs.Engine.{filter_holds, filter_holds_binary};
 ghost use Rattle.nextest_settings.specs.Profiles.Meaning.{profile_meaning};
-ghost use Rattle.nextest_lists.specs.ListView.{list_view};
-ghost use Rattle.nextest_lists.specs.Lists.{all_binaries, all_tests};
+ghost use Rattle.filter_inputs.specs.Lists.ListView.{list_view};
+ghost use Rattle.filter_inputs.specs.Lists.Lists.{all_binaries, all_tests};
 ghost use Rattle.rinqebo_rules.specs.Scripts.{AreScriptsReported};
 
 use crate::list::Profile;

@@ -9,9 +9,9 @@ use Rattle.std.proofs.lemmas.Option.{get_or_from_slice_get, slice_get_cases, sli
 use Rattle.std.proofs.lemmas.List.{map-append}
 use Rattle.std.specs.List.{All, Contains, list_any, position_or_len}
 use Rattle.std.specs.Prelude.{slice_get}
-use Rattle.nextest_lists.specs.Lists.{ListTest}
-use Rattle.nextest_lists.specs.ListView.{list_test_view}
-use Rattle.nextest_lists.specs.declared.list.ListedTest.{ListedTest}
+use Rattle.filter_inputs.specs.Lists.Lists.{ListTest}
+use Rattle.filter_inputs.specs.Lists.ListView.{list_test_view}
+use Rattle.filter_inputs.specs.declared.lists.list.ListedTest.{ListedTest}
 use Rattle.rinqebo_sides.specs.Matched.{same_test, is_in, pair_view, TestPair, IsPlaceOf, IsPairOf, AddsPair, ArePairs}
 use Rattle.rinqebo_sides.specs.declared.matched.Pair.{Pair}
 use Rattle.rinqebo_sides.proofs.Zips.{taken_read}

@@ -4,7 +4,7 @@ use Rattle.std.proofs.lemmas.List.Elements.{All-contains_itself, All-filter, rec
 use Rattle.std.proofs.lemmas.List.Folds.{list_any-append}
 use Rattle.std.specs.Cmp.Lexicographic.{bytes_decides}
 use Rattle.std.specs.List.{All, AllByRecursion, Contains}
-use Rattle.nextest_lists.specs.Lists.{ListTest}
+use Rattle.filter_inputs.specs.Lists.Lists.{ListTest}
 use Rattle.rinqebo_sides.specs.Matched.{same_test, is_in, ArePairs, IsOneTest, IsPairOf, TestPair}
 use Rattle.rinqebo_sides.specs.Own.{AreOwn, NamesOnce}
 

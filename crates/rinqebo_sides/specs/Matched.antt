@@ -1,8 +1,8 @@
 -- The tests that two lists have in common, and those that one has alone.
 use Rattle.std.specs.Prelude.{◌≡◌, ℕ, ◌<◌, ◌&&◌, Bool, true, List, [], ◌∷◌, ◌++◌, Some, length, map, filter, not, slice_get, bytes_eq}
 use Rattle.std.specs.List.{All, Contains, list_any}
-use Rattle.nextest_lists.specs.Lists.{ListTest}
-use Rattle.nextest_lists.specs.ListView.{list_test_view}
+use Rattle.filter_inputs.specs.Lists.Lists.{ListTest}
+use Rattle.filter_inputs.specs.Lists.ListView.{list_test_view}
 use Rattle.rinqebo_sides.specs.declared.matched.Matched.{Matched}
 use Rattle.rinqebo_sides.specs.declared.matched.Pair.{Pair}
 

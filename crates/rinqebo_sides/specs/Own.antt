@@ -1,7 +1,7 @@
 -- What a list has in common with itself.
 use Rattle.std.specs.Prelude.{◌≡◌, true, List, [], filter, not}
 use Rattle.std.specs.List.{AllByRecursion, Contains}
-use Rattle.nextest_lists.specs.Lists.{ListTest}
+use Rattle.filter_inputs.specs.Lists.Lists.{ListTest}
 use Rattle.rinqebo_sides.specs.Matched.{same_test, is_in, IsOneTest, TestPair}
 
 -- Two tests of a list that have the same binary and the same name are one.

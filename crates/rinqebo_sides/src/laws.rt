@@ -1,6 +1,6 @@
 //! Laws of what two sides have, as contracts.
 ghost use Rattle.std.specs.Prelude.{List};
-ghost use Rattle.nextest_lists.specs.Lists.{ListTest as Test};
+ghost use Rattle.filter_inputs.specs.Lists.Lists.{ListTest as Test};
 ghost use Rattle.rinqebo_sides.specs.Matched.{ArePairs, TestPair as Pairing};
 ghost use Rattle.rinqebo_sides.specs.Own.{AreOwn, NamesOnce};
 

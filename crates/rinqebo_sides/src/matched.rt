@@ -1,9 +1,9 @@
 //! The tests that two lists have in common, and those that one has alone.
 ghost use Rattle.std.specs.Prelude.{◌≡◌, ◌∷◌, [], ◌++◌, false, IfOk, MatchOption, OnOk, filter, map, not};
-ghost use Rattle.nextest_lists.specs.ListView.{list_test_view};
+ghost use Rattle.filter_inputs.specs.Lists.ListView.{list_test_view};
 ghost use Rattle.rinqebo_sides.specs.Matched.{same_test, is_in, pair_view, IsPlaceOf, AddsPair, ArePairs, AreMatched};
 
-use nextest_lists::ListedTest;
+use filter_inputs::ListedTest;
 use std::alloc::{AllocError, Global};
 
 /// A test that both lists have.

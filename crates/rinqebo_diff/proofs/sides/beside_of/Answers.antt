@@ -1,6 +1,6 @@
 use Rattle.std.proofs.Common.{map, subst}
 use Rattle.std.specs.List.{AllZip}
-use Rattle.nextest_lists.specs.ListView.{list_test_view}
+use Rattle.filter_inputs.specs.Lists.ListView.{list_test_view}
 use Rattle.rinqebo_diff.specs.Differences.{IsIdOf}
 use Rattle.rinqebo_diff.proofs.sides.beside_of.Goals as goal
 

@@ -1,4 +1,4 @@
-use Rattle.nextest_lists.specs.ListView.{listed_view}
+use Rattle.filter_inputs.specs.Lists.ListView.{listed_view}
 use Rattle.rinqebo_diff.specs.Differences.{IsCountOf}
 use Rattle.rinqebo_sides.proofs.Zips.{zip_more}
 use Rattle.rinqebo_diff.proofs.sides.counts_of.Goals as goal

@@ -1,6 +1,6 @@
 use Rattle.std.proofs.Common.{map, take}
 use Rattle.std.specs.List.{AllZip}
-use Rattle.nextest_lists.specs.ListView.{listed_view}
+use Rattle.filter_inputs.specs.Lists.ListView.{listed_view}
 use Rattle.rinqebo_diff.specs.Differences.{IsCountOf}
 use Rattle.rinqebo_diff.proofs.sides.counts_of.Given as goal
 

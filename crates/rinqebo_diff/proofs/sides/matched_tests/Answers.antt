@@ -1,5 +1,5 @@
 use Rattle.std.proofs.Common.{◌∙◌, ap, map}
-use Rattle.nextest_lists.specs.ListView.{list_test_view}
+use Rattle.filter_inputs.specs.Lists.ListView.{list_test_view}
 use Rattle.rinqebo_diff.proofs.Evaluating.{matched_as}
 use Rattle.rinqebo_diff.proofs.sides.matched_tests.Goals as goal
 

@@ -1,8 +1,8 @@
 use Rattle.std.proofs.Common.{◌≡◌, ◌<◌, ◌∙◌, Global, List, Vec, ap, arith, filter, length, map, subst, sym}
 use Rattle.std.proofs.lemmas.List.{length-map, map-append, take_all}
-use Rattle.nextest_lists.specs.ListView.{list_test_view}
-use Rattle.nextest_lists.specs.declared.list.ListedTest.{ListedTest}
-use Rattle.nextest_lists.specs.Lists.{ListTest}
+use Rattle.filter_inputs.specs.Lists.ListView.{list_test_view}
+use Rattle.filter_inputs.specs.declared.lists.list.ListedTest.{ListedTest}
+use Rattle.filter_inputs.specs.Lists.Lists.{ListTest}
 use Rattle.rinqebo_request.proofs.KeyLists.{filter_more, filter_same}
 use Rattle.rinqebo_load.specs.FoundTests.{is_named}
 use Rattle.rinqebo_load.proofs.Elements.{seen_get}

@@ -1,6 +1,6 @@
 use Rattle.std.proofs.Common.{◌∙◌, ap}
 use Rattle.nextest_inheritance.specs.View.{borrowed_view}
-use Rattle.nextest_lists.specs.ListView.{list_test_view}
+use Rattle.filter_inputs.specs.Lists.ListView.{list_test_view}
 use Rattle.rinqebo_run.proofs.Listing.{basis_here}
 use Rattle.rinqebo_run.proofs.Requests.{requested_on}
 use Rattle.rinqebo_run.proofs.Rows.{explained_here}

@@ -1,6 +1,6 @@
 use Rattle.std.proofs.Common.{◌≡◌, ◌∙◌, List, ap, map, subst, IfOk}
 use Rattle.filter_language.specs.Filtersets.{marks_view}
-use Rattle.nextest_lists.specs.ListView.{list_test_view}
+use Rattle.filter_inputs.specs.Lists.ListView.{list_test_view}
 use Rattle.filter_engine.specs.Compiling.{names_of}
 use Rattle.filter_engine.specs.Engine.{filter_holds}
 use Rattle.nextest_inheritance.specs.View.{borrowed_view}
@@ -10,8 +10,8 @@ use Rattle.rinqebo_rules.specs.TestOrigins.{Basis}
 use Rattle.rinqebo_rules.specs.Rows.{AreTestsReported}
 use Rattle.rinqebo_rules.specs.Unused.{AreUnusedIn}
 use Rattle.rinqebo_run.proofs.Listing.{basis_here}
-use Rattle.nextest_lists.specs.ListView.{list_view}
-use Rattle.nextest_lists.specs.Lists.{ListTest, list_tests}
+use Rattle.filter_inputs.specs.Lists.ListView.{list_view}
+use Rattle.filter_inputs.specs.Lists.Lists.{ListTest, list_tests}
 use Rattle.rinqebo_run.proofs.list.listed_rows.Goals as goal
 
 pub returns-clause-tests : goal.returns-clause-tests

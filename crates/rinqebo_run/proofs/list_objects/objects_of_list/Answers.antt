@@ -3,7 +3,7 @@ use Rattle.filter_language.specs.Filtersets.{marks_view}
 use Rattle.filter_engine.specs.Compiling.{names_of}
 use Rattle.filter_engine.specs.Engine.{filter_holds}
 use Rattle.nextest_engines.specs.Engines.{test_view}
-use Rattle.nextest_lists.specs.ListView.{list_view}
+use Rattle.filter_inputs.specs.Lists.ListView.{list_view}
 use Rattle.nextest_settings.specs.Profiles.Meaning.{profile_meaning}
 use Rattle.nextest_sources.specs.WarningsView.{warnings_view}
 use Rattle.nextest_tables.specs.FileTexts.{names_in}

@@ -5,8 +5,8 @@ use Rattle.filter_engine.specs.Compiling.{names_of}
 use Rattle.filter_engine.specs.Engine.{filter_holds, filter_holds_binary}
 use Rattle.nextest_settings.specs.Profiles.Meaning.{profile_meaning}
 use Rattle.rinqebo_rules.specs.Scripts.{AreScriptsReported}
-use Rattle.nextest_lists.specs.ListView.{list_view}
-use Rattle.nextest_lists.specs.Lists.{all_binaries}
+use Rattle.filter_inputs.specs.Lists.ListView.{list_view}
+use Rattle.filter_inputs.specs.Lists.Lists.{all_binaries}
 use Rattle.rinqebo_run.proofs.list_scripts.scripts_of_list.Goals as goal
 
 pub returns : goal.returns

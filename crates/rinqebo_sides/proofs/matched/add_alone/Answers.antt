@@ -1,5 +1,5 @@
 use Rattle.std.proofs.Common.{map}
-use Rattle.nextest_lists.specs.ListView.{list_test_view}
+use Rattle.filter_inputs.specs.Lists.ListView.{list_test_view}
 use Rattle.rinqebo_sides.proofs.Matching.{in_at, kept_out, put_in}
 use Rattle.rinqebo_sides.proofs.matched.add_alone.Goals as goal
 

@@ -1,6 +1,6 @@
 use Rattle.std.proofs.Common.{◌<◌, map, refl, subst}
 use Rattle.std.proofs.lemmas.List.{length-map}
-use Rattle.nextest_lists.specs.ListView.{list_test_view}
+use Rattle.filter_inputs.specs.Lists.ListView.{list_test_view}
 use Rattle.rinqebo_sides.specs.Matched.{pair_view}
 use Rattle.rinqebo_sides.proofs.Matching.{no_pair, pair_added}
 use Rattle.rinqebo_sides.proofs.matched.add_pair.Goals as goal

@@ -1,5 +1,5 @@
 use Rattle.std.proofs.Common.{◌≡◌, filter, map, not, take}
-use Rattle.nextest_lists.specs.ListView.{list_test_view}
+use Rattle.filter_inputs.specs.Lists.ListView.{list_test_view}
 use Rattle.rinqebo_sides.specs.Matched.{is_in}
 use Rattle.rinqebo_sides.proofs.matched.alone.Given as goal
 

@@ -1,7 +1,7 @@
 use Rattle.std.proofs.Common.{rules, tests}
 use Rattle.std.proofs.lemmas.Iterator.{YieldsList-from_slice}
 use Rattle.std.proofs.lemmas.Iterator.Search.{position_from_yields_List}
-use Rattle.nextest_lists.specs.ListView.{list_test_view}
+use Rattle.filter_inputs.specs.Lists.ListView.{list_test_view}
 use Rattle.rinqebo_sides.proofs.Matching.{first_by, is_it}
 use Rattle.rinqebo_sides.proofs.matched.first_place.Goals as goal
 

@@ -1,5 +1,5 @@
 use Rattle.std.proofs.Common.{[], map, refl, subst, sym}
-use Rattle.nextest_lists.specs.ListView.{list_test_view}
+use Rattle.filter_inputs.specs.Lists.ListView.{list_test_view}
 use Rattle.rinqebo_sides.specs.Matched.{ArePairs, pair_view}
 use Rattle.rinqebo_sides.proofs.Matching.{pairs_more, pairs_none}
 use Rattle.rinqebo_sides.proofs.matched.pairs_of.Goals as goal

@@ -12,8 +12,8 @@ use Rattle.rinqebo_run.specs.Begun.{AreFirstWritten}
 use Rattle.rinqebo_run.specs.ListedBy.{basis_of}
 use Rattle.rinqebo_run.specs.Written.{AreFirstBy}
 use Rattle.rinqebo_run.specs.declared.list_fault.ListFault.TheVariants as faults
-use Rattle.nextest_lists.specs.ListView.{list_view}
-use Rattle.nextest_lists.specs.Lists.{list_tests}
+use Rattle.filter_inputs.specs.Lists.ListView.{list_view}
+use Rattle.filter_inputs.specs.Lists.Lists.{list_tests}
 use Rattle.rinqebo_run.proofs.list_page.ListPage.write.Goals as goal
 
 pub profile_on-requires : goal.profile_on-requires

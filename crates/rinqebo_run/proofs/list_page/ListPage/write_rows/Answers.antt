@@ -12,8 +12,8 @@ use Rattle.rinqebo_run.specs.Begun.{AreFirstWritten, AreWritten}
 use Rattle.rinqebo_run.specs.Written.{StopsList}
 use Rattle.rinqebo_run.proofs.Listing.{basis_here}
 use Rattle.rinqebo_run.proofs.Writing.{passed_stop}
-use Rattle.nextest_lists.specs.ListView.{list_test_view, list_view}
-use Rattle.nextest_lists.specs.Lists.{ListTest, list_tests}
+use Rattle.filter_inputs.specs.Lists.ListView.{list_test_view, list_view}
+use Rattle.filter_inputs.specs.Lists.Lists.{ListTest, list_tests}
 use Rattle.rinqebo_run.proofs.list_page.ListPage.write_rows.Goals as goal
 
 pub returns-clause-tests : goal.returns-clause-tests

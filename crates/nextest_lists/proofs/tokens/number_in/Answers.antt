@@ -1,6 +1,0 @@
-use Rattle.std.proofs.Common.{sym, ◌∙◌}
-use Rattle.nextest_lists.proofs.ReadTokens.{number_read}
-use Rattle.nextest_lists.proofs.tokens.number_in.Goals as goal
-
-pub returns-in-Ok : goal.returns-in-Ok
-returns-in-Ok c = λ is. sym (number_read c.args.text.now is) ∙ c.in-Ok.ensures.ok
