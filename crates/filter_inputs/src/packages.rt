@@ -10,9 +10,9 @@ mod metadata;
 mod search;
 mod targets;
 
+pub use crate::fields::Wanted;
 pub use fault::{MetadataFault, MetadataPlace};
 pub use graph::PackageGraph;
-pub use json_fields::Wanted;
 pub use laws::law_reaching;
 pub use member_set::MemberSet;
 pub use targets::{PackageTarget, targets_of};

@@ -6,7 +6,7 @@ use Rattle.serde_json.specs.Read.{read}
 use Rattle.nextest_sources.specs.Sources.{Outcome, text, not_found, not_a_directory, failed, InputFile, file_view, ToolFile, tool_file_view}
 use Rattle.nextest_elements.specs.Identifier.{is_part}
 use Rattle.serde_json.specs.Find.{as_bool, as_null, as_str, get}
-use Rattle.json_fields.specs.Parts.{a_list, an_object, optional_object, optional_text, under}
+use Rattle.filter_inputs.specs.Fields.Parts.{a_list, an_object, optional_object, optional_text, under}
 use Rattle.rinqebo_forms.specs.declared.outcome.OutcomeKind.{OutcomeKind}
 use Rattle.rinqebo_forms.specs.declared.outcome.OutcomeKind.TheVariants as outcomes
 use Rattle.rinqebo_forms.specs.declared.request.Machine.{Machine}

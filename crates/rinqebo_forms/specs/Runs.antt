@@ -6,7 +6,7 @@ use Rattle.serde_json.specs.Read.{read}
 use Rattle.nextest_elements.specs.declared.run_mode.NextestRunMode.{NextestRunMode}
 use Rattle.nextest_elements.specs.declared.run_mode.NextestRunMode.TheVariants.{Test, Benchmark}
 use Rattle.serde_json.specs.Find.{as_str}
-use Rattle.json_fields.specs.Parts.{under}
+use Rattle.filter_inputs.specs.Fields.Parts.{under}
 use Rattle.rinqebo_forms.specs.Requests.{RequestText, request_in, request_view}
 use Rattle.rinqebo_forms.specs.declared.run_request.RunRequest.{RunRequest}
 

@@ -1,5 +1,5 @@
 //! Faults of requests.
-use json_fields::{Field, Misfit};
+use filter_inputs::fields::{JsonField, Misfit};
 use serde_json::Value;
 use std::alloc::{AllocError, AllocFailed};
 use std::fmt;
@@ -71,13 +71,13 @@ impl FieldPlace {
     ghost use Rattle.std.specs.Prelude.{◌≡◌};
     ghost use Rattle.serde_json.specs.Find.{get};
     ghost use Rattle.serde_json.specs.View.{view};
-    ghost use Rattle.json_fields.specs.Fields.{found_at};
+    ghost use Rattle.filter_inputs.specs.Fields.Fields.{found_at};
 
     /// Returns the field at the path, of the object that has the key.
-    pub(crate) fn of(self, value: &Value) -> Field<'_, FieldPlace>
+    pub(crate) fn of(self, value: &Value) -> JsonField<'_, FieldPlace>
         ensures { found_at result ≡ get self.key.now (view value.now) }
     {
-        Field::under(value, self.key, self)
+        JsonField::under(value, self.key, self)
     }
 }
 
@@ -85,7 +85,7 @@ impl FieldPlace {
 #[derive(Clone, Copy, Debug, PartialEq, Eq, Drop)]
 pub enum ExpectedValue {
     /// A JSON value of a type.
-    Value(json_fields::Wanted),
+    Value(filter_inputs::fields::Wanted),
     /// The name of a tool.
     ToolName,
     /// The outcome of reading a file.

@@ -2,7 +2,7 @@
 ghost use Rattle.std.specs.Prelude.{option_map, string_bytes};
 ghost use Rattle.serde_json.specs.Find.{as_str};
 ghost use Rattle.serde_json.specs.View.{view};
-ghost use Rattle.json_fields.specs.Parts.{optional_text, under};
+ghost use Rattle.filter_inputs.specs.Fields.Parts.{optional_text, under};
 ghost use Rattle.rinqebo_forms.specs.Reading.{Reads};
 
 use crate::fault::{FieldPlace, RequestFault};

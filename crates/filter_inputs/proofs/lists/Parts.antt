@@ -6,7 +6,7 @@ use Rattle.serde_json.specs.Find.{as_str, get, get_member}
 use Rattle.serde_json.specs.View.{members_view}
 use Rattle.serde_json.specs.declared.value.Value.{Value}
 use Rattle.serde_json.proofs.Views.{get_member-put, get_member-put_other}
-use Rattle.json_fields.specs.declared.kind.Wanted.TheVariants as kinds
+use Rattle.filter_inputs.specs.declared.fields.kind.Wanted.TheVariants as kinds
 use Rattle.filter_inputs.specs.Lists.Demands.{Demand, Expected, of_kind, a_platform, build_demands, demands, first_fault, if_given, listed, member_place, platforms_demands, platforms_in, suite_demands, suite_place, suites_demands}
 use Rattle.filter_inputs.specs.Lists.ListView.{case_view, listed_view}
 use Rattle.filter_inputs.specs.Lists.Lists.{AreTriples, AreTriplesIn, IsListOf, IsSuiteOf, Listed, TestList, cases_in, target_directory_in, values}

@@ -7,10 +7,10 @@ use Rattle.nextest_engines.specs.declared.queries.BuildPlatform.{BuildPlatform}
 use Rattle.nextest_engines.specs.declared.queries.BuildPlatform.TheVariants.{Host, Target}
 use Rattle.serde_json.specs.Data.{Data, null, string, Members, no_members, member}
 use Rattle.serde_json.specs.Find.{get, as_object}
-use Rattle.json_fields.specs.Parts.{a_list, fits, kind_of, under}
-use Rattle.json_fields.specs.declared.kind.Kind.{Kind}
-use Rattle.json_fields.specs.declared.kind.Wanted.{Wanted}
-use Rattle.json_fields.specs.declared.kind.Wanted.TheVariants as kinds
+use Rattle.filter_inputs.specs.Fields.Parts.{a_list, fits, kind_of, under}
+use Rattle.filter_inputs.specs.declared.fields.kind.Kind.{Kind}
+use Rattle.filter_inputs.specs.declared.fields.kind.Wanted.{Wanted}
+use Rattle.filter_inputs.specs.declared.fields.kind.Wanted.TheVariants as kinds
 use Rattle.filter_inputs.specs.declared.lists.place.Place.{Place}
 use Rattle.filter_inputs.specs.declared.lists.place.Place.TheVariants as places
 

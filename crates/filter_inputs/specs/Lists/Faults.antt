@@ -1,9 +1,9 @@
 -- What faults report.
 use Rattle.std.specs.Prelude.{◌≡◌, List, Option, None, Some, IfSome, Result, Ok, Err, MatchResult, string_bytes}
-use Rattle.json_fields.specs.Fields.{found_at}
-use Rattle.json_fields.specs.declared.field.Field.{Field}
-use Rattle.json_fields.specs.declared.field.Misfit.{Misfit}
-use Rattle.json_fields.specs.declared.kind.Wanted.{Wanted}
+use Rattle.filter_inputs.specs.Fields.Fields.{found_at}
+use Rattle.filter_inputs.specs.declared.fields.field.JsonField.{JsonField}
+use Rattle.filter_inputs.specs.declared.fields.field.Misfit.{Misfit}
+use Rattle.filter_inputs.specs.declared.fields.kind.Wanted.{Wanted}
 use Rattle.filter_inputs.specs.Lists.Demands.{Demand, of_kind, Fault, not_json, misfit, unknown_platform, fault_of, first_fault, place_text}
 use Rattle.filter_inputs.specs.declared.lists.fault.ListFault.{ListFault}
 use Rattle.filter_inputs.specs.declared.lists.fault.ListFault.TheVariants as faults
@@ -26,7 +26,7 @@ abbrev pub TellsFirst : List Demand → ListFault → Type 0
 TellsFirst demands fault = IfSome (fault_view fault) (λ f. first_fault demands ≡ Some f)
 
 -- a value of a type is demanded at the path of a field
-abbrev pub demand_at : Field Place → Wanted → Demand
+abbrev pub demand_at : JsonField Place → Wanted → Demand
 demand_at field kind = record {
   place = place_text field.place;
   found = found_at field;

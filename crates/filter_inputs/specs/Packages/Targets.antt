@@ -7,7 +7,7 @@ use Rattle.std.specs.Str.{bytes_eq}
 use Rattle.serde_json.specs.Data.{Data}
 use Rattle.serde_json.specs.Find.{as_str}
 use Rattle.serde_json.specs.Read.{read}
-use Rattle.json_fields.specs.declared.kind.Wanted.TheVariants as wants
+use Rattle.filter_inputs.specs.declared.fields.kind.Wanted.TheVariants as wants
 use Rattle.filter_inputs.specs.Packages.Metadata.{list_under, text_of, text_under}
 use Rattle.filter_inputs.specs.declared.packages.fault.MetadataFault.{MetadataFault}
 use Rattle.filter_inputs.specs.declared.packages.fault.MetadataFault.TheVariants.{NotJson, Expected}

@@ -1,5 +1,5 @@
 //! Faults of lists of tests.
-use json_fields::Misfit;
+use crate::fields::Misfit;
 use std::alloc::{AllocError, AllocFailed};
 use thiserror::Error;
 

@@ -8,10 +8,10 @@ ghost use Rattle.filter_inputs.specs.Lists.Faults.{TellsFirst};
 ghost use Rattle.filter_inputs.specs.Lists.Lists.{AreTriplesIn, AreTriples};
 ghost use Rattle.filter_inputs.specs.Lists.ListView.{triples_view};
 
+use crate::fields::JsonField;
 use crate::lists::fault::ListFault;
 use crate::lists::place::Place;
 use crate::lists::values::{or_fault, text_at};
-use json_fields::Field;
 use serde_json::Value;
 use std::alloc::Global;
 
@@ -55,7 +55,7 @@ fn target_in(alloc: Global, targets: &[Value]) -> Result<Option<&str>, ListFault
     match targets.first() {
         None => Ok(None),
         Some(target) => {
-            let triple = Field {
+            let triple = JsonField {
                 found: triple_in(Some(target)),
                 place: Place::Platforms("targets.0.platform.triple"),
             };
@@ -71,12 +71,12 @@ fn triples_in<'v>(alloc: Global, platforms: &'v Value) -> Result<Triples<'v>, Li
     ensures met { IfOk result (λ _. first_fault (platforms_demands (view platforms.now)) ≡ None) }
     ensures err { IfErr result (TellsFirst (platforms_demands (view platforms.now))) }
 {
-    let host = Field {
+    let host = JsonField {
         found: triple_in(platforms.get("host")),
         place: Place::Platforms("host.platform.triple"),
     };
     let host = text_at(alloc, host)?;
-    let targets = Field::under(platforms, "targets", Place::Platforms("targets"));
+    let targets = JsonField::under(platforms, "targets", Place::Platforms("targets"));
     let targets = or_fault(alloc, targets.list())?;
     Ok(Triples {
         host: Some(host),

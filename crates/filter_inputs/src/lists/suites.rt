@@ -9,13 +9,13 @@ ghost use Rattle.filter_inputs.specs.Lists.Faults.{fault_view, Tells, TellsFirst
 ghost use Rattle.filter_inputs.specs.Lists.Lists.{IsSuiteOf, cases_in, is_ignored, values};
 ghost use Rattle.filter_inputs.specs.Lists.ListView.{case_view, listed_view};
 ghost use Rattle.filter_inputs.specs.Lists.SuiteView.{suite_view};
-ghost use Rattle.json_fields.specs.declared.kind.Wanted.TheVariants.{Text};
+ghost use Rattle.filter_inputs.specs.declared.fields.kind.Wanted.TheVariants.{Text};
 
+use crate::fields::JsonField;
 use crate::lists::fault::ListFault;
 use crate::lists::list::{ListedBinary, TestCase};
 use crate::lists::place::Place;
 use crate::lists::values::{members_at, text_at};
-use json_fields::Field;
 use nextest_engines::BuildPlatform;
 use serde_json::{Map, Value};
 use std::alloc::{AllocError, Global};
@@ -67,7 +67,7 @@ fn member_text<'v>(
     ensures err { IfErr result (Tells (member_demand id.now (view suite.now) key.now
         (of_kind Text))) }
 {
-    text_at(alloc, Field::under(suite, key, Place::Member(id, key)))
+    text_at(alloc, JsonField::under(suite, key, Place::Member(id, key)))
 }
 
 /// Reads the platform of a suite.
@@ -91,7 +91,7 @@ pub fn suite_of<'v>(alloc: Global, id: &str, suite: &'v Value) -> Result<Suite<'
     ensures met { IfOk result (λ _. first_fault (suite_demands (id.now, view suite.now)) ≡ None) }
     ensures err { IfErr result (TellsFirst (suite_demands (id.now, view suite.now))) }
 {
-    let whole = Field {
+    let whole = JsonField {
         found: Some(suite),
         place: Place::Suite(id),
     };
@@ -105,7 +105,7 @@ pub fn suite_of<'v>(alloc: Global, id: &str, suite: &'v Value) -> Result<Suite<'
         platform: platform_in(alloc, id, suite)?,
         cases: members_at(
             alloc,
-            Field::under(suite, "testcases", Place::Member(id, "testcases")),
+            JsonField::under(suite, "testcases", Place::Member(id, "testcases")),
         )?,
     })
 }
@@ -177,6 +177,6 @@ pub fn binaries_of(alloc: Global, document: &Value) -> Result<Vec<ListedBinary>,
     ensures err { IfErr result
         (TellsFirst (suites_demands (get (codes "rust-suites") (view document.now)))) }
 {
-    let suites = Field::under(document, "rust-suites", Place::Suites);
+    let suites = JsonField::under(document, "rust-suites", Place::Suites);
     binaries_in(alloc, members_at(alloc, suites)?)
 }

@@ -2,13 +2,13 @@
 ghost use Rattle.std.specs.Prelude.{◌≡◌, Some, IfOk, IfErr};
 ghost use Rattle.serde_json.specs.Data.{string, object};
 ghost use Rattle.serde_json.specs.View.{members_view};
-ghost use Rattle.json_fields.specs.Fields.{found_at};
-ghost use Rattle.json_fields.specs.declared.kind.Wanted.TheVariants.{Text, Object};
+ghost use Rattle.filter_inputs.specs.Fields.Fields.{found_at};
+ghost use Rattle.filter_inputs.specs.declared.fields.kind.Wanted.TheVariants.{Text, Object};
 ghost use Rattle.filter_inputs.specs.Lists.Faults.{IsRead, Tells, demand_at};
 
+use crate::fields::{JsonField, Misfit};
 use crate::lists::fault::ListFault;
 use crate::lists::place::Place;
-use json_fields::{Field, Misfit};
 use serde_json::{Map, Value};
 use std::alloc::Global;
 
@@ -27,7 +27,7 @@ pub fn or_fault<T>(alloc: Global, read: Result<T, Misfit<Place<'_>>>) -> Result<
 }
 
 /// Reads the string of a field.
-pub fn text_at<'v>(alloc: Global, field: Field<'v, Place<'_>>) -> Result<&'v str, ListFault>
+pub fn text_at<'v>(alloc: Global, field: JsonField<'v, Place<'_>>) -> Result<&'v str, ListFault>
     ensures ok { IfOk result (λ text. found_at field.entry ≡ Some (string text.now)) }
     ensures err { IfErr result (Tells (demand_at field.entry Text)) }
 {
@@ -37,7 +37,7 @@ pub fn text_at<'v>(alloc: Global, field: Field<'v, Place<'_>>) -> Result<&'v str
 /// Reads the members of the object of a field.
 pub fn members_at<'v>(
     alloc: Global,
-    field: Field<'v, Place<'_>>,
+    field: JsonField<'v, Place<'_>>,
 ) -> Result<&'v Map<String, Value>, ListFault>
     ensures ok { IfOk result (λ members.
         found_at field.entry ≡ Some (object (members_view members.now.entries))) }

@@ -1,5 +1,5 @@
 //! Faults of metadata.
-use json_fields::{Misfit, Wanted};
+use crate::fields::{Misfit, Wanted};
 use std::alloc::{AllocError, AllocFailed};
 use std::fmt;
 use thiserror::Error;

@@ -2,12 +2,12 @@
 ghost use Rattle.std.specs.Prelude.{◌<◌, All, length};
 ghost use Rattle.filter_inputs.specs.Packages.Marks.{IsBelow};
 
+use crate::fields::JsonField;
 use crate::packages::edges::{Direction, Edge};
 use crate::packages::fault::{MetadataFault, MetadataPlace};
 use crate::packages::member_set::MemberSet;
 use crate::packages::metadata::{edges_of, members_of, package_ids, package_names};
 use crate::packages::search::reach;
-use json_fields::Field;
 use nextest_engines::NameMatcher;
 use serde_json::Value;
 use std::alloc::{AllocError, Global};
@@ -61,7 +61,7 @@ impl PackageGraph {
     fn from_value(alloc: Global, metadata: &Value) -> Result<PackageGraph, MetadataFault>
         ensures { Reads graph_view result (graph_of (view metadata.now)) }
     {
-        let packages = Field::under(metadata, "packages", MetadataPlace::Packages).list()?;
+        let packages = JsonField::under(metadata, "packages", MetadataPlace::Packages).list()?;
         let ids = package_ids(alloc, packages)?;
         let names = package_names(alloc, packages)?;
         let members = members_of(alloc, &ids, metadata)?;

@@ -7,9 +7,9 @@ ghost use Rattle.filter_inputs.specs.Packages.Metadata.{package_ids, package_nam
 ghost use Rattle.filter_inputs.specs.Packages.Names.{names_view, ids_view};
 ghost use Rattle.filter_inputs.specs.Packages.Results.{Reads, and_then, each};
 
+use crate::fields::JsonField;
 use crate::packages::edges::Edge;
 use crate::packages::fault::{MetadataFault, MetadataPlace};
-use json_fields::Field;
 use serde_json::Value;
 use std::alloc::Global;
 
@@ -22,7 +22,7 @@ pub fn text_under<'v>(
     ensures { result_map_both (λ text. text.now) (λ e. e) result
         ≡ text_under key.now place (view value.now) }
 {
-    Ok(Field::under(value, key, place).text()?)
+    Ok(JsonField::under(value, key, place).text()?)
 }
 
 /// Reads the ids of packages.
@@ -71,7 +71,7 @@ fn member_at(ids: &[&str], place: usize, value: &Value) -> Result<usize, Metadat
     ensures { result ≡ member_at (ids_view ids.now) place (view value.now) }
 {
     let place = MetadataPlace::WorkspaceMember(place);
-    let id = Field {
+    let id = JsonField {
         found: Some(value),
         place,
     };
@@ -101,7 +101,7 @@ pub fn members_of(
     ensures { Reads (λ members. members.items) result
         (members_of (ids_view ids.now) (view metadata.now)) }
 {
-    let values = Field::under(
+    let values = JsonField::under(
         metadata,
         "workspace_members",
         MetadataPlace::WorkspaceMembers,
@@ -158,7 +158,7 @@ fn node_at(
 {
     let id = text_under(value, "id", MetadataPlace::NodeId(place))?;
     let from = package_of(ids, id, MetadataPlace::NodeId(place))?;
-    let values = Field::under(value, "deps", MetadataPlace::Dependencies(place)).list()?;
+    let values = JsonField::under(value, "deps", MetadataPlace::Dependencies(place)).list()?;
     edge_list(alloc, ids, place, from, values)
 }
 
@@ -181,7 +181,7 @@ pub fn edges_of(alloc: Global, ids: &[&str], metadata: &Value) -> Result<Vec<Edg
     ensures { Reads (λ edges. edges.items) result
         (edges_of (ids_view ids.now) (view metadata.now)) }
 {
-    let resolve = Field::under(metadata, "resolve", MetadataPlace::Resolve).object()?;
-    let nodes = Field::under(resolve, "nodes", MetadataPlace::Nodes).list()?;
+    let resolve = JsonField::under(metadata, "resolve", MetadataPlace::Resolve).object()?;
+    let nodes = JsonField::under(resolve, "nodes", MetadataPlace::Nodes).list()?;
     node_list(alloc, ids, nodes)
 }

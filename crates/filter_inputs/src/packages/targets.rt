@@ -12,9 +12,9 @@ ghost use Rattle.filter_inputs.specs.declared.packages.fault.MetadataPlace.TheVa
 ghost use Rattle.filter_inputs.specs.Packages.TargetView.{target_view, targets_view};
 ghost use Rattle.filter_inputs.specs.declared.packages.fault.MetadataFault.TheVariants.{Memory};
 
+use crate::fields::JsonField;
 use crate::packages::fault::{MetadataFault, MetadataPlace};
 use crate::packages::metadata::text_under;
-use json_fields::Field;
 use serde_json::Value;
 use std::alloc::{AllocError, Global};
 
@@ -88,7 +88,7 @@ fn kind_in(kinds: &[Value], place: MetadataPlace) -> Result<&str, MetadataFault>
     if is_linked(kinds) {
         return Ok("lib");
     }
-    let first = Field {
+    let first = JsonField {
         found: kinds.first(),
         place,
     };
@@ -116,7 +116,7 @@ fn target_at(
 {
     let place = member.place;
     let name = text_under(value, "name", MetadataPlace::TargetName(place, target))?;
-    let kinds = Field::under(value, "kind", MetadataPlace::TargetKinds(place, target)).list()?;
+    let kinds = JsonField::under(value, "kind", MetadataPlace::TargetKinds(place, target)).list()?;
     let kind = kind_in(kinds, MetadataPlace::TargetKind(place, target))?;
     Ok(PackageTarget {
         package_id: String::from_str(alloc, member.id)?,
@@ -156,7 +156,7 @@ fn member_targets(
         (member_targets id.now place (view value.now)) }
 {
     let name = text_under(value, "name", MetadataPlace::PackageName(place))?;
-    let values = Field::under(value, "targets", MetadataPlace::Targets(place)).list()?;
+    let values = JsonField::under(value, "targets", MetadataPlace::Targets(place)).list()?;
     target_list(alloc, Member { place, id, name }, values)
 }
 
@@ -214,7 +214,7 @@ fn member_id(value: &Value, place: usize) -> Result<&str, MetadataFault>
     ensures { result_map_both (λ id. id.now) (λ e. e) result
         ≡ text_of (WorkspaceMember place) (view value.now) }
 {
-    let id = Field {
+    let id = JsonField {
         found: Some(value),
         place: MetadataPlace::WorkspaceMember(place),
     };
@@ -239,7 +239,7 @@ fn id_list(alloc: Global, values: &[Value]) -> Result<Vec<&str>, MetadataFault>
 fn member_ids(alloc: Global, metadata: &Value) -> Result<Vec<&str>, MetadataFault>
     ensures { Reads (λ ids. ids_view ids.items) result (member_ids (view metadata.now)) }
 {
-    let values = Field::under(
+    let values = JsonField::under(
         metadata,
         "workspace_members",
         MetadataPlace::WorkspaceMembers,
@@ -254,7 +254,7 @@ fn targets_in(alloc: Global, metadata: &Value) -> Result<Vec<PackageTarget>, Met
     ensures { Reads (λ targets. targets_view targets.items) result (targets_of (view metadata.now)) }
 {
     let members = member_ids(alloc, metadata)?;
-    let packages = Field::under(metadata, "packages", MetadataPlace::Packages).list()?;
+    let packages = JsonField::under(metadata, "packages", MetadataPlace::Packages).list()?;
     all_targets(alloc, &members, packages)
 }
 

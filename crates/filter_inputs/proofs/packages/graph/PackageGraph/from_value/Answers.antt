@@ -3,8 +3,8 @@ use Rattle.std.proofs.lemmas.List.{length-map}
 use Rattle.std.proofs.lemmas.Result.{err_from_is_err_and}
 use Rattle.std.specs.Option.{option_and_then, ok_or}
 use Rattle.serde_json.specs.View.{view}
-use Rattle.json_fields.specs.Parts.{a_list}
-use Rattle.json_fields.specs.declared.kind.Wanted.TheVariants as wants
+use Rattle.filter_inputs.specs.Fields.Parts.{a_list}
+use Rattle.filter_inputs.specs.declared.fields.kind.Wanted.TheVariants as wants
 use Rattle.filter_inputs.specs.declared.packages.fault.MetadataFault.TheVariants.{Expected}
 use Rattle.filter_inputs.specs.declared.packages.fault.MetadataPlace.TheVariants.{Packages}
 use Rattle.filter_inputs.specs.Packages.Marks.{IsBelow}

@@ -1,7 +1,7 @@
 //! The kinds of JSON values, and the types of value that can be wanted.
 ghost use Rattle.std.specs.Prelude.{◌≡◌};
 ghost use Rattle.serde_json.specs.View.{view};
-ghost use Rattle.json_fields.specs.Parts.{kind_of};
+ghost use Rattle.filter_inputs.specs.Fields.Parts.{kind_of};
 
 use serde_json::Value;
 use std::fmt;

@@ -2,10 +2,10 @@
 use Rattle.std.specs.Prelude.{ℕ, List, [], ◌∷◌, Bool, false, is_some, if◌then◌else◌, Option, None, Some, option_and_then, option_map}
 use Rattle.serde_json.specs.Data.{Data, null, boolean, number, string, array, object, Items, no_items, item}
 use Rattle.serde_json.specs.Find.{get, as_array, as_bool, as_null, as_object, as_str}
-use Rattle.json_fields.specs.declared.kind.Kind.{Kind}
-use Rattle.json_fields.specs.declared.kind.Kind.TheVariants as kinds
-use Rattle.json_fields.specs.declared.kind.Wanted.{Wanted}
-use Rattle.json_fields.specs.declared.kind.Wanted.TheVariants as wants
+use Rattle.filter_inputs.specs.declared.fields.kind.Kind.{Kind}
+use Rattle.filter_inputs.specs.declared.fields.kind.Kind.TheVariants as kinds
+use Rattle.filter_inputs.specs.declared.fields.kind.Wanted.{Wanted}
+use Rattle.filter_inputs.specs.declared.fields.kind.Wanted.TheVariants as wants
 
 -- the kind of a value
 abbrev pub kind_of : Data → Kind

@@ -3,17 +3,17 @@ ghost use Rattle.std.specs.Prelude.{◌≡◌, map, option_map};
 ghost use Rattle.std.specs.Option.{ok_or};
 ghost use Rattle.serde_json.specs.Find.{get, as_bool, as_null, as_object, as_str};
 ghost use Rattle.serde_json.specs.View.{members_view, view};
-ghost use Rattle.json_fields.specs.Fields.{Reads, found_at, misfit_of};
-ghost use Rattle.json_fields.specs.Parts.{a_list, an_object, optional_object, optional_text};
-ghost use Rattle.json_fields.specs.declared.kind.Wanted.TheVariants as wants;
+ghost use Rattle.filter_inputs.specs.Fields.Fields.{Reads, found_at, misfit_of};
+ghost use Rattle.filter_inputs.specs.Fields.Parts.{a_list, an_object, optional_object, optional_text};
+ghost use Rattle.filter_inputs.specs.declared.fields.kind.Wanted.TheVariants as wants;
 
-use crate::kind::{Kind, Wanted};
+use crate::fields::kind::{Kind, Wanted};
 use serde_json::{Map, Value};
 use std::fmt;
 
 /// The value at a path of a document, if there is one.
 #[derive(Clone, Copy)]
-pub struct Field<'v, P> {
+pub struct JsonField<'v, P> {
     /// The value, if there is one.
     pub found: Option<&'v Value>,
     /// The path.
@@ -41,21 +41,21 @@ impl<P: fmt::Display> fmt::Display for Misfit<P> {
 }
 
 /// Returns the values of an array.
-#[tactic(auto, using(crate::proofs::Listing::listed_items))]
+#[tactic(auto, using(crate::proofs::fields::Listing::listed_items))]
 fn values_of(value: &Value) -> Option<&[Value]>
     ensures { option_map (λ values. map view values.now) result ≡ a_list (view value.now) }
 {
     Some(value.as_array()?.as_slice())
 }
 
-impl<'v, P: Copy> Field<'v, P> {
+impl<'v, P: Copy> JsonField<'v, P> {
     /// Returns the field of a value at a key. The field has no value if the value isn't an object
     /// or doesn't have the key.
-    pub fn under(value: &'v Value, key: &str, place: P) -> Field<'v, P>
+    pub fn under(value: &'v Value, key: &str, place: P) -> JsonField<'v, P>
         ensures found { found_at result ≡ get key.now (view value.now) }
         ensures place { result.place ≡ place }
     {
-        Field {
+        JsonField {
             found: value.get(key),
             place,
         }
