@@ -7,7 +7,7 @@ use Rattle.std.specs.Option.{option_and_then, option_map_or}
 use Rattle.std.specs.List.{slice_get}
 use Rattle.nextest_sources.specs.Sources.{explicit_file, discovered_file, outcome_view}
 use Rattle.nextest_sources.specs.declared.sources.FileInput.{FileInput}
-use Rattle.rinqebo_features.specs.Features.{tree_read}
+use Rattle.rinqebo_forms.specs.Features.{tree_read}
 use Rattle.rinqebo_files.specs.Features.{repository_file}
 use Rattle.rinqebo_files.specs.Layers.{LayerRead, default_layer, file_layer, layer_tree, layer_view, layers_read, organisation_layers, repository_layer, tool_layer}
 use Rattle.rinqebo_files.specs.declared.files.Gathered.{Gathered}

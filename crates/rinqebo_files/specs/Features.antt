@@ -6,7 +6,7 @@ use Rattle.nextest_elements.specs.declared.experimental.ConfigExperimental.{Conf
 use Rattle.nextest_rules.specs.KnownView.{features_view}
 use Rattle.nextest_sources.specs.Sources.{outcome_view}
 use Rattle.nextest_sources.specs.declared.sources.FileInput.{FileInput}
-use Rattle.rinqebo_features.specs.Features.{tree_read, AreFeaturesBy}
+use Rattle.rinqebo_forms.specs.Features.{tree_read, AreFeaturesBy}
 use Rattle.rinqebo_files.specs.declared.files.Gathered.{Gathered}
 
 -- the repository's file: the one that a user named, or else the one of the workspace

@@ -11,7 +11,7 @@ use Rattle.nextest_tables.specs.Defaults.{defaults}
 use Rattle.nextest_elements.specs.IdentifierText.{tool_name_text}
 use Rattle.nextest_tree.specs.Node.{Node}
 use Rattle.nextest_tree.specs.View.{tree_view}
-use Rattle.rinqebo_features.specs.Features.{tree_read}
+use Rattle.rinqebo_forms.specs.Features.{tree_read}
 use Rattle.rinqebo_files.specs.Origins.{file_of, reported_file}
 use Rattle.rinqebo_files.specs.declared.files.Gathered.{Gathered}
 use Rattle.rinqebo_files.specs.declared.layers.Layer.{Layer}

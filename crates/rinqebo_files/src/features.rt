@@ -8,7 +8,7 @@ ghost use Rattle.rinqebo_files.specs.declared.files.Gathered.{Gathered};
 
 use crate::layers::Layer;
 use nextest_config::{ConfigExperimental, Tree};
-use rinqebo_features::features_by;
+use rinqebo_forms::features_by;
 use std::alloc::AllocError;
 use std::collections::BTreeSet;
 

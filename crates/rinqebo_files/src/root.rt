@@ -1,7 +1,7 @@
 //! The root of a workspace, looked for from a folder upward.
 use nextest_config::{CONFIG_PATH, ReadOutcome, join_paths};
 use nextest_sources::FileReader;
-use rinqebo_features::tree_of;
+use rinqebo_forms::tree_of;
 use std::alloc::{AllocError, Global};
 
 /// What shows that a folder is the root of a workspace.

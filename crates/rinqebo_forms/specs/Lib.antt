@@ -3,3 +3,4 @@ pub mod Requests
 pub mod Numbers
 pub mod Machines
 pub mod Runs
+pub mod Features

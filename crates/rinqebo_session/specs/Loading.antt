@@ -19,7 +19,7 @@ use Rattle.nextest_sources.specs.declared.error.ConfigParseError.{ConfigParseErr
 use Rattle.platform_language.specs.Expressions.{Spec, spec_view}
 use Rattle.platform_language.specs.declared.expression.TargetSpec.{TargetSpec}
 use Rattle.platform_language.specs.declared.platforms.Platform.{Platform}
-use Rattle.rinqebo_features.specs.Features.{AreFeaturesBy, tree_read}
+use Rattle.rinqebo_forms.specs.Features.{AreFeaturesBy, tree_read}
 use Rattle.rinqebo_forms.specs.Machines.{AreFiltersFor, IsMetadataFault, ArePlatformsFor, IsBuildRefused}
 use Rattle.rinqebo_forms.specs.Requests.{RequestText, request_of}
 use Rattle.rinqebo_forms.specs.declared.fault.RequestFault.TheVariants.{Memory as request_memory}

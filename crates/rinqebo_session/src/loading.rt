@@ -4,7 +4,7 @@ ghost use Rattle.nextest_sources.specs.Sources.{file_view};
 ghost use Rattle.nextest_sources.specs.WarningsView.{warnings_view};
 ghost use Rattle.nextest_rules.specs.KnownView.{features_view};
 ghost use Rattle.nextest_tree.specs.View.{tree_view};
-ghost use Rattle.rinqebo_features.specs.Features.{AreFeaturesBy};
+ghost use Rattle.rinqebo_forms.specs.Features.{AreFeaturesBy};
 ghost use Rattle.rinqebo_forms.specs.Requests.{request_view};
 ghost use Rattle.rinqebo_session.specs.Loading.{repository_file, AreFeaturesFor, LoadsBy, IsLoadedBy, IsFailureBy, IsLoadedFrom, IsFailureOf};
 ghost use Rattle.rinqebo_session.specs.Readings.{readings};
@@ -17,8 +17,7 @@ use nextest_config::{
     DefaultConfigWarnings, FileInput, NextestConfig, ParseContext, Tree,
 };
 use platform_language::{Platform, TargetSpecs};
-use rinqebo_features::{features_by, tree_of};
-use rinqebo_forms::{LoadRequest, filters_of, platforms_of};
+use rinqebo_forms::{LoadRequest, features_by, filters_of, platforms_of, tree_of};
 use std::alloc::{AllocError, Global};
 use std::collections::BTreeSet;
 

@@ -1,6 +1,6 @@
 use Rattle.std.proofs.Common.{◌∙◌, subst, IfOk}
 use Rattle.nextest_rules.specs.KnownView.{features_view}
-use Rattle.rinqebo_features.specs.Features.{AreFeaturesBy}
+use Rattle.rinqebo_forms.specs.Features.{AreFeaturesBy}
 use Rattle.rinqebo_files.proofs.Highest.{repository_last}
 use Rattle.rinqebo_files.proofs.features.features_of.Goals as goal
 

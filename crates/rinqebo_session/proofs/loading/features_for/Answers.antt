@@ -1,7 +1,7 @@
 use Rattle.std.proofs.Common.{◌≡◌, ◌∙◌, ◌⊎◌, ◌↔◌, IsTrue, ap, option_map, subst}
 use Rattle.nextest_rules.specs.KnownView.{features_view}
 use Rattle.nextest_tree.specs.View.{tree_view}
-use Rattle.rinqebo_features.specs.Features.{AreFeaturesBy, IsSwitchedOnBy, experimental_in, tree_read}
+use Rattle.rinqebo_forms.specs.Features.{AreFeaturesBy, IsSwitchedOnBy, experimental_in, tree_read}
 use Rattle.rinqebo_forms.specs.Requests.{request_view}
 use Rattle.rinqebo_session.specs.Loading.{repository_file}
 use Rattle.rinqebo_session.proofs.loading.features_for.Goals as goal

@@ -1,9 +1,9 @@
 use Rattle.std.proofs.Common.{refl, subst, sym}
 use Rattle.nextest_elements.specs.Experimental.{experimental_text}
 use Rattle.nextest_tree.specs.View.{tree_view}
-use Rattle.rinqebo_features.specs.Features.{SwitchesOn}
-use Rattle.rinqebo_features.proofs.Switching.{added, left_out, not_both}
-use Rattle.rinqebo_features.proofs.features.add_feature.Goals as goal
+use Rattle.rinqebo_forms.specs.Features.{SwitchesOn}
+use Rattle.rinqebo_forms.proofs.Switching.{added, left_out, not_both}
+use Rattle.rinqebo_forms.proofs.features.add_feature.Goals as goal
 
 pub returns-then-switches_on : goal.returns-then-switches_on
 returns-then-switches_on c =

@@ -1,9 +1,9 @@
 use Rattle.std.proofs.Common.{◌≡◌, ◌↔◌, true, IsTrue, Some, option_map, subst, sym}
 use Rattle.nextest_tree.specs.Node.{bool}
 use Rattle.nextest_tree.specs.View.{nodes_view, tree_view}
-use Rattle.rinqebo_features.specs.Features.{IsNamedIn}
-use Rattle.rinqebo_features.proofs.Switching.{listed, named_there, true_there, unlisted}
-use Rattle.rinqebo_features.proofs.features.switches_on.Goals as goal
+use Rattle.rinqebo_forms.specs.Features.{IsNamedIn}
+use Rattle.rinqebo_forms.proofs.Switching.{listed, named_there, true_there, unlisted}
+use Rattle.rinqebo_forms.proofs.features.switches_on.Goals as goal
 
 pub returns-in-Some : goal.returns-in-Some
 returns-in-Some c =

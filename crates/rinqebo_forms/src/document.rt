@@ -2,7 +2,7 @@
 ghost use Rattle.std.specs.Prelude.{◌≡◌, IfOk, option_map};
 ghost use Rattle.nextest_sources.specs.Sources.{outcome_view};
 ghost use Rattle.nextest_tree.specs.View.{tree_view};
-ghost use Rattle.rinqebo_features.specs.Features.{tree_read};
+ghost use Rattle.rinqebo_forms.specs.Features.{tree_read};
 
 use nextest_documents::{TextFault, tree_from_text};
 use nextest_sources::ReadOutcome;

@@ -2,10 +2,10 @@ use Rattle.std.proofs.Common.{refl}
 use Rattle.std.proofs.lemmas.List.{take_all}
 use Rattle.nextest_elements.specs.Experimental.{experimental_text}
 use Rattle.nextest_tree.specs.View.{tree_view}
-use Rattle.rinqebo_features.specs.declared.features.TheConstants.{FEATURES}
-use Rattle.rinqebo_features.specs.Features.{SwitchesOn}
-use Rattle.rinqebo_features.proofs.Switching.{all_looked_at, none_yet, one_more}
-use Rattle.rinqebo_features.proofs.features.add_features.Goals as goal
+use Rattle.rinqebo_forms.specs.declared.features.TheConstants.{FEATURES}
+use Rattle.rinqebo_forms.specs.Features.{SwitchesOn}
+use Rattle.rinqebo_forms.proofs.Switching.{all_looked_at, none_yet, one_more}
+use Rattle.rinqebo_forms.proofs.features.add_features.Goals as goal
 
 pub loop-feature-init : goal.loop-feature-init
 loop-feature-init c =

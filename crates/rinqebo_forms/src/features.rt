@@ -6,7 +6,7 @@ ghost use Rattle.nextest_elements.specs.Experimental.{experimental_text};
 ghost use Rattle.nextest_rules.specs.KnownView.{features_view};
 ghost use Rattle.nextest_tree.specs.Node.{as_bool};
 ghost use Rattle.nextest_tree.specs.View.{tree_view};
-ghost use Rattle.rinqebo_features.specs.Features.{experimental_in, is_this_text, SwitchesOn, AreWith, AreAdded, AreFeaturesBy};
+ghost use Rattle.rinqebo_forms.specs.Features.{experimental_in, is_this_text, SwitchesOn, AreWith, AreAdded, AreFeaturesBy};
 
 use nextest_elements::ConfigExperimental;
 use nextest_tree::Tree;

@@ -12,8 +12,8 @@ use Rattle.nextest_elements.specs.declared.experimental.ConfigExperimental.TheVa
 use Rattle.nextest_rules.specs.KnownView.{features_view, is_feature}
 use Rattle.nextest_tree.specs.Node.{Node, table, array, text, int, bool, opaque, Nodes, as_array, as_bool, as_text, member_of}
 use Rattle.nextest_tree.specs.View.{nodes_of}
-use Rattle.rinqebo_features.specs.declared.features.TheConstants.{FEATURES}
-use Rattle.rinqebo_features.specs.Features.{is_this_text, AreAdded, AreWith, IsNamedIn, IsSwitchedOnBy, SwitchesOn}
+use Rattle.rinqebo_forms.specs.declared.features.TheConstants.{FEATURES}
+use Rattle.rinqebo_forms.specs.Features.{is_this_text, AreAdded, AreWith, IsNamedIn, IsSwitchedOnBy, SwitchesOn}
 
 not_true : false ≡ true → ⊥
 not_true is = absurd (cc)

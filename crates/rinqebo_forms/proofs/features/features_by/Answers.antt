@@ -1,9 +1,9 @@
 use Rattle.std.proofs.Common.{◌≡◌, option_map}
 use Rattle.std.proofs.lemmas.List.Elements.{same_from_all_zip}
 use Rattle.nextest_tree.specs.View.{tree_view}
-use Rattle.rinqebo_features.specs.Features.{experimental_in}
-use Rattle.rinqebo_features.proofs.Switching.{copied}
-use Rattle.rinqebo_features.proofs.features.features_by.Goals as goal
+use Rattle.rinqebo_forms.specs.Features.{experimental_in}
+use Rattle.rinqebo_forms.proofs.Switching.{copied}
+use Rattle.rinqebo_forms.proofs.features.features_by.Goals as goal
 
 pub returns : goal.returns
 returns c =

@@ -1,9 +1,9 @@
 use Rattle.std.proofs.Common.{option_map, subst, sym}
 use Rattle.std.specs.Prelude.{OnOk}
 use Rattle.nextest_tree.specs.View.{tree_view}
-use Rattle.rinqebo_features.specs.Features.{AreWith}
-use Rattle.rinqebo_features.proofs.Switching.{nothing_more}
-use Rattle.rinqebo_features.proofs.features.add_written.Goals as goal
+use Rattle.rinqebo_forms.specs.Features.{AreWith}
+use Rattle.rinqebo_forms.proofs.Switching.{nothing_more}
+use Rattle.rinqebo_forms.proofs.features.add_written.Goals as goal
 
 pub returns-in-Some : goal.returns-in-Some
 returns-in-Some c =
