@@ -10,7 +10,7 @@ use Rattle.rinqebo_diff.specs.declared.loaded.SideName.{SideName}
 use Rattle.rinqebo_diff.specs.declared.loaded.SideName.TheVariants as names
 use Rattle.rinqebo_diff.specs.declared.request.DiffRequest.{DiffRequest}
 use Rattle.rinqebo_diff.specs.declared.request.DiffSide.{DiffSide}
-use Rattle.rinqebo_files.specs.declared.files.Gathered.{Gathered}
+use Rattle.rinqebo_request.specs.declared.files.gathering.Gathered.{Gathered}
 use Rattle.rinqebo_forms.specs.Runs.{RunText, run_of}
 use Rattle.rinqebo_load.specs.declared.failure.Failure.{Failure}
 use Rattle.rinqebo_resolve.specs.Asking.{RequestedText, AreFilesOf, requested_of}

@@ -3,7 +3,7 @@ use Rattle.std.proofs.Common.{◌≡◌, ◌∙◌, ◌≤◌, ◌⊎◌, inl, i
 use Rattle.std.specs.Io.KnownBytes.{Appends}
 use Rattle.rinqebo_changes.specs.Diffs.{is_empty}
 use Rattle.rinqebo_changes.specs.declared.diff.Diff.{Diff}
-use Rattle.rinqebo_files.specs.declared.files.Gathered.{Gathered}
+use Rattle.rinqebo_request.specs.declared.files.gathering.Gathered.{Gathered}
 use Rattle.rinqebo_load.specs.Beginning.{IsUnusable}
 use Rattle.rinqebo_load.specs.SessionOf.{IsSessionOf}
 use Rattle.rinqebo_load.specs.declared.failure.Failure.{Failure}

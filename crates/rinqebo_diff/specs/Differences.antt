@@ -8,7 +8,7 @@ use Rattle.rinqebo_changes.specs.Changes.{is_change}
 use Rattle.rinqebo_changes.specs.Diffs.{is_empty}
 use Rattle.rinqebo_changes.specs.declared.diff.BinaryTests.{BinaryTests}
 use Rattle.rinqebo_changes.specs.declared.diff.Diff.{Diff}
-use Rattle.rinqebo_files.specs.declared.files.Gathered.{Gathered}
+use Rattle.rinqebo_request.specs.declared.files.gathering.Gathered.{Gathered}
 use Rattle.rinqebo_load.specs.Sessions.{readings}
 use Rattle.rinqebo_report.specs.declared.report.TestId.{TestId}
 use Rattle.rinqebo_report.specs.declared.report.TestRows.{TestRows}

@@ -1,6 +1,6 @@
 -- A side that is loaded.
 use Rattle.nextest_tables.specs.FileTexts.{names_in, IsIn}
-use Rattle.rinqebo_files.specs.declared.files.Gathered.{Gathered}
+use Rattle.rinqebo_request.specs.declared.files.gathering.Gathered.{Gathered}
 use Rattle.rinqebo_findings.specs.Reports.{IsReportOf}
 use Rattle.rinqebo_load.specs.Accepted.{AreAccepted}
 use Rattle.rinqebo_load.specs.SessionOf.{IsSessionOf}

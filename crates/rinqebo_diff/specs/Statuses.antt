@@ -1,6 +1,6 @@
 -- The exit statuses of a diff that has no result, and what is written of it.
 use Rattle.std.specs.Prelude.{◌≡◌, ◌⊎◌, ℕ, List, Option}
-use Rattle.rinqebo_files.specs.declared.files.Gathered.{Gathered}
+use Rattle.rinqebo_request.specs.declared.files.gathering.Gathered.{Gathered}
 use Rattle.rinqebo_report.specs.declared.format.Format.TheVariants as formats
 use Rattle.rinqebo_run.specs.Refused.{ReportsFailure}
 use Rattle.rinqebo_run.specs.Statuses.{failure_status}

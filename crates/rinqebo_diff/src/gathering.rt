@@ -2,8 +2,7 @@
 use crate::request::DiffRequest;
 use nextest_config::ReadOutcome;
 use nextest_sources::FileReader;
-use rinqebo_files::{GatherFault, Gathered, gather};
-use rinqebo_request::Environment;
+use rinqebo_request::{Environment, GatherFault, Gathered, gather};
 use std::alloc::{AllocError, Global};
 
 /// The files of the two sides, as they were read.

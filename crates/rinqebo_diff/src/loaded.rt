@@ -6,10 +6,10 @@ ghost use Rattle.rinqebo_diff.specs.declared.loaded.DiffFailure.TheVariants.{Mem
 
 use crate::request::DiffSide;
 use nextest_config::DefaultConfigWarnings;
-use rinqebo_files::Gathered;
 use rinqebo_findings::{report_of, warning_findings};
 use rinqebo_load::{Config, Failure, Session};
 use rinqebo_report::{Content, Report};
+use rinqebo_request::Gathered;
 use rinqebo_run::config_looked_up;
 use std::alloc::{AllocError, Global};
 

@@ -21,9 +21,9 @@ use filter_inputs::{ListedBinary, ListedTest};
 use rinqebo_changes::{
     BinaryTests, Comparison, Diff, RowChange, Side, TestChanges, TwoSources, keyed_changes,
 };
-use rinqebo_files::sources_of;
 use rinqebo_load::chain_of_profile;
 use rinqebo_report::{SettingRow, TestId};
+use rinqebo_request::sources_of;
 use rinqebo_rules::{Origins, Progress, reported_platform};
 use rinqebo_run::{Profile, entries_in, profile_on, requested_of, scripts_of_list};
 use rinqebo_sides::{Matched, Pair, match_tests, run_rows};

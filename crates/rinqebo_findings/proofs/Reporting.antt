@@ -8,7 +8,7 @@ use Rattle.nextest_tables.specs.Defaults.{defaults}
 use Rattle.nextest_tables.specs.Tables.{a_file}
 use Rattle.nextest_tree.specs.Node.{Node}
 use Rattle.nextest_tree.specs.Schema as schema
-use Rattle.rinqebo_files.specs.declared.layers.Layer.{Layer}
+use Rattle.rinqebo_request.specs.declared.files.layers.Layer.{Layer}
 use Rattle.rinqebo_report.specs.declared.finding.Finding.{Finding}
 use Rattle.rinqebo_findings.specs.declared.value_faults.ValueFault.{ValueFault}
 use Rattle.rinqebo_findings.specs.Faults.{IsFindingOf, IsInPlace, IsJoined, IsKeyFinding, ReportAll, ReportDocument, ReportFiles, ReportValues, ReportFaults, document_in}

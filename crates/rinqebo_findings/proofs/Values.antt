@@ -7,10 +7,10 @@ use Rattle.nextest_places.specs.declared.step.Step.{Step}
 use Rattle.nextest_tree.specs.declared.fault.ElementCause.{ElementCause}
 use Rattle.nextest_tree.specs.declared.fault.ElementCause.TheVariants as causes
 use Rattle.rinqebo_codes.specs.declared.code.Code.TheVariants.{MaxDelayBelowDelay}
-use Rattle.rinqebo_files.specs.Origins.{IsPartPlace}
-use Rattle.rinqebo_files.specs.declared.layers.Layer.{Layer}
-use Rattle.rinqebo_files.specs.declared.places.SpanPart.{SpanPart}
-use Rattle.rinqebo_files.specs.declared.places.SpanPart.TheVariants as parts
+use Rattle.rinqebo_request.specs.Files.Origins.{IsPartPlace}
+use Rattle.rinqebo_request.specs.declared.files.layers.Layer.{Layer}
+use Rattle.rinqebo_request.specs.declared.files.places.SpanPart.{SpanPart}
+use Rattle.rinqebo_request.specs.declared.files.places.SpanPart.TheVariants as parts
 use Rattle.rinqebo_report.specs.declared.finding.Finding.{Finding}
 use Rattle.rinqebo_report.specs.declared.origin.FilePlace.{FilePlace}
 use Rattle.rinqebo_findings.specs.Placed.{IsOnLines, IsPlaceIn, IsPlacedAt, file_and_lines}

@@ -17,8 +17,8 @@ use Rattle.nextest_tree.specs.Schema as schema
 use Rattle.nextest_tree.specs.declared.fault.ElementCause.TheVariants as causes
 use Rattle.rinqebo_codes.specs.Codes.{code_word}
 use Rattle.rinqebo_codes.specs.declared.code.Code.TheVariants.{UnknownKey}
-use Rattle.rinqebo_files.specs.declared.layers.Layer.{Layer}
-use Rattle.rinqebo_files.specs.declared.places.SpanPart.TheVariants as parts
+use Rattle.rinqebo_request.specs.declared.files.layers.Layer.{Layer}
+use Rattle.rinqebo_request.specs.declared.files.places.SpanPart.TheVariants as parts
 use Rattle.rinqebo_report.specs.declared.finding.Finding.{Finding}
 use Rattle.rinqebo_report.specs.declared.finding.Level.TheVariants as levels
 use Rattle.rinqebo_findings.specs.declared.value_faults.ValueFault.{ValueFault}

@@ -1,10 +1,10 @@
 -- Where findings are.
 use Rattle.std.specs.Prelude.{◌≡◌, ◌⊎◌, ℕ, List, Option, None, Some, option_map}
 use Rattle.nextest_places.specs.declared.step.Step.{Step}
-use Rattle.rinqebo_files.specs.Origins.{IsPartPlace}
-use Rattle.rinqebo_files.specs.declared.layers.Layer.{Layer}
-use Rattle.rinqebo_files.specs.declared.places.SpanPart.{SpanPart}
-use Rattle.rinqebo_files.specs.declared.places.SpanPart.TheVariants as parts
+use Rattle.rinqebo_request.specs.Files.Origins.{IsPartPlace}
+use Rattle.rinqebo_request.specs.declared.files.layers.Layer.{Layer}
+use Rattle.rinqebo_request.specs.declared.files.places.SpanPart.{SpanPart}
+use Rattle.rinqebo_request.specs.declared.files.places.SpanPart.TheVariants as parts
 use Rattle.rinqebo_report.specs.declared.origin.FileLines.{FileLines}
 use Rattle.rinqebo_report.specs.declared.origin.FilePlace.{FilePlace}
 

@@ -1,6 +1,6 @@
 -- That a report is one of a session.
 use Rattle.std.specs.Prelude.{◌≡◌, map, string_bytes}
-use Rattle.rinqebo_files.specs.Origins.{reported_file}
+use Rattle.rinqebo_request.specs.Files.Origins.{reported_file}
 use Rattle.rinqebo_load.specs.declared.session.Session.{Session}
 use Rattle.rinqebo_report.specs.declared.report.Report.{Report}
 

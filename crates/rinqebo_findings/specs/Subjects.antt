@@ -9,9 +9,9 @@ use Rattle.nextest_tree.specs.declared.fault.ElementCause.TheVariants as causes
 use Rattle.rinqebo_codes.specs.Codes.{code_word}
 use Rattle.rinqebo_codes.specs.declared.code.Code.{Code}
 use Rattle.rinqebo_codes.specs.declared.code.Code.TheVariants.{WrongKind, MissingKey, InvalidValue, OutOfRange, MaxDelayBelowDelay, RefusedKey}
-use Rattle.rinqebo_files.specs.declared.layers.Layer.{Layer}
-use Rattle.rinqebo_files.specs.declared.places.SpanPart.{SpanPart}
-use Rattle.rinqebo_files.specs.declared.places.SpanPart.TheVariants as parts
+use Rattle.rinqebo_request.specs.declared.files.layers.Layer.{Layer}
+use Rattle.rinqebo_request.specs.declared.files.places.SpanPart.{SpanPart}
+use Rattle.rinqebo_request.specs.declared.files.places.SpanPart.TheVariants as parts
 use Rattle.rinqebo_report.specs.declared.finding.Finding.{Finding}
 use Rattle.rinqebo_report.specs.declared.finding.Level.{Level}
 use Rattle.rinqebo_report.specs.declared.finding.Level.TheVariants as levels

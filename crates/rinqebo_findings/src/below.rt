@@ -4,7 +4,7 @@ use crate::given::{kind_words, tree_at};
 use crate::tables::called;
 use nextest_config::Tree;
 use nextest_places::Step;
-use rinqebo_files::{Layer, SpanPart, part_place};
+use rinqebo_request::{Layer, SpanPart, part_place};
 use std::alloc::{AllocError, Global};
 
 /// The highest layer below a place that writes a path, with what it writes there.

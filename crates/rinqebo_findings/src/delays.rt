@@ -10,8 +10,8 @@ use crate::paths::path_with;
 use crate::refused::Refused;
 use nextest_places::Step;
 use rinqebo_codes::Code;
-use rinqebo_files::{SpanPart, part_place};
 use rinqebo_report::{FileLines, FilePlace, Finding, Range, Sign, SourceLine};
+use rinqebo_request::{SpanPart, part_place};
 use std::alloc::{AllocError, Global};
 
 /// The range of a key and its value, in the source at a position.

@@ -6,8 +6,8 @@ use nextest_config::{
     FileInput, LoadedConfig, ReadOutcome, ToolConfigFile,
 };
 use nextest_sources::ConfigInputs;
-use rinqebo_files::{Gathered, Layer};
 use rinqebo_load::Session;
+use rinqebo_request::{Gathered, Layer};
 use std::alloc::{AllocError, Global};
 use std::collections::BTreeSet;
 

@@ -21,8 +21,8 @@ use nextest_config::{ElementCause, ElementFault, Tree};
 use nextest_places::Step;
 use nextest_shape::file_shape;
 use rinqebo_codes::Code;
-use rinqebo_files::SpanPart;
 use rinqebo_report::{Finding, HelpPlace};
+use rinqebo_request::SpanPart;
 use std::alloc::{AllocError, Global};
 
 /// What is wrong with a value of a wrong kind: the kind that it has.

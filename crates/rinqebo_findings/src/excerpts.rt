@@ -3,8 +3,8 @@ ghost use Rattle.std.specs.Prelude.{◌≡◌, IfOk, map};
 ghost use Rattle.rinqebo_findings.specs.Shown.{facts};
 
 use nextest_config::{FileInput, ReadOutcome};
-use rinqebo_files::Gathered;
 use rinqebo_report::{CharSpan, FilePlace, Finding, LinePart, Range, Sign, SourceLine};
+use rinqebo_request::Gathered;
 use std::alloc::{AllocError, Global};
 
 /// How many findings have lines: a page shows no more.

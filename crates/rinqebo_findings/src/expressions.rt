@@ -10,10 +10,10 @@ use nextest_config::{
 };
 use nextest_places::{Step, offsets_of};
 use rinqebo_codes::Code;
-use rinqebo_files::{host_text, profile_table, rule_table, target_text, text_at};
 use rinqebo_report::{
     CharSpan, FilePlace, Finding, Position, Range as ReportRange, RefusedExpression,
 };
+use rinqebo_request::{host_text, profile_table, rule_table, target_text, text_at};
 use std::alloc::{AllocError, Global};
 use std::ops::Range;
 

@@ -8,10 +8,9 @@ use crate::report::{report_of, report_of_refusal};
 use nextest_config::{ConfigParseError, DefaultConfigWarnings, ProfileNotFound};
 use nextest_places::Step;
 use rinqebo_codes::Code;
-use rinqebo_files::SpanPart;
 use rinqebo_load::{Failure, FoundTest, Missing, Session, TestFault};
 use rinqebo_report::{Content, Finding, Level, Report};
-use rinqebo_request::{RequestedTest, text_hint};
+use rinqebo_request::{RequestedTest, SpanPart, text_hint};
 use std::alloc::{AllocError, Global};
 
 /// Why a run returns nothing whose load refuses.

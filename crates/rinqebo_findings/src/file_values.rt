@@ -12,9 +12,9 @@ use nextest_config::Tree;
 use nextest_documents::lay_over;
 use nextest_shape::{file_faults, unknown_keys};
 use nextest_tables::default_tree;
-use rinqebo_files::Layer;
 use rinqebo_load::Session;
 use rinqebo_report::Finding;
+use rinqebo_request::Layer;
 use std::alloc::{AllocError, Global};
 
 /// Leaves out the values of a source that are refused, and the keys that are in place of missing

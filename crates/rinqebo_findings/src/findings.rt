@@ -12,8 +12,8 @@ use crate::tables::{keys_note, unknown_key_help, unknown_key_text};
 use nextest_config::{ConfigSource, ConfigWarning, DefaultConfigWarnings, Tree};
 use nextest_places::{PathSpans, Step};
 use rinqebo_codes::Code;
-use rinqebo_files::{Layer, NoDocument, SpanPart, part_place, place_of};
 use rinqebo_report::{FilePlace, Finding, Level};
+use rinqebo_request::{Layer, NoDocument, SpanPart, part_place, place_of};
 use std::alloc::{AllocError, Global};
 
 /// A source of a run, by its position among the layers, if it is known.

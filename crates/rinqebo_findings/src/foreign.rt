@@ -3,8 +3,8 @@ use crate::refused::Refused;
 use nextest_config::{CustomTestGroup, ScriptId, Tree};
 use nextest_places::Step;
 use rinqebo_codes::Code;
-use rinqebo_files::SpanPart;
 use rinqebo_report::SourceKind;
+use rinqebo_request::SpanPart;
 use std::alloc::{AllocError, Global};
 use std::collections::BTreeSet;
 

@@ -11,8 +11,8 @@ use crate::words::quoted;
 use nextest_config::Tree;
 use nextest_places::Step;
 use rinqebo_codes::Code;
-use rinqebo_files::{Layer, SpanPart};
 use rinqebo_report::{Finding, HelpPlace};
+use rinqebo_request::{Layer, SpanPart};
 use std::alloc::{AllocError, Global};
 use std::collections::BTreeMap;
 

@@ -6,7 +6,7 @@ use crate::refused::Refused;
 use crate::words::quoted;
 use nextest_config::InheritsError;
 use rinqebo_codes::Code;
-use rinqebo_files::Layer;
+use rinqebo_request::Layer;
 use std::alloc::{AllocError, Global};
 use std::collections::BTreeSet;
 

@@ -16,9 +16,9 @@ use nextest_config::{
 };
 use nextest_places::Step;
 use rinqebo_codes::Code;
-use rinqebo_files::{Layer, place_at};
 use rinqebo_load::Session;
 use rinqebo_report::Finding;
+use rinqebo_request::{Layer, place_at};
 use std::alloc::{AllocError, Global};
 
 /// The result of reading a file.

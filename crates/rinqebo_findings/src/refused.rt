@@ -1,6 +1,6 @@
 //! The findings of a refused source.
 ghost use Rattle.std.specs.Prelude.{◌≡◌, ℕ, IfOk, IfSome, Option};
-ghost use Rattle.rinqebo_files.specs.Origins.{IsPartPlace};
+ghost use Rattle.rinqebo_request.specs.Files.Origins.{IsPartPlace};
 ghost use Rattle.rinqebo_findings.specs.Placed.{IsPlaceIn, IsPlacedAt};
 ghost use Rattle.rinqebo_findings.specs.Subjects.{error_at, subject};
 
@@ -8,8 +8,8 @@ use crate::findings::{Label, SourceAt, finding, finding_at};
 use crate::left_out::LeftOut;
 use nextest_places::Step;
 use rinqebo_codes::Code;
-use rinqebo_files::{Layer, SpanPart, part_place};
 use rinqebo_report::{FilePlace, Finding, Level};
+use rinqebo_request::{Layer, SpanPart, part_place};
 use std::alloc::{AllocError, Global};
 
 /// What is refused: the source, and the name of the refusal. Findings go behind the others.

@@ -9,9 +9,9 @@ use crate::nextest_forms::nextest_findings;
 use crate::order::in_order;
 use crate::search::{Found, all_findings};
 use nextest_config::{ConfigParseError, DefaultConfigWarnings};
-use rinqebo_files::sources_of;
 use rinqebo_load::Session;
 use rinqebo_report::{Content, Finding, Report, Unreached};
+use rinqebo_request::sources_of;
 use std::alloc::{AllocError, Global};
 
 /// A report of a session. Findings are in the order of their files, lines and columns, and the

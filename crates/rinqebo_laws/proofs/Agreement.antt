@@ -8,7 +8,7 @@ use Rattle.filter_inputs.specs.Lists.Lists.{list_tests}
 use Rattle.nextest_tables.specs.Written.{Name}
 use Rattle.platform_language.specs.Expressions.{Spec}
 use Rattle.platform_language.specs.declared.platforms.Platform.{Platform}
-use Rattle.rinqebo_files.specs.declared.files.Gathered.{Gathered}
+use Rattle.rinqebo_request.specs.declared.files.gathering.Gathered.{Gathered}
 use Rattle.rinqebo_laws.proofs.Files.{one_layer}
 use Rattle.rinqebo_laws.proofs.Listed.{from_kept}
 use Rattle.rinqebo_laws.proofs.Profiles.{BothReport, both_report, reports_agree, reports_same}

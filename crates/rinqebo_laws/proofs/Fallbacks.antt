@@ -6,7 +6,7 @@ use Rattle.nextest_settings.specs.Settings.{setting_name}
 use Rattle.nextest_settings.specs.declared.setting.Setting.{Setting}
 use Rattle.nextest_settings.specs.declared.setting.Setting.TheVariants as at
 use Rattle.nextest_tables.specs.Written.{Name}
-use Rattle.rinqebo_files.specs.declared.layers.Layer.{Layer}
+use Rattle.rinqebo_request.specs.declared.files.layers.Layer.{Layer}
 use Rattle.rinqebo_laws.proofs.Origins.{profile_shown}
 use Rattle.rinqebo_laws.proofs.Texts.{same_alone}
 use Rattle.rinqebo_laws.specs.Reasons.{HasOriginsOf, origins_of}

@@ -8,10 +8,10 @@ use Rattle.nextest_sources.specs.Sources.{Source, SourceKind, ToolFile, explicit
 use Rattle.nextest_sources.specs.declared.sources.FileInput.{FileInput}
 use Rattle.nextest_sources.specs.declared.sources.ToolConfigFile.{ToolConfigFile}
 use Rattle.nextest_elements.specs.IdentifierText.{tool_name_text}
-use Rattle.rinqebo_files.specs.Layers.{LayerRead, file_layer, layer_view, layers_read, organisation_layers, repository_layer, tool_layer}
-use Rattle.rinqebo_files.specs.Origins.{IsFileAt}
-use Rattle.rinqebo_files.specs.declared.files.Gathered.{Gathered}
-use Rattle.rinqebo_files.specs.declared.layers.Layer.{Layer}
+use Rattle.rinqebo_request.specs.Files.Layers.{LayerRead, file_layer, layer_view, layers_read, organisation_layers, repository_layer, tool_layer}
+use Rattle.rinqebo_request.specs.Files.Origins.{IsFileAt}
+use Rattle.rinqebo_request.specs.declared.files.gathering.Gathered.{Gathered}
+use Rattle.rinqebo_request.specs.declared.files.layers.Layer.{Layer}
 use Rattle.rinqebo_load.specs.Accepted.{AreAccepted}
 use Rattle.rinqebo_load.specs.SessionOf.{IsSessionOf}
 use Rattle.rinqebo_load.specs.Sessions.{files_view}

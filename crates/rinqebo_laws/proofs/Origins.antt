@@ -9,8 +9,8 @@ use Rattle.nextest_settings.specs.Queries.{Origin as Decider, unwritten, by_prof
 use Rattle.nextest_sources.specs.Sources.{Source}
 use Rattle.nextest_tables.specs.Written.{Name}
 use Rattle.nextest_tree.specs.Node.{Node}
-use Rattle.rinqebo_files.specs.Origins.{HasNoFile, IsFileAt}
-use Rattle.rinqebo_files.specs.declared.layers.Layer.{Layer}
+use Rattle.rinqebo_request.specs.Files.Origins.{HasNoFile, IsFileAt}
+use Rattle.rinqebo_request.specs.declared.files.layers.Layer.{Layer}
 use Rattle.rinqebo_laws.proofs.Lists.{all_contains, among, one_first, same_descending, seen_alike}
 use Rattle.rinqebo_laws.proofs.Places.{one_lines}
 use Rattle.rinqebo_laws.specs.Shown.{origin_shown, part_of, under_profile}

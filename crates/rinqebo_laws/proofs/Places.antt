@@ -10,7 +10,7 @@ use Rattle.nextest_places.specs.declared.place.Lines.{Lines}
 use Rattle.nextest_places.specs.declared.step.Step.{Step}
 use Rattle.nextest_places.specs.declared.step.Step.TheVariants.{Key, Position}
 use Rattle.nextest_tree.specs.Node.{Node, as_array, member_of}
-use Rattle.rinqebo_files.specs.Origins.{AreLinesAt}
+use Rattle.rinqebo_request.specs.Files.Origins.{AreLinesAt}
 use Rattle.rinqebo_laws.proofs.Lists.{one_greatest, one_least}
 use Rattle.rinqebo_report.specs.declared.origin.FileLines.{FileLines}
 use Rattle.rinqebo_rules.specs.Origins.{step_view}

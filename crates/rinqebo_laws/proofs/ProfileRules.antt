@@ -11,8 +11,8 @@ use Rattle.nextest_settings.specs.Queries.{fallback_origin, query_in, setting_or
 use Rattle.nextest_settings.specs.declared.setting.Setting.{Setting}
 use Rattle.nextest_sources.specs.Sources.{Source}
 use Rattle.nextest_tables.specs.Written.{Name}
-use Rattle.rinqebo_files.specs.Origins.{IsFileAt}
-use Rattle.rinqebo_files.specs.declared.layers.Layer.{Layer}
+use Rattle.rinqebo_request.specs.Files.Origins.{IsFileAt}
+use Rattle.rinqebo_request.specs.declared.files.layers.Layer.{Layer}
 use Rattle.rinqebo_laws.proofs.Keys.{one_key}
 use Rattle.rinqebo_laws.proofs.Listed.{listed_if_passes, passes_if_listed, some_or_none}
 use Rattle.rinqebo_laws.proofs.Lists.{place_of}

@@ -13,8 +13,8 @@ use Rattle.nextest_settings.specs.Profile.{Configured, EarlyModel, EvaluatableMo
 use Rattle.nextest_settings.specs.Queries.{query_in, setting_origin, setting_value}
 use Rattle.nextest_sources.specs.Sources.{Source}
 use Rattle.nextest_tables.specs.Written.{Name}
-use Rattle.rinqebo_files.specs.Origins.{IsFileAt}
-use Rattle.rinqebo_files.specs.declared.layers.Layer.{Layer}
+use Rattle.rinqebo_request.specs.Files.Origins.{IsFileAt}
+use Rattle.rinqebo_request.specs.declared.files.layers.Layer.{Layer}
 use Rattle.rinqebo_laws.proofs.Lists.{right_of}
 use Rattle.rinqebo_laws.proofs.Rows.{all_say_same, keyed_say_same, runs_say_same}
 use Rattle.rinqebo_laws.specs.Rows.{AgreeOnTest, AreOneTest, SaySameOfTest}

@@ -8,8 +8,8 @@ use Rattle.nextest_settings.specs.Settings.{ValueOf}
 use Rattle.nextest_settings.specs.declared.setting.Setting.{Setting}
 use Rattle.nextest_sources.specs.Sources.{Source}
 use Rattle.nextest_tables.specs.Written.{Name}
-use Rattle.rinqebo_files.specs.Origins.{IsFileAt}
-use Rattle.rinqebo_files.specs.declared.layers.Layer.{Layer}
+use Rattle.rinqebo_request.specs.Files.Origins.{IsFileAt}
+use Rattle.rinqebo_request.specs.declared.files.layers.Layer.{Layer}
 use Rattle.rinqebo_laws.proofs.Keys.{one_key}
 use Rattle.rinqebo_laws.proofs.Lists.{beside_same, left_of, place_of}
 use Rattle.rinqebo_laws.proofs.Origins.{decided_shown, placed_shown}

@@ -8,8 +8,8 @@ use Rattle.nextest_settings.specs.Chains.{first_of}
 use Rattle.nextest_settings.specs.Platforms.{platforms_hold, rule_on}
 use Rattle.nextest_sources.specs.Sources.{Source}
 use Rattle.nextest_tables.specs.Written.{Name}
-use Rattle.rinqebo_files.specs.Origins.{IsFileAt}
-use Rattle.rinqebo_files.specs.declared.layers.Layer.{Layer}
+use Rattle.rinqebo_request.specs.Files.Origins.{IsFileAt}
+use Rattle.rinqebo_request.specs.declared.files.layers.Layer.{Layer}
 use Rattle.rinqebo_laws.proofs.Lists.{left_of, pair_at}
 use Rattle.rinqebo_laws.proofs.Origins.{profile_shown, rule_part}
 use Rattle.rinqebo_laws.proofs.Why.{alone, before_or_last, decides_told, not_fallback}

@@ -12,8 +12,8 @@ use Rattle.nextest_settings.specs.Settings.{fallback_of}
 use Rattle.nextest_settings.specs.declared.setting.Setting.{Setting}
 use Rattle.nextest_sources.specs.Sources.{Source}
 use Rattle.nextest_tables.specs.Written.{Name, WrittenFields}
-use Rattle.rinqebo_files.specs.Origins.{IsFileAt}
-use Rattle.rinqebo_files.specs.declared.layers.Layer.{Layer}
+use Rattle.rinqebo_request.specs.Files.Origins.{IsFileAt}
+use Rattle.rinqebo_request.specs.declared.files.layers.Layer.{Layer}
 use Rattle.rinqebo_laws.proofs.Deciding.{about, any_wrapping, given, has_fallback, has_rule, mapped_back, not_ruled, one_decides, rule_with, some_mapped, source, wrapping}
 use Rattle.rinqebo_laws.proofs.Fallbacks.{fallback_agrees, fallback_node}
 use Rattle.rinqebo_laws.proofs.Lists.{all_contains, contains_at, left_of, pair_at, pair_from, right_of}

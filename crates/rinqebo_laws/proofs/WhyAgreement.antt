@@ -7,7 +7,7 @@ use Rattle.nextest_settings.specs.Profile.{profile_of, profile_on}
 use Rattle.nextest_settings.specs.Queries.{query_in}
 use Rattle.nextest_settings.specs.declared.setting.Setting.{Setting}
 use Rattle.nextest_tables.specs.Written.{Name}
-use Rattle.rinqebo_files.specs.declared.files.Gathered.{Gathered}
+use Rattle.rinqebo_request.specs.declared.files.gathering.Gathered.{Gathered}
 use Rattle.rinqebo_laws.proofs.Files.{one_layer}
 use Rattle.rinqebo_laws.specs.Reasons.{AgreesWithRules, HaveKeyIfDecided, HaveOneResult}
 use Rattle.rinqebo_laws.specs.Rows.{AreOneTest}

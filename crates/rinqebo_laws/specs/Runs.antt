@@ -4,7 +4,7 @@ use Rattle.nextest_inheritance.specs.Parents.{parents_in}
 use Rattle.nextest_load.specs.Config.{config_parents}
 use Rattle.nextest_settings.specs.Profiles.Profiles.{IsChainAndDefault}
 use Rattle.nextest_tables.specs.Written.{Name}
-use Rattle.rinqebo_files.specs.declared.layers.Layer.{Layer}
+use Rattle.rinqebo_request.specs.declared.files.layers.Layer.{Layer}
 use Rattle.rinqebo_laws.specs.Reasons.{IsWithin, NoneDecides, origins_of}
 use Rattle.rinqebo_laws.specs.Shown.{origin_shown}
 use Rattle.rinqebo_load.specs.Meant.{config_meant}

@@ -4,7 +4,7 @@ ghost use Rattle.filter_inputs.specs.Lists.ListView.{list_view};
 ghost use Rattle.filter_inputs.specs.Lists.Lists.{list_tests};
 ghost use Rattle.nextest_settings.specs.declared.setting.Setting.{Setting};
 ghost use Rattle.nextest_tables.specs.Written.{Name};
-ghost use Rattle.rinqebo_files.specs.declared.files.Gathered.{Gathered};
+ghost use Rattle.rinqebo_request.specs.declared.files.gathering.Gathered.{Gathered};
 ghost use Rattle.rinqebo_laws.specs.Reasons.{AgreesWithRules, HaveKeyIfDecided, HaveOneResult};
 ghost use Rattle.rinqebo_laws.specs.Runs.{AgreesWithFilters};
 ghost use Rattle.rinqebo_laws.specs.Rows.{AgreeOnTest, AreOneTest, ListsTest, SaySameOfTest};

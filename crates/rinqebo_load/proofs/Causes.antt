@@ -11,7 +11,7 @@ use Rattle.filter_inputs.specs.Lists.Faults.{fault_view}
 use Rattle.filter_inputs.specs.Lists.Reading.{IsFaultIn}
 use Rattle.filter_inputs.specs.declared.lists.fault.ListFault.{ListFault}
 use Rattle.filter_inputs.specs.declared.lists.fault.ListFault.TheVariants as lists
-use Rattle.rinqebo_files.specs.declared.files.Gathered.{Gathered}
+use Rattle.rinqebo_request.specs.declared.files.gathering.Gathered.{Gathered}
 use Rattle.platform_language.specs.declared.platforms.fault.PlatformFault.{PlatformFault}
 use Rattle.platform_language.specs.declared.platforms.fault.PlatformFault.TheVariants as platforms
 use Rattle.rinqebo_forms.specs.Machines.{AreOpenFiltersFor}

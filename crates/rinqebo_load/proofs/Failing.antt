@@ -1,5 +1,5 @@
 -- Why a request has no session.
-use Rattle.rinqebo_files.specs.declared.files.Gathered.{Gathered}
+use Rattle.rinqebo_request.specs.declared.files.gathering.Gathered.{Gathered}
 use Rattle.rinqebo_request.specs.declared.request.Request.{Request}
 use Rattle.rinqebo_load.specs.Beginning.{IsBeginningFailure, IsUnusable, failure_of}
 use Rattle.rinqebo_load.specs.InputFaults.{IsInputFault, OrMemory}

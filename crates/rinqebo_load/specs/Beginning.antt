@@ -1,5 +1,5 @@
 -- Why a request has no session, which all commands begin with.
-use Rattle.rinqebo_files.specs.declared.files.Gathered.{Gathered}
+use Rattle.rinqebo_request.specs.declared.files.gathering.Gathered.{Gathered}
 use Rattle.rinqebo_request.specs.declared.request.Request.{Request}
 use Rattle.rinqebo_load.specs.InputFaults.{IsInputFault}
 use Rattle.rinqebo_load.specs.declared.failure.Failure.{Failure}

@@ -7,7 +7,7 @@ use Rattle.filter_inputs.specs.Packages.Graph.{Graph}
 use Rattle.filter_inputs.specs.Packages.Metadata.{graph_of_text}
 use Rattle.platform_language.specs.declared.platforms.Platform.{Platform}
 use Rattle.platform_language.specs.declared.platforms.fault.PlatformFault.TheVariants as platforms
-use Rattle.rinqebo_files.specs.declared.files.Gathered.{Gathered}
+use Rattle.rinqebo_request.specs.declared.files.gathering.Gathered.{Gathered}
 use Rattle.rinqebo_request.specs.declared.named.FileOption.{FileOption}
 use Rattle.rinqebo_request.specs.declared.named.FileOption.TheVariants as options
 use Rattle.rinqebo_request.specs.declared.named.NamedFile.{NamedFile}

@@ -3,7 +3,7 @@ use Rattle.std.specs.Prelude.{ℕ, List, Option, String, option_map, string_byte
 use Rattle.std.specs.declared.alloc.Global.{Global}
 use Rattle.nextest_engines.specs.declared.queries.BuildPlatforms.{BuildPlatforms}
 use Rattle.platform_language.specs.declared.platforms.Platform.{Platform}
-use Rattle.rinqebo_files.specs.declared.files.Gathered.{Gathered}
+use Rattle.rinqebo_request.specs.declared.files.gathering.Gathered.{Gathered}
 use Rattle.rinqebo_request.specs.declared.request.EngineOptions.{EngineOptions}
 use Rattle.rinqebo_forms.specs.Machines.{ArePlatformsFor as AreOfMachines}
 use Rattle.rinqebo_forms.specs.Requests.{MachineText}

@@ -1,8 +1,8 @@
 -- That a session is that of a request.
 use Rattle.std.specs.Prelude.{◌≡◌, map, option_map, string_bytes}
-use Rattle.rinqebo_files.specs.Features.{AreFeaturesOf}
-use Rattle.rinqebo_files.specs.Layers.{layer_view, layers_read}
-use Rattle.rinqebo_files.specs.declared.files.Gathered.{Gathered}
+use Rattle.rinqebo_request.specs.Files.Features.{AreFeaturesOf}
+use Rattle.rinqebo_request.specs.Files.Layers.{layer_view, layers_read}
+use Rattle.rinqebo_request.specs.declared.files.gathering.Gathered.{Gathered}
 use Rattle.rinqebo_request.specs.declared.request.Request.{Request}
 use Rattle.rinqebo_forms.specs.Machines.{AreOpenFiltersFor}
 use Rattle.filter_inputs.specs.Lists.ListView.{list_view}

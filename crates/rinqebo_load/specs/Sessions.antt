@@ -24,7 +24,7 @@ use Rattle.platform_language.specs.Values.{spec_value}
 use Rattle.platform_language.specs.declared.expression.TargetSpec.{TargetSpec}
 use Rattle.platform_language.specs.Platforms.Platforms.{platform_view}
 use Rattle.platform_language.specs.declared.platforms.Platform.{Platform}
-use Rattle.rinqebo_files.specs.declared.files.Gathered.{Gathered}
+use Rattle.rinqebo_request.specs.declared.files.gathering.Gathered.{Gathered}
 
 -- the files of a load, as they were read
 abbrev pub files_view : Gathered → LoadInputs

@@ -12,9 +12,8 @@ use crate::triples::Triples;
 use filter_engine::NextestFilters;
 use nextest_config::BuildPlatforms;
 use platform_language::Platform;
-use rinqebo_files::Gathered;
 use rinqebo_forms::{open_filters_of, platform_of};
-use rinqebo_request::{FileOption, NamedFile, Question, Request};
+use rinqebo_request::{FileOption, Gathered, NamedFile, Question, Request};
 use std::alloc::{AllocError, Global};
 
 /// The language of filters, and the platforms of a build.

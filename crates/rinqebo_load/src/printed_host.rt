@@ -6,8 +6,7 @@ ghost use Rattle.rinqebo_load.specs.InputFaults.{LacksHost, OrMemory};
 ghost use Rattle.rinqebo_load.specs.ListPath.{path_of};
 
 use crate::fault::InputFault;
-use rinqebo_files::Gathered;
-use rinqebo_request::{FileOption, NamedFile};
+use rinqebo_request::{FileOption, Gathered, NamedFile};
 use std::alloc::{AllocError, Global};
 
 /// The lines of a text.

@@ -23,9 +23,8 @@ use nextest_config::{
 };
 use nextest_sources::ConfigInputs;
 use platform_language::TargetSpecs;
-use rinqebo_files::{Gathered, Layer, features_of, layers_of};
 use rinqebo_report::SourceKind;
-use rinqebo_request::{ProfileSource, Request};
+use rinqebo_request::{Gathered, Layer, ProfileSource, Request, features_of, layers_of};
 use std::alloc::{AllocError, Global};
 use std::collections::BTreeSet;
 

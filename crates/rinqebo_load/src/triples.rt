@@ -10,8 +10,7 @@ ghost use Rattle.rinqebo_load.specs.Triples.{host_for, host_source, target_for, 
 
 use crate::fault::{InputFault, TripleSource};
 use filter_inputs::{ListFault, ListedTests, tests_of};
-use rinqebo_files::Gathered;
-use rinqebo_request::{EngineOptions, FileOption, HOST, NamedFile};
+use rinqebo_request::{EngineOptions, FileOption, Gathered, HOST, NamedFile};
 use std::alloc::{AllocError, Global};
 
 /// The triples of a build.

@@ -1,9 +1,12 @@
 //! The requests of the program `rinqebo`: its commands and options, and the request of a command
-//! line.
+//! line. In `files` are the files that a request names: which are read, the sources that they are,
+//! with their trees, the lines that bring what is there, and the experimental features that they
+//! switch on.
 #![tactic(auto)]
 
 mod environment;
 mod features;
+mod files;
 mod hints;
 mod keys;
 mod named;
@@ -16,6 +19,11 @@ pub mod words;
 
 pub use environment::{Environment, RunVariables, set};
 pub use features::{FEATURES, feature_name, feature_of, law_all_features};
+pub use files::{
+    GatherFault, Gathered, Layer, NoDocument, SpanPart, features_of, gather, host_text, layers_of,
+    part_place, path_place, place_at, place_of, profile_table, rule_at, rule_table, sources_of,
+    target_text, text_at,
+};
 pub use hints::{name_hint, text_hint};
 pub use keys::{RUNS, SettingKey, all_keys, setting_of, settings_of};
 pub use named::{FileOption, NamedFile, ProfileSource};

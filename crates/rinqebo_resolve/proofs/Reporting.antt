@@ -2,7 +2,7 @@
 use Rattle.std.proofs.Common.{◌≡◌, ◌∙◌, ◌⊎◌, ◌<◌, ◌≤◌, inl, inr, ℕ, List, Result, Ok, Err, IfOk, IfErr, ap, arith, drop, length, refl, string_bytes, subst, sym, take}
 use Rattle.std.proofs.Math.Seq.{take-append_seam}
 use Rattle.std.proofs.lemmas.Bool.{cases_lt}
-use Rattle.rinqebo_files.specs.declared.files.Gathered.{Gathered}
+use Rattle.rinqebo_request.specs.declared.files.gathering.Gathered.{Gathered}
 use Rattle.rinqebo_report.specs.Rendered.{json_text}
 use Rattle.rinqebo_report.specs.declared.report.Report.{Report}
 use Rattle.rinqebo_request.specs.declared.request.Question.{Question}

@@ -1,7 +1,7 @@
 -- How a run ends, and what a caller receives of it.
 use Rattle.std.specs.Prelude.{◌≡◌, ◌⊎◌, ◌<◌, ◌≤◌, ◌++◌, ℕ, List, [], None, Some, Result, Ok, Err, drop, length, string_bytes}
 use Rattle.std.specs.Str.{IsUtf8}
-use Rattle.rinqebo_files.specs.declared.files.Gathered.{Gathered}
+use Rattle.rinqebo_request.specs.declared.files.gathering.Gathered.{Gathered}
 use Rattle.rinqebo_report.specs.Rendered.{json_text}
 use Rattle.rinqebo_report.specs.declared.report.Report.{Report}
 use Rattle.rinqebo_request.specs.declared.request.Request.{Request}

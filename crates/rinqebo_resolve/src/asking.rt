@@ -6,11 +6,10 @@ ghost use Rattle.rinqebo_forms.specs.Runs.{run_view};
 ghost use Rattle.rinqebo_resolve.specs.Asking.{AreEnginesFor, AreFilesOf, AsksForAll, IsRequestFor, requested_of, requested_view};
 
 use nextest_config::{NextestRunMode, Setting};
-use rinqebo_files::Gathered;
 use rinqebo_forms::{LoadRequest, Machine, RunRequest, Switches};
 use rinqebo_report::{Colour, Format, Paper};
 use rinqebo_request::{
-    ConfigFile, EngineOptions, FileOptions, ListFile, ProfileSource, Question, Request,
+    ConfigFile, EngineOptions, FileOptions, Gathered, ListFile, ProfileSource, Question, Request,
     RequestedSettings,
 };
 use rinqebo_session::features_of;

@@ -8,10 +8,10 @@ ghost use Rattle.rinqebo_resolve.specs.Endings.{IsAnswerTo, IsSilent, IsEndingFo
 
 use crate::asking::{LIST, RequestedRun, parted};
 use crate::ending::Ending;
-use rinqebo_files::Gathered;
 use rinqebo_forms::{RequestFault, RunRequest};
 use rinqebo_load::{Failure, InputFault, OpenFilter};
 use rinqebo_report::{Report, render_json};
+use rinqebo_request::Gathered;
 use rinqebo_rules::NoProgress;
 use rinqebo_run::{Answer, answer_of};
 use std::alloc::{AllocError, Global};

@@ -2,8 +2,8 @@
 use Rattle.std.proofs.Common.{◌≡◌, ◌≢◌, ◌∙◌, ℕ, zero, suc, List, [], ◌∷◌, None, Option, Some, Result, Ok, Err, IfOk, Vec, Global, ap, option_map, refl, subst, sym}
 use Rattle.std.specs.declared.alloc.AllocError.{AllocError}
 use Rattle.std.specs.List.{AllZip}
-use Rattle.rinqebo_files.specs.Origins.{IsPathPlace}
-use Rattle.rinqebo_files.specs.declared.layers.Layer.{Layer}
+use Rattle.rinqebo_request.specs.Files.Origins.{IsPathPlace}
+use Rattle.rinqebo_request.specs.declared.files.layers.Layer.{Layer}
 use Rattle.nextest_tables.specs.Written.{Name}
 use Rattle.rinqebo_rules.specs.KnownOrigins.{AreOriginsAt, IsCopyOf, IsKnown}
 use Rattle.rinqebo_rules.specs.TestOrigins.{Basis}

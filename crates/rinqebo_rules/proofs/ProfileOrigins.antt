@@ -6,7 +6,7 @@ use Rattle.std.specs.List.{AllZip}
 use Rattle.nextest_documents.specs.Grounds.{AreNearestGrounds}
 use Rattle.nextest_documents.specs.declared.grounds.Grounds.{Grounds}
 use Rattle.nextest_tables.specs.Written.{Name}
-use Rattle.rinqebo_files.specs.declared.layers.Layer.{Layer}
+use Rattle.rinqebo_request.specs.declared.files.layers.Layer.{Layer}
 use Rattle.rinqebo_report.specs.declared.origin.Origin.{Origin}
 use Rattle.rinqebo_rules.specs.ProfileOrigins.{AreWrittenOrigins, IsLayerOrigin, key_path}
 use Rattle.rinqebo_rules.specs.Trees.{trees_of}

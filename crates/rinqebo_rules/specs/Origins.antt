@@ -3,8 +3,8 @@ use Rattle.std.specs.Prelude.{◌≡◌, ℕ, List, [], ◌∷◌, ◌++◌, Opt
 use Rattle.nextest_places.specs.declared.step.Step.{Step}
 use Rattle.nextest_places.specs.declared.step.Step.TheVariants as steps
 use Rattle.nextest_tables.specs.Written.{Name}
-use Rattle.rinqebo_files.specs.Origins.{HasNoFile, IsFileAt, IsPathPlace}
-use Rattle.rinqebo_files.specs.declared.layers.Layer.{Layer}
+use Rattle.rinqebo_request.specs.Files.Origins.{HasNoFile, IsFileAt, IsPathPlace}
+use Rattle.rinqebo_request.specs.declared.files.layers.Layer.{Layer}
 use Rattle.rinqebo_report.specs.declared.origin.Origin.{Origin}
 use Rattle.rinqebo_report.specs.declared.origin.Origin.TheVariants as kinds
 use Rattle.rinqebo_report.specs.declared.origin.Part.{Part}

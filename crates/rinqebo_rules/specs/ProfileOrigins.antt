@@ -7,7 +7,7 @@ use Rattle.nextest_documents.specs.Grounds.{AreGrounds, Writes, profile_path}
 use Rattle.nextest_documents.specs.Shown.{Path}
 use Rattle.nextest_tables.specs.Written.{Name}
 use Rattle.nextest_tree.specs.Node.{Node}
-use Rattle.rinqebo_files.specs.declared.layers.Layer.{Layer}
+use Rattle.rinqebo_request.specs.declared.files.layers.Layer.{Layer}
 use Rattle.rinqebo_report.specs.declared.origin.Origin.{Origin}
 use Rattle.rinqebo_report.specs.declared.origin.Origin.TheVariants as kinds
 use Rattle.rinqebo_report.specs.declared.origin.Part.TheVariants as parts

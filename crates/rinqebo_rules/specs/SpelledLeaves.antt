@@ -8,9 +8,9 @@ use Rattle.nextest_places.specs.declared.step.Step.{Step}
 use Rattle.nextest_tables.specs.Written.{Name}
 use Rattle.nextest_tree.specs.Node.{Node, table, array, Nodes, no_nodes, node, Entries, no_entries, entry, member_of}
 use Rattle.nextest_tree.specs.View.{tree_view}
-use Rattle.rinqebo_files.specs.Layers.{layer_tree}
-use Rattle.rinqebo_files.specs.Origins.{IsPathPlace}
-use Rattle.rinqebo_files.specs.declared.layers.Layer.{Layer}
+use Rattle.rinqebo_request.specs.Files.Layers.{layer_tree}
+use Rattle.rinqebo_request.specs.Files.Origins.{IsPathPlace}
+use Rattle.rinqebo_request.specs.declared.files.layers.Layer.{Layer}
 use Rattle.rinqebo_report.specs.declared.origin.FilePlace.{FilePlace}
 use Rattle.rinqebo_report.specs.declared.origin.Origin.{Origin}
 use Rattle.rinqebo_report.specs.declared.origin.Origin.TheVariants as kinds

@@ -8,7 +8,7 @@ use Rattle.nextest_settings.specs.Queries.{Origin as Decider, unwritten, by_prof
 use Rattle.nextest_settings.specs.SettingsView.{wrapping_use_at}
 use Rattle.nextest_settings.specs.declared.test_settings.TestSettings.{TestSettings}
 use Rattle.nextest_tables.specs.Written.{Name}
-use Rattle.rinqebo_files.specs.declared.layers.Layer.{Layer}
+use Rattle.rinqebo_request.specs.declared.files.layers.Layer.{Layer}
 use Rattle.rinqebo_report.specs.declared.origin.Origin.{Origin}
 use Rattle.rinqebo_report.specs.declared.origin.Origin.TheVariants as kinds
 use Rattle.rinqebo_rules.specs.Origins.{IsOriginOf, key_steps}

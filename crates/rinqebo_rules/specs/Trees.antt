@@ -1,8 +1,8 @@
 -- The trees of layers.
 use Rattle.std.specs.Prelude.{List, map, unwrap_or}
 use Rattle.nextest_tree.specs.Node.{Node, table, no_entries}
-use Rattle.rinqebo_files.specs.Layers.{layer_tree}
-use Rattle.rinqebo_files.specs.declared.layers.Layer.{Layer}
+use Rattle.rinqebo_request.specs.Files.Layers.{layer_tree}
+use Rattle.rinqebo_request.specs.declared.files.layers.Layer.{Layer}
 
 -- the trees of layers; a layer without a document writes nothing
 abbrev pub trees_of : List Layer → List Node

@@ -12,9 +12,8 @@ use crate::trees::trees_of;
 use nextest_config::Tree;
 use nextest_documents::{Grounds, grounds_of};
 use nextest_places::Step;
-use rinqebo_files::{Layer, path_place};
 use rinqebo_report::{Origin, Part, Written};
-use rinqebo_request::SettingKey;
+use rinqebo_request::{Layer, SettingKey, path_place};
 use std::alloc::{AllocError, Global};
 
 /// The keys that lead to a setting in the table of a profile.

@@ -1,15 +1,14 @@
 //! What the files of origins have for a value.
 ghost use Rattle.std.specs.Prelude.{◌≡◌, [], ◌∷◌, Some, option_and_then, option_map, slice_get, string_bytes};
 ghost use Rattle.nextest_tree.specs.View.{tree_view};
-ghost use Rattle.rinqebo_files.specs.Layers.{layer_tree};
+ghost use Rattle.rinqebo_request.specs.Files.Layers.{layer_tree};
 ghost use Rattle.rinqebo_rules.specs.AsWritten.{are_defaults, node_alone, node_at, origin_node};
 ghost use Rattle.rinqebo_rules.specs.Origins.{key, position, key_steps, part_steps, profile_steps};
 
 use crate::spelled::tree_of;
 use nextest_config::Tree;
-use rinqebo_files::Layer;
 use rinqebo_report::{Origin, Part, Written};
-use rinqebo_request::SettingKey;
+use rinqebo_request::{Layer, SettingKey};
 
 /// The rule at a position of a list of a profile.
 fn rule_node<'t>(profile: &'t Tree, list: &str, index: usize) -> Option<&'t Tree>

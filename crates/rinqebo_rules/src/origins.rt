@@ -9,9 +9,8 @@ ghost use Rattle.rinqebo_rules.specs.RulePlaces.{place_view};
 
 use crate::{RuleKind, RulePlace, profile_grounds};
 use nextest_sources::{ConfigSource, ConfigSourceKind};
-use rinqebo_files::Layer;
 use rinqebo_report::{Origin, Written};
-use rinqebo_request::SettingKey;
+use rinqebo_request::{Layer, SettingKey};
 use std::alloc::{AllocError, Global};
 use std::marker::Model;
 

@@ -7,9 +7,8 @@ ghost use Rattle.rinqebo_rules.specs.RulePlaces.{list_of, part_of, place_view, i
 
 use nextest_config::{ConfigSource, OverrideId, ScriptRuleId, Tree};
 use nextest_places::Step;
-use rinqebo_files::{Layer, path_place, place_of, rule_at};
 use rinqebo_report::{Origin, Part, Written};
-use rinqebo_request::SettingKey;
+use rinqebo_request::{Layer, SettingKey, path_place, place_of, rule_at};
 use std::alloc::{AllocError, Global};
 
 /// The kinds of rules.

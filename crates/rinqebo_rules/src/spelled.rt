@@ -3,14 +3,14 @@
 ghost use Rattle.std.specs.Prelude.{◌≡◌, [], ◌∷◌, ◌++◌, Some, IfOk, OnOk, flat_map, length, map, option_and_then, option_map, slice_get};
 ghost use Rattle.nextest_inheritance.specs.View.{borrowed_view};
 ghost use Rattle.nextest_tree.specs.View.{entries_view, nodes_view, tree_view};
-ghost use Rattle.rinqebo_files.specs.Layers.{layer_tree};
+ghost use Rattle.rinqebo_request.specs.Files.Layers.{layer_tree};
 ghost use Rattle.rinqebo_rules.specs.LeafValue.{are_texts};
 ghost use Rattle.rinqebo_rules.specs.Origins.{key, position, step_view};
 ghost use Rattle.rinqebo_rules.specs.SpelledLeaves.{all_leaves, all_spots, file_spots, item_leaves, leaves_in, member_leaves, profile_spots, spelled_view, spot_leaves, spot_node, spot_view, spots_at, value_at};
 
 use nextest_config::Tree;
 use nextest_places::Step;
-use rinqebo_files::Layer;
+use rinqebo_request::Layer;
 use std::alloc::{AllocError, Global};
 use std::collections::BTreeMap;
 

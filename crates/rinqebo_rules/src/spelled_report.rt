@@ -10,8 +10,8 @@ ghost use Rattle.rinqebo_rules.specs.SpelledLeaves.{AreSpelledOut, IsEntryOfLeaf
 use crate::leaf_value::reported_value;
 use crate::spelled::{SpelledLeaf, spelled_leaves};
 use nextest_places::Step;
-use rinqebo_files::{Layer, path_place};
 use rinqebo_report::{Entry, FilePlace, Origin, Part, Written};
+use rinqebo_request::{Layer, path_place};
 use std::alloc::{AllocError, Global};
 
 /// A step, as a user spells it.

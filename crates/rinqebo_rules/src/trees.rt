@@ -4,7 +4,7 @@ ghost use Rattle.nextest_documents.specs.Layers.{layers_view};
 ghost use Rattle.rinqebo_rules.specs.Trees.{trees_of};
 
 use nextest_config::Tree;
-use rinqebo_files::Layer;
+use rinqebo_request::Layer;
 use std::alloc::{AllocError, Global};
 
 /// The trees of layers.

@@ -1,7 +1,7 @@
 -- The documents of runs that answer nothing.
 use Rattle.std.proofs.Common.{◌≡◌, ◌∙◌, ◌⊎◌, inl, inr, ℕ, List, Option, arith, sym}
 use Rattle.std.specs.Io.KnownBytes.{Appends}
-use Rattle.rinqebo_files.specs.declared.files.Gathered.{Gathered}
+use Rattle.rinqebo_request.specs.declared.files.gathering.Gathered.{Gathered}
 use Rattle.rinqebo_load.specs.declared.failure.Failure.{Failure}
 use Rattle.rinqebo_load.specs.declared.failure.Failure.TheVariants as failures
 use Rattle.rinqebo_report.specs.Rendered.{rendered}

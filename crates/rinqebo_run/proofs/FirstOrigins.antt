@@ -1,7 +1,7 @@
 -- The first of some origins, and the others.
 use Rattle.std.proofs.Common.{◌≡◌, ◌∙◌, ℕ, List, [], ◌∷◌, Option, refl, sym, subst}
 use Rattle.nextest_tables.specs.Written.{Name}
-use Rattle.rinqebo_files.specs.declared.layers.Layer.{Layer}
+use Rattle.rinqebo_request.specs.declared.files.layers.Layer.{Layer}
 use Rattle.rinqebo_report.specs.declared.origin.Origin.{Origin}
 use Rattle.rinqebo_rules.specs.ProfileOrigins.{AreProfileOrigins, built_in, written}
 use Rattle.rinqebo_run.specs.Reasons.{or_built_in}

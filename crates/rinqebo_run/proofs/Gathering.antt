@@ -17,7 +17,7 @@ use Rattle.nextest_settings.specs.Settings.{fallback_of}
 use Rattle.nextest_settings.specs.declared.setting.Setting.{Setting}
 use Rattle.nextest_tables.specs.FileTexts.{names_in, IsIn}
 use Rattle.nextest_tables.specs.Written.{Name}
-use Rattle.rinqebo_files.specs.declared.layers.Layer.{Layer as FileLayer}
+use Rattle.rinqebo_request.specs.declared.files.layers.Layer.{Layer as FileLayer}
 use Rattle.rinqebo_report.specs.declared.report.Content.{Content}
 use Rattle.rinqebo_report.specs.declared.report.Content.TheVariants as contents
 use Rattle.rinqebo_report.specs.declared.report.Report.{Report}

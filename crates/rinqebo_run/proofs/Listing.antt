@@ -46,7 +46,7 @@ use Rattle.rinqebo_run.specs.Listed.{IsProfileOn, unused_places, AreObjectsListe
 use Rattle.rinqebo_run.specs.ListedBy.{basis_of, read_by, listed_by, places_of}
 use Rattle.rinqebo_run.specs.Requested.{IsRequestedIn}
 use Rattle.rinqebo_run.proofs.Requests.{requested_meant}
-use Rattle.rinqebo_files.specs.declared.layers.Layer.{Layer as FileLayer}
+use Rattle.rinqebo_request.specs.declared.files.layers.Layer.{Layer as FileLayer}
 use Rattle.rinqebo_rules.specs.Origins.{IsOriginOf}
 use Rattle.rinqebo_rules.specs.RulePlaces.{Place, id_place, script_place}
 use Rattle.rinqebo_load.specs.Sessions.{files_view, readings, IsLoadedFrom}

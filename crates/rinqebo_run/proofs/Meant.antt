@@ -19,7 +19,7 @@ use Rattle.nextest_settings.specs.Platforms.{spec_holds, specs_hold, runs_on, ru
 use Rattle.nextest_settings.specs.Profile.{Configured, profile_of, profile_on}
 use Rattle.nextest_settings.specs.declared.setting.Setting.{Setting}
 use Rattle.nextest_tables.specs.Written.{Name}
-use Rattle.rinqebo_files.specs.declared.layers.Layer.{Layer as FileLayer}
+use Rattle.rinqebo_request.specs.declared.files.layers.Layer.{Layer as FileLayer}
 use Rattle.rinqebo_report.specs.declared.report.Rule.{Rule}
 use Rattle.rinqebo_load.specs.declared.found_test.FoundTest.{FoundTest}
 use Rattle.rinqebo_load.specs.FoundTests.{found_view}

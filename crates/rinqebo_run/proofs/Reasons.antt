@@ -2,7 +2,7 @@
 use Rattle.std.proofs.Common.{◌≡◌, ◌∙◌, false, List, map, ap, subst, sym}
 use Rattle.std.specs.List.{AllZip, zip}
 use Rattle.nextest_settings.specs.Platforms.{rule_on}
-use Rattle.rinqebo_files.specs.declared.layers.Layer.{Layer}
+use Rattle.rinqebo_request.specs.declared.files.layers.Layer.{Layer}
 use Rattle.rinqebo_report.specs.declared.report.Rule.{Rule}
 use Rattle.rinqebo_rules.proofs.Listing.{made_twice}
 use Rattle.rinqebo_rules.proofs.VerdictsOf.{verdicts-facts}

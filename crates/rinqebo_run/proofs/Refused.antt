@@ -2,7 +2,7 @@
 use Rattle.std.proofs.Common.{◌≡◌, ◌∙◌, ◌⊎◌, inl, inr, ℕ, Result, Ok, Err, IfErr, IfOk, IsErrAnd, arith, subst, sym}
 use Rattle.std.specs.Result.{result_map_both}
 use Rattle.nextest_tables.specs.Written.{Name}
-use Rattle.rinqebo_files.specs.declared.files.Gathered.{Gathered}
+use Rattle.rinqebo_request.specs.declared.files.gathering.Gathered.{Gathered}
 use Rattle.rinqebo_report.specs.declared.report.Report.{Report}
 use Rattle.rinqebo_request.specs.declared.request.Question.{Question}
 use Rattle.rinqebo_request.specs.declared.request.Question.TheVariants as questions

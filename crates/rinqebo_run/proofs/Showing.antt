@@ -21,7 +21,7 @@ use Rattle.nextest_tables.specs.FileTexts.{names_in, IsIn}
 use Rattle.nextest_tables.specs.Written.{Name}
 use Rattle.platform_language.specs.Expressions.{Spec, spec_view}
 use Rattle.platform_language.specs.declared.expression.TargetSpec.{TargetSpec}
-use Rattle.rinqebo_files.specs.declared.layers.Layer.{Layer as FileLayer}
+use Rattle.rinqebo_request.specs.declared.files.layers.Layer.{Layer as FileLayer}
 use Rattle.rinqebo_load.specs.Accepted.{AreAccepted}
 use Rattle.rinqebo_load.specs.Sessions.{files_view, readings, IsLoadedFrom}
 use Rattle.rinqebo_load.specs.declared.session.Session.{Session}

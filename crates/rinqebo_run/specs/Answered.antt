@@ -16,7 +16,7 @@ use Rattle.rinqebo_load.specs.SessionOf.{IsSessionOf}
 use Rattle.rinqebo_run.specs.RunsReasons.{ReportsRunsReasons}
 use Rattle.rinqebo_run.specs.ShownConfig.{ShowsConfig}
 use Rattle.rinqebo_run.specs.ReportsReasons.{ReportsReasons}
-use Rattle.rinqebo_files.specs.declared.files.Gathered.{Gathered}
+use Rattle.rinqebo_request.specs.declared.files.gathering.Gathered.{Gathered}
 use Rattle.rinqebo_request.specs.declared.request.Question.{Question}
 use Rattle.rinqebo_request.specs.declared.request.Question.TheVariants as questions
 use Rattle.rinqebo_request.specs.declared.request.Request.{Request}

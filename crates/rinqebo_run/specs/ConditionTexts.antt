@@ -2,8 +2,8 @@
 use Rattle.std.specs.Prelude.{◌≡◌, ℕ, List, [], Option, None, Some, codes, option_and_then, slice_get, string_bytes, unwrap_or}
 use Rattle.std.specs.Option.{option_or}
 use Rattle.nextest_tree.specs.Node.{as_text}
-use Rattle.rinqebo_files.specs.Layers.{layer_tree}
-use Rattle.rinqebo_files.specs.declared.layers.Layer.{Layer}
+use Rattle.rinqebo_request.specs.Files.Layers.{layer_tree}
+use Rattle.rinqebo_request.specs.declared.files.layers.Layer.{Layer}
 use Rattle.rinqebo_report.specs.declared.origin.Origin.{Origin}
 use Rattle.rinqebo_report.specs.declared.origin.Origin.TheVariants as kinds
 use Rattle.rinqebo_report.specs.declared.origin.Part.TheVariants as parts

@@ -11,7 +11,7 @@ use Rattle.nextest_settings.specs.Queries.{query_in}
 use Rattle.nextest_sources.specs.Inputs.{sources_in}
 use Rattle.nextest_tables.specs.FileTexts.{names_in, IsIn}
 use Rattle.nextest_tables.specs.Written.{Name}
-use Rattle.rinqebo_files.specs.declared.layers.Layer.{Layer}
+use Rattle.rinqebo_request.specs.declared.files.layers.Layer.{Layer}
 use Rattle.rinqebo_rules.specs.Rows.{IsTestReported}
 use Rattle.rinqebo_load.specs.Accepted.{AreAccepted}
 use Rattle.rinqebo_load.specs.FoundTests.{found_view}

@@ -4,7 +4,7 @@ use Rattle.std.specs.List.{AllZip, zip}
 use Rattle.nextest_engines.specs.declared.queries.BuildPlatforms.{BuildPlatforms}
 use Rattle.nextest_settings.specs.Deciding.{QueryContext}
 use Rattle.nextest_settings.specs.Platforms.{rule_on}
-use Rattle.rinqebo_files.specs.declared.layers.Layer.{Layer}
+use Rattle.rinqebo_request.specs.declared.files.layers.Layer.{Layer}
 use Rattle.rinqebo_report.specs.declared.origin.Origin.{Origin}
 use Rattle.rinqebo_report.specs.declared.origin.Origin.TheVariants as kinds
 use Rattle.rinqebo_report.specs.declared.report.Rule.{Rule}

@@ -19,7 +19,7 @@ use Rattle.rinqebo_rules.specs.RulePlaces.{Place}
 use Rattle.rinqebo_rules.specs.Runs.{filtering_place}
 use Rattle.rinqebo_rules.specs.SpelledLeaves.{AreSpelledOut}
 use Rattle.rinqebo_rules.specs.Trees.{trees_of}
-use Rattle.rinqebo_files.specs.declared.layers.Layer.{Layer}
+use Rattle.rinqebo_request.specs.declared.files.layers.Layer.{Layer}
 use Rattle.rinqebo_report.specs.declared.origin.FilePlace.{FilePlace}
 use Rattle.rinqebo_report.specs.declared.report.Content.{Content}
 use Rattle.rinqebo_report.specs.declared.report.Content.TheVariants as contents

@@ -1,8 +1,8 @@
 -- The exit statuses of a run.
 use Rattle.std.specs.Prelude.{ℕ, ◌≡◌, ◌⊎◌, ◌≤◌, List, Option, string_bytes}
 use Rattle.std.specs.Io.KnownBytes.{Appends}
-use Rattle.rinqebo_files.specs.declared.files.GatherFault.{GatherFault}
-use Rattle.rinqebo_files.specs.declared.files.GatherFault.TheVariants as gathering
+use Rattle.rinqebo_request.specs.declared.files.gathering.GatherFault.{GatherFault}
+use Rattle.rinqebo_request.specs.declared.files.gathering.GatherFault.TheVariants as gathering
 use Rattle.rinqebo_load.specs.declared.failure.Failure.{Failure}
 use Rattle.rinqebo_load.specs.declared.failure.Failure.TheVariants as failures
 use Rattle.rinqebo_request.specs.declared.request.Question.{Question}

@@ -7,8 +7,8 @@ ghost use Rattle.nextest_documents.specs.Layers.{keys_view};
 ghost use Rattle.rinqebo_rules.specs.RulePlaces.{place_view};
 ghost use Rattle.rinqebo_run.specs.InForce.{IsDefaultEntry, IsInForce, hide, is_default, overridden};
 
-use rinqebo_files::{Layer, text_at};
 use rinqebo_report::{Entry, Scalar, Value};
+use rinqebo_request::{Layer, text_at};
 use rinqebo_rules::{RulePlace, default_filter_key};
 use std::alloc::{AllocError, Global};
 

@@ -5,8 +5,8 @@ ghost use Rattle.rinqebo_rules.specs.Origins.{IsOriginOf};
 ghost use Rattle.rinqebo_rules.specs.RulePlaces.{place_view};
 ghost use Rattle.rinqebo_run.specs.ListedBy.{places_of};
 
-use rinqebo_files::Layer;
 use rinqebo_report::Origin;
+use rinqebo_request::Layer;
 use rinqebo_rules::{RulePlace, UnusedRules};
 use std::alloc::{AllocError, Global};
 

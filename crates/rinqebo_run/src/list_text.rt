@@ -14,11 +14,10 @@ use crate::list_page::{ListPage, RequestedList, write_last};
 use crate::looked_up::config_looked_up;
 use crate::progress::ProgressLine;
 use nextest_config::DefaultConfigWarnings;
-use rinqebo_files::Gathered;
 use rinqebo_findings::{report_of, warning_findings};
 use rinqebo_load::Session;
 use rinqebo_report::{Colour, Content, Paper, Report, render_findings};
-use rinqebo_request::Request;
+use rinqebo_request::{Gathered, Request};
 use std::alloc::Global;
 use std::io::Write;
 

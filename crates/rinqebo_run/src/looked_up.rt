@@ -16,10 +16,10 @@ ghost use Rattle.rinqebo_run.specs.LookedUp.{IsFailureFor, IsFailureOn, IsLooked
 use crate::list::profile_on;
 use filter_engine::{Field, NextestFilters};
 use nextest_config::{DefaultConfigWarnings, Filters};
-use rinqebo_files::sources_of;
 use rinqebo_findings::config_with;
 use rinqebo_load::{Config, Failure, InputFault, OpenFilter, Session, chain_of_profile};
 use rinqebo_report::add_origins;
+use rinqebo_request::sources_of;
 use rinqebo_rules::{FilterPlace, PlacedFilter, filters_left_open};
 use std::alloc::{AllocError, Global};
 

@@ -2,9 +2,8 @@
 use crate::answer::Answer;
 use crate::status::Status;
 use nextest_config::{FileInput, ReadOutcome, ToolConfigFile};
-use rinqebo_files::Gathered;
 use rinqebo_report::Format;
-use rinqebo_request::{Question, Request};
+use rinqebo_request::{Gathered, Question, Request};
 use std::alloc::{AllocError, Global};
 
 /// Whether a file was read.

@@ -23,10 +23,10 @@ use crate::list::profile_on;
 use crate::status::Status;
 use nextest_config::{DefaultConfigWarnings, NextestRunMode};
 use nextest_documents::{LayerLeaf, entries_of};
-use rinqebo_files::{Layer, path_place};
 use rinqebo_findings::{config_with, report_of};
 use rinqebo_load::{Config, Failure, Session, chain_of_profile};
 use rinqebo_report::{Content, Entry};
+use rinqebo_request::{Layer, path_place};
 use rinqebo_rules::{
     RulePlace, filtering_place, reported_entry, spelled_entries, steps_of, trees_of,
 };

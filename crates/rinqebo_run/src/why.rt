@@ -34,11 +34,10 @@ use nextest_config::{
     BuildPlatforms, DefaultConfigWarnings, Filters, NextestRunMode, Setting, TestQuery,
 };
 use platform_language::Platform;
-use rinqebo_files::Layer;
 use rinqebo_findings::report_of;
 use rinqebo_load::{Config, Failure, FoundTest, Session, chain_of_profile};
 use rinqebo_report::{Content, Origin, Rule, TestId, Verdict};
-use rinqebo_request::SettingKey;
+use rinqebo_request::{Layer, SettingKey};
 use rinqebo_rules::{
     Asking, SettingRule, node_alone, profile_grounds, reported_if_set, reported_platform,
     rules_for, verdicts_of,

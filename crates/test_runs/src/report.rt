@@ -3,8 +3,7 @@ use crate::case::Setup;
 use nextest_config::ReadOutcome;
 use nextest_sources::FileReader;
 use rinqebo_diff::{AnyCommand, DiffRequest, gather_sides, parse_all, perform_diff};
-use rinqebo_files::gather;
-use rinqebo_request::Command;
+use rinqebo_request::{Command, gather};
 use rinqebo_run::{
     perform, print_code, print_codes, print_document_schema, print_schema, refuse_gathering,
     refuse_words,

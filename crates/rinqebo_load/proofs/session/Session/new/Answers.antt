@@ -1,5 +1,5 @@
 use Rattle.std.proofs.Common.{◌∙◌, ap, inl, inr, map, refl}
-use Rattle.rinqebo_files.specs.Layers.{layer_view}
+use Rattle.rinqebo_request.specs.Files.Layers.{layer_view}
 use Rattle.std.proofs.lemmas.Result.{err_from_is_err_and}
 use Rattle.filter_inputs.specs.Lists.ListView.{list_view}
 use Rattle.rinqebo_load.specs.InputFaults.{IsEngineFault, IsInputFault, IsListFault, LacksHost}

@@ -1,5 +1,0 @@
-mod Layering
-mod Seeking
-mod Highest
-pub mod Ranges
-pub mod Documents

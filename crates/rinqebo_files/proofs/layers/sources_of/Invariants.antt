@@ -1,8 +1,0 @@
-use Rattle.std.proofs.Common.{◌≡◌, map, take}
-use Rattle.rinqebo_files.specs.Origins.{reported_file}
-use Rattle.rinqebo_files.proofs.layers.sources_of.Given as goal
-
--- the sources so far
-abbrev pub invariant-loop-layer : goal.invariant-loop-layer
-invariant-loop-layer l =
-    map reported_file l.sources.items ≡ map (λ layer. reported_file layer.source) (take l.layer-index l.layers)

@@ -1,0 +1,5 @@
+pub mod Layering
+pub mod Seeking
+pub mod Highest
+pub mod Ranges
+pub mod Documents
