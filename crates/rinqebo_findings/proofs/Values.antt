@@ -6,7 +6,7 @@ use Rattle.std.proofs.lemmas.List.{append_assoc, append-nil}
 use Rattle.nextest_places.specs.declared.step.Step.{Step}
 use Rattle.nextest_tree.specs.declared.fault.ElementCause.{ElementCause}
 use Rattle.nextest_tree.specs.declared.fault.ElementCause.TheVariants as causes
-use Rattle.rinqebo_codes.specs.declared.code.Code.TheVariants.{MaxDelayBelowDelay}
+use Rattle.rinqebo_report.specs.declared.codes.code.Code.TheVariants.{MaxDelayBelowDelay}
 use Rattle.rinqebo_request.specs.Files.Origins.{IsPartPlace}
 use Rattle.rinqebo_request.specs.declared.files.layers.Layer.{Layer}
 use Rattle.rinqebo_request.specs.declared.files.places.SpanPart.{SpanPart}

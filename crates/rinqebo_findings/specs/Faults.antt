@@ -15,8 +15,8 @@ use Rattle.nextest_tables.specs.Tables.{a_file}
 use Rattle.nextest_tree.specs.Node.{Node}
 use Rattle.nextest_tree.specs.Schema as schema
 use Rattle.nextest_tree.specs.declared.fault.ElementCause.TheVariants as causes
-use Rattle.rinqebo_codes.specs.Codes.{code_word}
-use Rattle.rinqebo_codes.specs.declared.code.Code.TheVariants.{UnknownKey}
+use Rattle.rinqebo_report.specs.Codes.Codes.{code_word}
+use Rattle.rinqebo_report.specs.declared.codes.code.Code.TheVariants.{UnknownKey}
 use Rattle.rinqebo_request.specs.declared.files.layers.Layer.{Layer}
 use Rattle.rinqebo_request.specs.declared.files.places.SpanPart.TheVariants as parts
 use Rattle.rinqebo_report.specs.declared.finding.Finding.{Finding}

@@ -6,9 +6,9 @@ use Rattle.nextest_places.specs.declared.step.Step.{Step}
 use Rattle.nextest_places.specs.declared.step.Step.TheVariants as steps
 use Rattle.nextest_tree.specs.declared.fault.ElementCause.{ElementCause}
 use Rattle.nextest_tree.specs.declared.fault.ElementCause.TheVariants as causes
-use Rattle.rinqebo_codes.specs.Codes.{code_word}
-use Rattle.rinqebo_codes.specs.declared.code.Code.{Code}
-use Rattle.rinqebo_codes.specs.declared.code.Code.TheVariants.{WrongKind, MissingKey, InvalidValue, OutOfRange, MaxDelayBelowDelay, RefusedKey}
+use Rattle.rinqebo_report.specs.Codes.Codes.{code_word}
+use Rattle.rinqebo_report.specs.declared.codes.code.Code.{Code}
+use Rattle.rinqebo_report.specs.declared.codes.code.Code.TheVariants.{WrongKind, MissingKey, InvalidValue, OutOfRange, MaxDelayBelowDelay, RefusedKey}
 use Rattle.rinqebo_request.specs.declared.files.layers.Layer.{Layer}
 use Rattle.rinqebo_request.specs.declared.files.places.SpanPart.{SpanPart}
 use Rattle.rinqebo_request.specs.declared.files.places.SpanPart.TheVariants as parts

@@ -2,8 +2,7 @@
 use crate::excerpts::{Mark, lines_of};
 use crate::refused::Refused;
 use nextest_places::Step;
-use rinqebo_codes::Code;
-use rinqebo_report::{FileLines, FilePlace, Sign};
+use rinqebo_report::{Code, FileLines, FilePlace, Sign};
 use std::alloc::{AllocError, Global};
 
 /// The path of the parent that a profile names.

@@ -9,8 +9,7 @@ use crate::given::value_at;
 use crate::paths::path_with;
 use crate::refused::Refused;
 use nextest_places::Step;
-use rinqebo_codes::Code;
-use rinqebo_report::{FileLines, FilePlace, Finding, Range, Sign, SourceLine};
+use rinqebo_report::{Code, FileLines, FilePlace, Finding, Range, Sign, SourceLine};
 use rinqebo_request::{SpanPart, part_place};
 use std::alloc::{AllocError, Global};
 

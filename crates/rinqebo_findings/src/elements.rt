@@ -20,8 +20,7 @@ use crate::tables::{
 use nextest_config::{ElementCause, ElementFault, Tree};
 use nextest_places::Step;
 use nextest_shape::file_shape;
-use rinqebo_codes::Code;
-use rinqebo_report::{Finding, HelpPlace};
+use rinqebo_report::{Code, Finding, HelpPlace};
 use rinqebo_request::SpanPart;
 use std::alloc::{AllocError, Global};
 

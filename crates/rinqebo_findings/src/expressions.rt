@@ -9,9 +9,8 @@ use nextest_config::{
     ConfigCompileError, ConfigCompileErrorKind, ConfigCompileSection, Refusal, Tree,
 };
 use nextest_places::{Step, offsets_of};
-use rinqebo_codes::Code;
 use rinqebo_report::{
-    CharSpan, FilePlace, Finding, Position, Range as ReportRange, RefusedExpression,
+    CharSpan, Code, FilePlace, Finding, Position, Range as ReportRange, RefusedExpression,
 };
 use rinqebo_request::{host_text, profile_table, rule_table, target_text, text_at};
 use std::alloc::{AllocError, Global};

@@ -7,9 +7,8 @@ use crate::findings::{Label, SourceAt, finding_at, warning_findings};
 use crate::report::{report_of, report_of_refusal};
 use nextest_config::{ConfigParseError, DefaultConfigWarnings, ProfileNotFound};
 use nextest_places::Step;
-use rinqebo_codes::Code;
 use rinqebo_load::{Failure, FoundTest, Missing, Session, TestFault};
-use rinqebo_report::{Content, Finding, Level, Report};
+use rinqebo_report::{Code, Content, Finding, Level, Report};
 use rinqebo_request::{RequestedTest, SpanPart, text_hint};
 use std::alloc::{AllocError, Global};
 

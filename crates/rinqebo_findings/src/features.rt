@@ -2,7 +2,7 @@
 use crate::refused::Refused;
 use nextest_config::{ConfigExperimental, Tree};
 use nextest_places::Step;
-use rinqebo_codes::Code;
+use rinqebo_report::Code;
 use std::alloc::{AllocError, Global};
 
 /// The value at a key of a tree, if there is one.

@@ -1,6 +1,6 @@
 //! Findings: how they are made, and those of warnings.
 ghost use Rattle.std.specs.Prelude.{◌≡◌, IfOk, Some, None};
-ghost use Rattle.rinqebo_codes.specs.Codes.{code_word};
+ghost use Rattle.rinqebo_report.specs.Codes.Codes.{code_word};
 ghost use Rattle.rinqebo_findings.specs.Placed.{IsPlaceIn};
 ghost use Rattle.rinqebo_findings.specs.Subjects.{shown_path, subject};
 
@@ -11,8 +11,7 @@ use crate::refused_values::Fault;
 use crate::tables::{keys_note, unknown_key_help, unknown_key_text};
 use nextest_config::{ConfigSource, ConfigWarning, DefaultConfigWarnings, Tree};
 use nextest_places::{PathSpans, Step};
-use rinqebo_codes::Code;
-use rinqebo_report::{FilePlace, Finding, Level};
+use rinqebo_report::{Code, FilePlace, Finding, Level};
 use rinqebo_request::{Layer, NoDocument, SpanPart, part_place, place_of};
 use std::alloc::{AllocError, Global};
 

@@ -2,8 +2,7 @@
 use crate::refused::Refused;
 use nextest_config::{CustomTestGroup, ScriptId, Tree};
 use nextest_places::Step;
-use rinqebo_codes::Code;
-use rinqebo_report::SourceKind;
+use rinqebo_report::{Code, SourceKind};
 use rinqebo_request::SpanPart;
 use std::alloc::{AllocError, Global};
 use std::collections::BTreeSet;

@@ -3,8 +3,7 @@ use crate::excerpts::{Mark, lines_of};
 use crate::meant::{BadLine, LineWords, first_definition, line_words};
 use crate::refused::Refused;
 use nextest_places::TextPosition;
-use rinqebo_codes::Code;
-use rinqebo_report::{FileLines, Finding, Position, Range, Sign};
+use rinqebo_report::{Code, FileLines, Finding, Position, Range, Sign};
 use std::alloc::{AllocError, Global};
 
 /// A text on one line.

@@ -5,7 +5,7 @@ use crate::hints::near_hint;
 use crate::refused::Refused;
 use crate::words::quoted;
 use nextest_config::InheritsError;
-use rinqebo_codes::Code;
+use rinqebo_report::Code;
 use rinqebo_request::Layer;
 use std::alloc::{AllocError, Global};
 use std::collections::BTreeSet;

@@ -15,9 +15,8 @@ use nextest_config::{
     ConfigParseErrorKind, ConfigPath, IdentifierOwner, ReadOutcome, ToolName,
 };
 use nextest_places::Step;
-use rinqebo_codes::Code;
 use rinqebo_load::Session;
-use rinqebo_report::Finding;
+use rinqebo_report::{Code, Finding};
 use rinqebo_request::{Layer, place_at};
 use std::alloc::{AllocError, Global};
 

@@ -7,8 +7,7 @@ ghost use Rattle.rinqebo_findings.specs.Subjects.{error_at, subject};
 use crate::findings::{Label, SourceAt, finding, finding_at};
 use crate::left_out::LeftOut;
 use nextest_places::Step;
-use rinqebo_codes::Code;
-use rinqebo_report::{FilePlace, Finding, Level};
+use rinqebo_report::{Code, FilePlace, Finding, Level};
 use rinqebo_request::{Layer, SpanPart, part_place};
 use std::alloc::{AllocError, Global};
 

@@ -21,9 +21,8 @@ use nextest_config::{
 use nextest_documents::{TextFault, lay_over, tree_from_text};
 use nextest_shape::file_faults;
 use nextest_tables::default_tree;
-use rinqebo_codes::Code;
 use rinqebo_load::Session;
-use rinqebo_report::{Finding, Unreached};
+use rinqebo_report::{Code, Finding, Unreached};
 use std::alloc::{AllocError, Global};
 use std::collections::BTreeSet;
 

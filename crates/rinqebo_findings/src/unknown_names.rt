@@ -5,7 +5,7 @@ use crate::refused::Refused;
 use crate::words::quoted;
 use nextest_config::{ProfileScriptErrors, UnknownTestGroupError};
 use nextest_places::Step;
-use rinqebo_codes::Code;
+use rinqebo_report::Code;
 use std::alloc::{AllocError, Global};
 use std::collections::BTreeSet;
 

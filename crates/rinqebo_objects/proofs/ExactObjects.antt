@@ -15,7 +15,7 @@ use Rattle.nextest_settings.specs.Profile.{ProfileFacts}
 use Rattle.nextest_sources.specs.Sources.{Source}
 use Rattle.nextest_sources.specs.Warnings.{Warning, unknown_keys, reserved_profiles, deprecated_scripts, empty_sections}
 use Rattle.nextest_tables.specs.Written.{Name}
-use Rattle.rinqebo_codes.specs.declared.code.Code.{Code}
+use Rattle.rinqebo_report.specs.declared.codes.code.Code.{Code}
 use Rattle.rinqebo_objects.specs.Enabling.{Enabling, enabling_data, test_data}
 use Rattle.rinqebo_objects.specs.Objects.{objects_data, run_data, with_bounds, with_names, with_output}
 use Rattle.rinqebo_objects.specs.Scripts.{Directories, command_data, group_data, setup_script_data, wrapper_script_data, variables_data}

@@ -2,9 +2,9 @@
 use Rattle.std.specs.Prelude.{ℕ, List, [], codes}
 use Rattle.nextest_sources.specs.Sources.{Source}
 use Rattle.nextest_sources.specs.Warnings.{Warning, unknown_keys, reserved_profiles, deprecated_scripts, empty_sections}
-use Rattle.rinqebo_codes.specs.Codes.{code_word}
-use Rattle.rinqebo_codes.specs.declared.code.Code.{Code}
-use Rattle.rinqebo_codes.specs.declared.code.Code.TheVariants as variants
+use Rattle.rinqebo_report.specs.Codes.Codes.{code_word}
+use Rattle.rinqebo_report.specs.declared.codes.code.Code.{Code}
+use Rattle.rinqebo_report.specs.declared.codes.code.Code.TheVariants as variants
 use Rattle.rinqebo_report.specs.Documents.{count_data, list_data}
 use Rattle.serde_json.specs.Data.{Data, null, string, object, no_members, member}
 

@@ -4,13 +4,13 @@ ghost use Rattle.serde_json.specs.Data.{null, string};
 ghost use Rattle.serde_json.specs.View.{view};
 ghost use Rattle.nextest_sources.specs.Sources.{source_view};
 ghost use Rattle.nextest_sources.specs.WarningsView.{warning_view, warnings_view};
-ghost use Rattle.rinqebo_codes.specs.declared.code.Code.TheVariants.{EmptyScriptRule, OldScriptTable};
+ghost use Rattle.rinqebo_report.specs.declared.codes.code.Code.TheVariants.{EmptyScriptRule, OldScriptTable};
 ghost use Rattle.rinqebo_objects.specs.WarningObjects.{warning_data, warning_of, warnings_data};
 ghost use Rattle.rinqebo_report.specs.Documents.{count_data, list_data};
 
 use crate::values::names_json;
 use nextest_sources::{ConfigSource, ConfigWarning, DefaultConfigWarnings};
-use rinqebo_codes::Code;
+use rinqebo_report::Code;
 use serde_json::{Value, json};
 use std::alloc::{AllocError, Global};
 

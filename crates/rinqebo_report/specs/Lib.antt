@@ -18,3 +18,4 @@ pub mod Documents
 pub mod Document
 pub mod Uncoloured
 pub mod Hints
+pub mod Codes

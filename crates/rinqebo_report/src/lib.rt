@@ -1,10 +1,11 @@
 //! What the program `rinqebo` prints: the settings of a test or of each test, the rules of a
 //! setting, the leaves of a configuration, and what is wrong with files, as a text, with colours or
-//! without, and in three forms for other programs.
+//! without, and in three forms for other programs; and the codes of findings (`codes`).
 #![tactic(auto)]
 
 mod advice;
 mod check_page;
+mod codes;
 mod config_page;
 mod duration;
 mod exact_value;
@@ -32,6 +33,7 @@ mod toml_text;
 mod value;
 mod why_page;
 
+pub use codes::{CODES, Code, code_page, codes_document, codes_list, find_code, law_all_codes};
 pub use exact_value::ExactValue;
 pub use finding::{
     CharSpan, Finding, HelpPlace, Level, LinePart, RefusedExpression, Sign, SourceLine,

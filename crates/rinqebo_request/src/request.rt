@@ -1,8 +1,7 @@
 //! The request of a user.
 use crate::named::ProfileSource;
 use nextest_config::{BuildPlatform, ConfigExperimental, NextestRunMode, Setting, ToolName};
-use rinqebo_codes::Code;
-use rinqebo_report::{Format, Paper};
+use rinqebo_report::{Code, Format, Paper};
 use std::collections::BTreeSet;
 
 /// The list of tests that a command reads.

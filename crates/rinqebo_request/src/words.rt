@@ -14,8 +14,7 @@ use crate::test_words::explain_request;
 use clap::ArgMatches;
 use clap::error::ErrorKind;
 use nextest_config::{ConfigExperimental, InvalidIdentifier, NextestRunMode, ToolName};
-use rinqebo_codes::{CODES, Code, find_code};
-use rinqebo_report::{Colour, Format, Paper};
+use rinqebo_report::{CODES, Code, Colour, Format, Paper, find_code};
 use std::alloc::{AllocError, Global};
 use std::collections::BTreeSet;
 

@@ -1,12 +1,12 @@
 //! The codes of findings, as a command prints them.
 ghost use Rattle.std.specs.Prelude.{◌≡◌, ◌⊎◌, flat_map};
 ghost use Rattle.std.specs.Io.KnownBytes.{Appends};
-ghost use Rattle.rinqebo_codes.specs.CodePages.{listed_text, page_text};
-ghost use Rattle.rinqebo_codes.specs.declared.code.TheConstants.{CODES};
+ghost use Rattle.rinqebo_report.specs.Codes.CodePages.{listed_text, page_text};
+ghost use Rattle.rinqebo_report.specs.declared.codes.code.TheConstants.{CODES};
 
 use crate::printing::{print_text, refuse_for_memory};
 use crate::status::Status;
-use rinqebo_codes::{Code, code_page, codes_list};
+use rinqebo_report::{Code, code_page, codes_list};
 use std::alloc::Global;
 use std::io::Write;
 

@@ -2,7 +2,7 @@
 //! standard input, one a line.
 #![tactic(auto)]
 
-use rinqebo_codes::{code_page, codes_document, codes_list, find_code};
+use rinqebo_report::{code_page, codes_document, codes_list, find_code};
 use std::alloc::{AllocError, Global};
 use std::io;
 

@@ -1,5 +1,5 @@
 use Rattle.std.proofs.Common.{◌∙◌, subst}
-use Rattle.rinqebo_codes.specs.declared.code.Code.TheVariants.{MissingKey}
+use Rattle.rinqebo_report.specs.declared.codes.code.Code.TheVariants.{MissingKey}
 use Rattle.rinqebo_request.specs.declared.files.places.SpanPart.TheVariants as parts
 use Rattle.rinqebo_findings.specs.Subjects.{IsErrorAt}
 use Rattle.rinqebo_findings.proofs.elements.missing_finding.Goals as goal

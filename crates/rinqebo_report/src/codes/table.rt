@@ -1,12 +1,12 @@
 //! What each code means, an example, what to do, and the example corrected.
 ghost use Rattle.std.specs.Prelude.{◌≡◌, map};
-ghost use Rattle.rinqebo_codes.specs.Codes.{code_meaning, code_example, code_advice, code_correction};
+ghost use Rattle.rinqebo_report.specs.Codes.Codes.{code_meaning, code_example, code_advice, code_correction};
 
-use crate::code::Code;
+use crate::codes::code::Code;
 
 impl Code {
     /// What it means.
-    #[tactic(auto, unfolding(crate::specs::Codes::code_meaning))]
+    #[tactic(auto, unfolding(crate::specs::Codes::Codes::code_meaning))]
     pub fn meaning(self) -> &'static str
         ensures { result.now ≡ code_meaning self }
     {
@@ -63,7 +63,7 @@ impl Code {
     }
 
     /// The lines of an example.
-    #[tactic(auto, unfolding(crate::specs::Codes::code_example))]
+    #[tactic(auto, unfolding(crate::specs::Codes::Codes::code_example))]
     pub fn example(self) -> &'static [&'static str]
         ensures { map (λ line. line.now) result.now ≡ code_example self }
     {
@@ -163,7 +163,7 @@ impl Code {
     }
 
     /// What to do.
-    #[tactic(auto, unfolding(crate::specs::Codes::code_advice))]
+    #[tactic(auto, unfolding(crate::specs::Codes::Codes::code_advice))]
     pub fn advice(self) -> &'static str
         ensures { result.now ≡ code_advice self }
     {
@@ -206,7 +206,7 @@ impl Code {
     }
 
     /// The lines of the example, corrected.
-    #[tactic(auto, unfolding(crate::specs::Codes::code_correction))]
+    #[tactic(auto, unfolding(crate::specs::Codes::Codes::code_correction))]
     pub fn correction(self) -> &'static [&'static str]
         ensures { map (λ line. line.now) result.now ≡ code_correction self }
     {

@@ -1,9 +1,9 @@
 -- The place of each code among all.
 use Rattle.std.proofs.Common.{◌≡◌, ◌<◌, ℕ, Contains, Some, refl, rules}
 use Rattle.std.specs.List.{slice_get}
-use Rattle.rinqebo_codes.specs.declared.code.Code.{Code}
-use Rattle.rinqebo_codes.specs.declared.code.Code.TheVariants as variants
-use Rattle.rinqebo_codes.specs.declared.code.TheConstants.{CODES}
+use Rattle.rinqebo_report.specs.declared.codes.code.Code.{Code}
+use Rattle.rinqebo_report.specs.declared.codes.code.Code.TheVariants as variants
+use Rattle.rinqebo_report.specs.declared.codes.code.TheConstants.{CODES}
 
 -- the place of a code among all
 abbrev pub place : Code → ℕ

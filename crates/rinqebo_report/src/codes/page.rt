@@ -1,8 +1,8 @@
 //! The pages of codes, their list, and the document that has the pages of all.
 ghost use Rattle.std.specs.Prelude.{◌≡◌, ◌++◌, IfOk, OnOk, flat_map, map, option_map, string_bytes};
-ghost use Rattle.rinqebo_codes.specs.CodePages.{paragraph, example_text, upstream_text, body_text, page_text, listed_text, section_text, document_head};
+ghost use Rattle.rinqebo_report.specs.Codes.CodePages.{paragraph, example_text, upstream_text, body_text, page_text, listed_text, section_text, document_head};
 
-use crate::code::{CODES, Code};
+use crate::codes::code::{CODES, Code};
 use std::alloc::{AllocError, Global};
 use std::fmt::Write;
 
@@ -106,7 +106,7 @@ fn add_section(out: &mut String, code: Code) -> Result<(), AllocError>
 }
 
 /// Returns the document that has the pages of codes.
-#[tactic(auto, unfolding(crate::specs::CodePages::document_head))]
+#[tactic(auto, unfolding(crate::specs::Codes::CodePages::document_head))]
 fn document_of(alloc: Global, all: &[Code]) -> Result<String, AllocError>
     ensures { IfOk result (λ text. string_bytes text
         ≡ document_head ++ flat_map section_text all.now) }

@@ -1,7 +1,7 @@
 //! The codes of findings.
 ghost use Rattle.std.specs.Prelude.{◌≡◌, ◌≢◌, ◌↔◌, Contains, IsTrue, MatchOption, option_map};
-ghost use Rattle.rinqebo_codes.specs.Codes.{code_word, code_upstream};
-ghost use Rattle.rinqebo_codes.specs.declared.code.Code.{Code};
+ghost use Rattle.rinqebo_report.specs.Codes.Codes.{code_word, code_upstream};
+ghost use Rattle.rinqebo_report.specs.declared.codes.code.Code.{Code};
 
 /// What a finding says, in a word.
 #[derive(Clone, Copy, Debug, PartialEq, Eq)]
@@ -116,7 +116,7 @@ pub const CODES: [Code; 34] = [
 
 impl Code {
     /// Its word, in kebab case.
-    #[tactic(auto, unfolding(crate::specs::Codes::code_word))]
+    #[tactic(auto, unfolding(crate::specs::Codes::Codes::code_word))]
     pub fn word(self) -> &'static str
         ensures { result.now ≡ code_word self }
     {
@@ -159,7 +159,7 @@ impl Code {
     }
 
     /// The name that nextest-runner has for it, if it has one.
-    #[tactic(auto, unfolding(crate::specs::Codes::code_upstream))]
+    #[tactic(auto, unfolding(crate::specs::Codes::Codes::code_upstream))]
     pub fn upstream(self) -> Option<&'static str>
         ensures { option_map (λ name. name.now) result ≡ code_upstream self }
     {

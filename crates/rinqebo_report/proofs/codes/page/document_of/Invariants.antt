@@ -1,6 +1,6 @@
 use Rattle.std.proofs.Common.{◌≡◌, ◌++◌, flat_map, take, string_bytes}
-use Rattle.rinqebo_codes.specs.CodePages.{document_head, section_text}
-use Rattle.rinqebo_codes.proofs.page.document_of.Given as goal
+use Rattle.rinqebo_report.specs.Codes.CodePages.{document_head, section_text}
+use Rattle.rinqebo_report.proofs.codes.page.document_of.Given as goal
 
 abbrev pub invariant-loop-code : goal.invariant-loop-code
 invariant-loop-code l = string_bytes l.text ≡ document_head ++ flat_map section_text (take l.code-index l.all)

@@ -1,9 +1,9 @@
 use Rattle.std.proofs.Common.{◌≡◌, ◌<◌, true, refl, arith, rules}
-use Rattle.rinqebo_codes.proofs.Places.{place, within, at_place}
-use Rattle.rinqebo_codes.proofs.Words.{none_more}
-use Rattle.rinqebo_codes.specs.Codes.{code_word}
-use Rattle.rinqebo_codes.specs.declared.code.TheConstants.{CODES}
-use Rattle.rinqebo_codes.proofs.code.find_code.Goals as goal
+use Rattle.rinqebo_report.proofs.codes.Places.{place, within, at_place}
+use Rattle.rinqebo_report.proofs.codes.Words.{none_more}
+use Rattle.rinqebo_report.specs.Codes.Codes.{code_word}
+use Rattle.rinqebo_report.specs.declared.codes.code.TheConstants.{CODES}
+use Rattle.rinqebo_report.proofs.codes.code.find_code.Goals as goal
 
 pub loop-code-preserved : goal.loop-code-preserved
 loop-code-preserved c =

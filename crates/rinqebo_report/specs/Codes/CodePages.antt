@@ -1,7 +1,7 @@
 -- The pages of codes, their list, and the document that has the pages of all.
 use Rattle.std.specs.Prelude.{ℕ, List, [], ◌∷◌, ◌++◌, Option, None, Some, codes, flat_map}
-use Rattle.rinqebo_codes.specs.declared.code.Code.{Code}
-use Rattle.rinqebo_codes.specs.Codes.{code_word, code_upstream, code_meaning, code_example, code_advice, code_correction}
+use Rattle.rinqebo_report.specs.declared.codes.code.Code.{Code}
+use Rattle.rinqebo_report.specs.Codes.Codes.{code_word, code_upstream, code_meaning, code_example, code_advice, code_correction}
 
 -- the end of a line
 abbrev pub line_end : List ℕ

@@ -1,8 +1,8 @@
 -- The table of codes: the word of each, the name that nextest-runner has for it, what it means, an
 -- example, what to do, and the example corrected.
 use Rattle.std.specs.Prelude.{ℕ, List, [], ◌∷◌, Option, None, Some, codes}
-use Rattle.rinqebo_codes.specs.declared.code.Code.{Code}
-use Rattle.rinqebo_codes.specs.declared.code.Code.TheVariants as variants
+use Rattle.rinqebo_report.specs.declared.codes.code.Code.{Code}
+use Rattle.rinqebo_report.specs.declared.codes.code.Code.TheVariants as variants
 
 -- the word of a code
 unfoldable pub code_word : Code → List ℕ

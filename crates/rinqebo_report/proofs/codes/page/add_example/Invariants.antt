@@ -1,6 +1,6 @@
 use Rattle.std.proofs.Common.{◌≡◌, ◌++◌, flat_map, map, take, string_bytes}
-use Rattle.rinqebo_codes.specs.CodePages.{example_line}
-use Rattle.rinqebo_codes.proofs.page.add_example.Given as goal
+use Rattle.rinqebo_report.specs.Codes.CodePages.{example_line}
+use Rattle.rinqebo_report.proofs.codes.page.add_example.Given as goal
 
 abbrev pub invariant-loop-line : goal.invariant-loop-line
 invariant-loop-line l =

@@ -1,6 +1,5 @@
 //! The codes of findings: what each means, an example and its correction, as a page for each and as
 //! a document of all.
-#![tactic(auto)]
 
 mod code;
 mod page;
