@@ -1,6 +1,7 @@
 //! What the program `rinqebo` prints: the settings of a test or of each test, the rules of a
 //! setting, the leaves of a configuration, and what is wrong with files, as a text, with colours or
-//! without, and in three forms for other programs; and the codes of findings (`codes`).
+//! without, and in three forms for other programs; the codes of findings (`codes`), and the JSON
+//! schema of its documents (`schema`).
 #![tactic(auto)]
 
 mod advice;
@@ -29,6 +30,7 @@ mod origin;
 mod origin_text;
 mod piece;
 mod report;
+mod schema;
 mod toml_text;
 mod value;
 mod why_page;
@@ -59,5 +61,6 @@ pub use report::{
     Asked, BuiltFor, Condition, ConditionAnswer, Content, Entry, ListScripts, ListWrapper, Report,
     Rule, RunMode, SettingRow, TestId, TestRows, Unreached, Verdict,
 };
+pub use schema::DOCUMENT_SCHEMA;
 pub use toml_text::value_text;
 pub use value::{ReportedDuration, Scalar, TableMember, Value};

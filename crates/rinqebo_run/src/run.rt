@@ -38,12 +38,11 @@ use nextest_config::Setting;
 use nextest_shape::schema_page;
 use rinqebo_findings::find_test;
 use rinqebo_load::{Failure, Session};
-use rinqebo_report::{Colour, Content, Format, Report, render, render_findings};
+use rinqebo_report::{Colour, Content, DOCUMENT_SCHEMA, Format, Report, render, render_findings};
 use rinqebo_request::{
     GatherFault, Gathered, ParseStop, Question, Request, RequestedSettings, RequestedTest,
 };
 use rinqebo_rules::Progress;
-use rinqebo_schema::DOCUMENT_SCHEMA;
 use std::alloc::{AllocError, Global};
 use std::io::Write;
 
