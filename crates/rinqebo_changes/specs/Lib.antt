@@ -15,3 +15,4 @@ pub mod MarkdownPage
 pub mod Keyed
 pub mod Laws
 pub mod WholeGroups
+pub mod Sides

@@ -1,5 +1,6 @@
 //! What changes between two sides of a configuration: which settings of which tests have other
-//! values, put together by value and origin.
+//! values, put together by value and origin. In `sides` is what both sides have: the tests that
+//! both of their lists have, and what each gives to the whole run.
 #![tactic(auto)]
 
 mod arrow;
@@ -15,6 +16,7 @@ mod laws;
 mod markdown_page;
 mod same;
 mod same_origin;
+mod sides;
 mod text_page;
 mod texts;
 
@@ -31,4 +33,5 @@ pub use laws::{
 };
 pub use markdown_page::diff_markdown;
 pub use same_origin::TwoSources;
+pub use sides::{Matched, Pair, law_own_tests, match_tests, run_rows};
 pub use text_page::diff_text;

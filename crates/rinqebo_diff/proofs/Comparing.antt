@@ -12,7 +12,7 @@ use Rattle.rinqebo_report.specs.declared.report.TestRows.{TestRows}
 use Rattle.rinqebo_request.specs.declared.request.RequestedSettings.{RequestedSettings}
 use Rattle.rinqebo_rules.specs.TestOrigins.{Basis}
 use Rattle.rinqebo_diff.specs.Compared.{AreCompared, IsComparedBy}
-use Rattle.rinqebo_sides.specs.Matched.{TestPair}
+use Rattle.rinqebo_changes.specs.Sides.Matched.{TestPair}
 
 kept_more : {X : Type 0} (rs : List (Option X)) (r : Option X)
     → filter_map (λ q. q) (rs ++ r ∷ []) ≡ filter_map (λ q. q) rs ++ option_to_list r

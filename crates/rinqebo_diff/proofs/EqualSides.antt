@@ -29,9 +29,9 @@ use Rattle.rinqebo_diff.specs.EqualSides.{GivesOneRun, NoTestChanges}
 use Rattle.rinqebo_diff.specs.RunChanges.{AreRunChangesIf}
 use Rattle.rinqebo_diff.specs.Sides.{Evaluation}
 use Rattle.rinqebo_diff.specs.declared.request.DiffRequest.{DiffRequest}
-use Rattle.rinqebo_sides.proofs.Own.{own_tests}
-use Rattle.rinqebo_sides.specs.Matched.{ArePairs, IsOneTest, TestPair}
-use Rattle.rinqebo_sides.specs.Own.{NamesOnce}
+use Rattle.rinqebo_changes.proofs.sides.Own.{own_tests}
+use Rattle.rinqebo_changes.specs.Sides.Matched.{ArePairs, IsOneTest, TestPair}
+use Rattle.rinqebo_changes.specs.Sides.Own.{NamesOnce}
 
 -- a reported value without how it is kept
 abbrev plain_scalar : shown.ReportedScalar → plain.PlainScalar

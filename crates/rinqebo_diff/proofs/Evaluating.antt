@@ -30,9 +30,9 @@ use Rattle.rinqebo_rules.specs.Trees.{trees_of}
 use Rattle.rinqebo_run.specs.Listed.{IsProfileOn}
 use Rattle.rinqebo_run.specs.ListedBy.{read_by}
 use Rattle.rinqebo_run.specs.ShownConfig.{AreShown}
-use Rattle.rinqebo_sides.specs.Matched.{pair_view, AreMatched}
-use Rattle.rinqebo_sides.specs.declared.matched.Matched.{Matched}
-use Rattle.rinqebo_sides.specs.declared.matched.Pair.{Pair}
+use Rattle.rinqebo_changes.specs.Sides.Matched.{pair_view, AreMatched}
+use Rattle.rinqebo_changes.specs.declared.sides.matched.Matched.{Matched}
+use Rattle.rinqebo_changes.specs.declared.sides.matched.Pair.{Pair}
 use Rattle.rinqebo_run.proofs.Listing.{given_means}
 use Rattle.rinqebo_diff.specs.Compared.{AreCompared}
 use Rattle.rinqebo_diff.specs.Differences.{Differs, IsCountOf, IsIdOf}

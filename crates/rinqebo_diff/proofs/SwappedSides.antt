@@ -19,7 +19,7 @@ use Rattle.rinqebo_diff.specs.Compared.{AreCompared, IsComparedBy}
 use Rattle.rinqebo_diff.specs.Differences.{SideReports}
 use Rattle.rinqebo_diff.specs.Sides.{Evaluation}
 use Rattle.rinqebo_diff.specs.SwappedSides.{swapped_pair, HaveSwapped, IsSwapped}
-use Rattle.rinqebo_sides.specs.Matched.{TestPair}
+use Rattle.rinqebo_changes.specs.Sides.Matched.{TestPair}
 
 -- what changes for a test, and what does from the other side
 abbrev Swaps : Option TestChanges → Option TestChanges → Type 0

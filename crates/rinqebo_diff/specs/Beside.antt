@@ -5,7 +5,7 @@ use Rattle.filter_inputs.specs.Lists.Lists.{Listed}
 use Rattle.filter_inputs.specs.Lists.ListView.{list_test_view}
 use Rattle.rinqebo_diff.specs.Differences.{IsCountOf, IsIdOf}
 use Rattle.rinqebo_diff.specs.declared.sides.Beside.{Beside}
-use Rattle.rinqebo_sides.specs.declared.matched.Matched.{Matched}
+use Rattle.rinqebo_changes.specs.declared.sides.matched.Matched.{Matched}
 
 -- The binaries of a list, and how many tests each has, and the names of matched tests that one list
 -- has alone.

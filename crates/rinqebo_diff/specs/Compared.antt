@@ -13,7 +13,7 @@ use Rattle.rinqebo_report.specs.declared.report.TestRows.{TestRows}
 use Rattle.rinqebo_request.specs.declared.request.RequestedSettings.{RequestedSettings}
 use Rattle.rinqebo_rules.specs.Rows.{IsTestReported}
 use Rattle.rinqebo_rules.specs.TestOrigins.{Basis}
-use Rattle.rinqebo_sides.specs.Matched.{TestPair}
+use Rattle.rinqebo_changes.specs.Sides.Matched.{TestPair}
 
 -- A side reports rows of a test: those that its profile gives to the test.
 abbrev pub ReportsBy : {M : Type 0} → (M → Test → M → Bool) → Basis → EvaluatableModel M

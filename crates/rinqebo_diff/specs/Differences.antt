@@ -16,7 +16,7 @@ use Rattle.rinqebo_request.specs.declared.request.RequestedSettings.{RequestedSe
 use Rattle.rinqebo_run.specs.ListedBy.{basis_of}
 use Rattle.rinqebo_diff.specs.Asked.{compares_runs}
 use Rattle.rinqebo_diff.specs.Compared.{AreCompared, ReportsBy}
-use Rattle.rinqebo_sides.specs.Matched.{TestPair, ArePairs, is_in}
+use Rattle.rinqebo_changes.specs.Sides.Matched.{TestPair, ArePairs, is_in}
 use Rattle.rinqebo_diff.specs.RunChanges.{AreRunChangesIf}
 use Rattle.rinqebo_diff.specs.Sides.{Evaluation, IsEvaluationOf, IsSideOf}
 use Rattle.rinqebo_diff.specs.Written.{IsRendered, ReportsDiff}

@@ -5,7 +5,7 @@ use Rattle.filter_inputs.specs.Lists.Lists.{ListTest}
 use Rattle.rinqebo_changes.specs.Keyed.{AreAlike}
 use Rattle.rinqebo_changes.specs.declared.change.TestChanges.{TestChanges}
 use Rattle.rinqebo_report.specs.declared.report.SettingRow.{SettingRow}
-use Rattle.rinqebo_sides.specs.Matched.{is_in}
+use Rattle.rinqebo_changes.specs.Sides.Matched.{is_in}
 use Rattle.rinqebo_diff.specs.RunChanges.{AreRunRowsOf}
 use Rattle.rinqebo_diff.specs.Sides.{Evaluation}
 

@@ -11,7 +11,7 @@ use Rattle.rinqebo_report.specs.declared.report.SettingRow.{SettingRow}
 use Rattle.rinqebo_rules.specs.Scripts.{AreScriptsReported}
 use Rattle.rinqebo_rules.specs.Trees.{trees_of}
 use Rattle.rinqebo_run.specs.ShownConfig.{AreShown}
-use Rattle.rinqebo_sides.specs.RunRows.{AreRunRows}
+use Rattle.rinqebo_changes.specs.Sides.RunRows.{AreRunRows}
 use Rattle.rinqebo_diff.specs.Sides.{Evaluation}
 
 -- Rows are what a side gives to the whole run: the leaves of its profile that count, and the

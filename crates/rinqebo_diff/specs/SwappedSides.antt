@@ -6,7 +6,7 @@ use Rattle.rinqebo_changes.specs.Laws.{swapped}
 use Rattle.rinqebo_changes.specs.declared.change.SideRow.{SideRow}
 use Rattle.rinqebo_changes.specs.declared.change.TestChanges.{TestChanges}
 use Rattle.rinqebo_report.specs.declared.report.TestRows.{TestRows}
-use Rattle.rinqebo_sides.specs.Matched.{TestPair}
+use Rattle.rinqebo_changes.specs.Sides.Matched.{TestPair}
 use Rattle.rinqebo_diff.specs.Compared.{AreCompared}
 
 -- a pair, from the other side

@@ -7,13 +7,12 @@ ghost use Rattle.filter_engine.specs.Engine.{filter_holds};
 ghost use Rattle.nextest_settings.specs.Profiles.Meaning.{profile_meaning};
 ghost use Rattle.rinqebo_changes.specs.Changes.{is_change};
 ghost use Rattle.rinqebo_diff.specs.Compared.{ReportsBy, AreCompared, IsComparedBy};
-ghost use Rattle.rinqebo_sides.specs.Matched.{pair_view};
+ghost use Rattle.rinqebo_changes.specs.Sides.Matched.{pair_view};
 
 use filter_engine::{NextestFilters, NextestTally};
 use platform_language::TargetSpecs;
-use rinqebo_changes::{Comparison, TestChanges, changes_of};
+use rinqebo_changes::{Comparison, Pair, TestChanges, changes_of};
 use rinqebo_rules::{Lister, Origins, Progress};
-use rinqebo_sides::Pair;
 use std::alloc::{AllocError, Global};
 
 /// How the tests of a side are evaluated.

@@ -6,8 +6,8 @@ ghost use Rattle.rinqebo_changes.specs.declared.change.TestChanges.{TestChanges 
 ghost use Rattle.rinqebo_changes.specs.declared.diff.Diff.{Diff as Comparison};
 ghost use Rattle.rinqebo_report.specs.declared.origin.Source.{Source as File};
 ghost use Rattle.rinqebo_request.specs.declared.request.RequestedSettings.{RequestedSettings as Asked};
-ghost use Rattle.rinqebo_sides.specs.Matched.{ArePairs, TestPair};
-ghost use Rattle.rinqebo_sides.specs.Own.{NamesOnce};
+ghost use Rattle.rinqebo_changes.specs.Sides.Matched.{ArePairs, TestPair};
+ghost use Rattle.rinqebo_changes.specs.Sides.Own.{NamesOnce};
 ghost use Rattle.rinqebo_diff.specs.Asked.{compares_runs};
 ghost use Rattle.rinqebo_diff.specs.Compared.{AreCompared};
 ghost use Rattle.rinqebo_diff.specs.Differences.{SideReports, tests_of, diff_status, IsDiffOf};

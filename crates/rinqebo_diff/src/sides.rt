@@ -10,7 +10,7 @@ ghost use Rattle.rinqebo_diff.specs.Compared.{AreCompared};
 ghost use Rattle.rinqebo_diff.specs.Differences.{SideReports, IsCountOf, IsDiffOf, IsIdOf};
 ghost use Rattle.rinqebo_diff.specs.Beside.{IsBeside};
 ghost use Rattle.rinqebo_diff.specs.Evaluated.{evaluation_of, IsDiffOfLoaded, IsEvaluated};
-ghost use Rattle.rinqebo_sides.specs.Matched.{pair_view, AreMatched};
+ghost use Rattle.rinqebo_changes.specs.Sides.Matched.{pair_view, AreMatched};
 ghost use Rattle.rinqebo_diff.specs.RunChanges.{AreRunChangesIf, AreRunRowsOf};
 ghost use Rattle.rinqebo_diff.specs.Sides.{IsSideOf};
 
@@ -19,14 +19,14 @@ use crate::loaded::Loaded;
 use crate::request::{DiffRequest, DiffSide};
 use filter_inputs::{ListedBinary, ListedTest};
 use rinqebo_changes::{
-    BinaryTests, Comparison, Diff, RowChange, Side, TestChanges, TwoSources, keyed_changes,
+    BinaryTests, Comparison, Diff, Matched, Pair, RowChange, Side, TestChanges, TwoSources,
+    keyed_changes, match_tests, run_rows,
 };
 use rinqebo_load::chain_of_profile;
 use rinqebo_report::{SettingRow, TestId};
 use rinqebo_request::sources_of;
 use rinqebo_rules::{Origins, Progress, reported_platform};
 use rinqebo_run::{Profile, entries_in, profile_on, requested_of, scripts_of_list};
-use rinqebo_sides::{Matched, Pair, match_tests, run_rows};
 use std::alloc::{AllocError, Global};
 
 /// What a side is compared by.

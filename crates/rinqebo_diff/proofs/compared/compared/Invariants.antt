@@ -5,7 +5,7 @@ use Rattle.filter_engine.specs.Engine.{filter_holds}
 use Rattle.nextest_settings.specs.Profiles.Meaning.{profile_meaning}
 use Rattle.rinqebo_changes.specs.Changes.{is_change}
 use Rattle.rinqebo_diff.specs.Compared.{ReportsBy, AreCompared}
-use Rattle.rinqebo_sides.specs.Matched.{pair_view}
+use Rattle.rinqebo_changes.specs.Sides.Matched.{pair_view}
 use Rattle.rinqebo_diff.proofs.compared.compared.Given as goal
 
 -- the pairs so far are compared

@@ -3,7 +3,7 @@ use Rattle.filter_engine.specs.Engine.{filter_holds}
 use Rattle.filter_language.specs.Filtersets.{marks_view}
 use Rattle.nextest_settings.specs.Profiles.Meaning.{profile_meaning}
 use Rattle.rinqebo_changes.specs.Changes.{is_change}
-use Rattle.rinqebo_sides.specs.Matched.{pair_view}
+use Rattle.rinqebo_changes.specs.Sides.Matched.{pair_view}
 use Rattle.rinqebo_diff.specs.Compared.{ReportsBy}
 use Rattle.rinqebo_diff.proofs.Comparing.{compared_by}
 use Rattle.rinqebo_diff.proofs.compared.compared_pair.Goals as goal

@@ -9,7 +9,7 @@ use Rattle.rinqebo_request.specs.declared.request.RequestedSettings.{RequestedSe
 use Rattle.rinqebo_rules.specs.TestOrigins.{Basis}
 use Rattle.rinqebo_run.proofs.Listing.{basis_here}
 use Rattle.rinqebo_run.specs.ListedBy.{basis_of}
-use Rattle.rinqebo_sides.specs.Matched.{pair_view}
+use Rattle.rinqebo_changes.specs.Sides.Matched.{pair_view}
 use Rattle.rinqebo_diff.specs.Asked.{compares_runs}
 use Rattle.rinqebo_diff.specs.Compared.{AreCompared, ReportsBy}
 use Rattle.rinqebo_diff.proofs.Comparing.{renamed}

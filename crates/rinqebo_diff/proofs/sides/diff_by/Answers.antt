@@ -1,6 +1,6 @@
 use Rattle.std.proofs.Common.{arith, map}
 use Rattle.std.proofs.lemmas.List.{length-map}
-use Rattle.rinqebo_sides.specs.Matched.{pair_view}
+use Rattle.rinqebo_changes.specs.Sides.Matched.{pair_view}
 use Rattle.rinqebo_diff.proofs.Evaluating.{alone_as, compared_as, counted_as}
 use Rattle.rinqebo_diff.proofs.sides.diff_by.Goals as goal
 

@@ -1,6 +1,6 @@
 use Rattle.std.proofs.lemmas.Result.{IfOk-weaker}
 use Rattle.rinqebo_diff.proofs.Evaluating.{shown_of}
-use Rattle.rinqebo_sides.specs.RunRows.{AreRunRows}
+use Rattle.rinqebo_changes.specs.Sides.RunRows.{AreRunRows}
 use Rattle.rinqebo_diff.specs.Evaluated.{evaluation_of}
 use Rattle.rinqebo_diff.specs.RunChanges.{AreRunRowsOf}
 use Rattle.rinqebo_diff.proofs.sides.rows_of_run.Goals as goal

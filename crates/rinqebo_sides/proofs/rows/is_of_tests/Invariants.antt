@@ -1,9 +1,0 @@
-use Rattle.std.proofs.Common.{◌≡◌, false, take}
-use Rattle.std.specs.List.{list_any}
-use Rattle.nextest_settings.specs.Settings.{settings}
-use Rattle.rinqebo_sides.specs.RunRows.{is_of_setting}
-use Rattle.rinqebo_sides.proofs.rows.is_of_tests.Given as goal
-
--- the key is that of no setting so far
-abbrev pub invariant-loop-setting : goal.invariant-loop-setting
-invariant-loop-setting l = list_any (is_of_setting l.key) (take l.setting-index settings) ≡ false
