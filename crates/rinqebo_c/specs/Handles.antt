@@ -6,7 +6,7 @@ use denote.Memory.{hidden_shr}
 use denote.RattleType.{RattleType}
 use denote.RawPtr.{Ptr, block_ptr, null_ptr, lies_at}
 use mir.Syntax.{erased}
-use Rattle.rinqebo_compare.specs.Comparisons.{IsComparedRun}
+use Rattle.rinqebo_resolve.specs.Comparison.Comparisons.{IsComparedRun}
 use Rattle.rinqebo_resolve.specs.Pieces.{IsRunOf}
 use Rattle.rinqebo_resolve.specs.contracts.run.Run.{the_row as run_row}
 use Rattle.rinqebo_resolve.specs.declared.run.Run.{Run}

@@ -7,7 +7,7 @@ ghost use base.Fraction.{full_share};
 ghost use contract.BorrowLft.{◌⊑◌};
 ghost use denote.RawPtr.{lies_at, room_at};
 ghost use types.Logic.{sem};
-ghost use Rattle.rinqebo_compare.specs.Comparisons.{IsCompared, IsDiffFor, counts_origins};
+ghost use Rattle.rinqebo_resolve.specs.Comparison.Comparisons.{IsCompared, IsDiffFor, counts_origins};
 ghost use Rattle.rinqebo_resolve.specs.Endings.{IsAnswerTo, IsResolved, IsSilent, ending_status, ending_text};
 ghost use Rattle.rinqebo_resolve.specs.Pieces.{IsPieceOf};
 ghost use Rattle.rinqebo_resolve.specs.contracts.run.Run.{the_row as run_row};
@@ -25,8 +25,7 @@ ghost use Rattle.rinqebo_session.specs.declared.profile.Profile.{Profile};
 ghost use Rattle.rinqebo_session.specs.declared.session.Session.{Session};
 ghost use Rattle.rinqebo_c.specs.Handles.{compared, finished, lent_run, loaded, lent, profile_row, opened, lent_profile};
 
-use rinqebo_compare::{compare, compared_run};
-use rinqebo_resolve::{Run, resolve};
+use rinqebo_resolve::{Run, compare, compared_run, resolve};
 use rinqebo_session::version::{copy_version, version_number};
 use rinqebo_session::{CallerTest, Profile, Session, SettingNumbers};
 use std::alloc::Global;

@@ -1,3 +1,4 @@
 pub mod Asking
 pub mod Endings
 pub mod Pieces
+pub mod Comparison

@@ -35,15 +35,15 @@ use denote.Triple.Table.{framed}
 use denote.Triple.Walked.{Stay, Stays, walk_of, stay_dropped, Goes, Goes-dropped, ends_at}
 use Rattle.std.specs.contracts.alloc.Global as heap
 use Rattle.std.proofs.alloc.Global.TheLaws as heap_laws
-use Rattle.rinqebo_compare.specs.Comparisons.{IsComparedRun}
+use Rattle.rinqebo_resolve.specs.Comparison.Comparisons.{IsComparedRun}
 use Rattle.rinqebo_resolve.specs.declared.run.Run.{Run}
 use Rattle.rinqebo_resolve.specs.contracts.run.Run.{the_row}
 use Rattle.rinqebo_resolve.proofs.run.Run.TheLaws as held
 use Rattle.rinqebo_c.specs.contracts.calls.rinqebo_diff_new as f
 use Rattle.rinqebo_c.proofs.calls.rinqebo_diff_new.Statement.{statement}
 use Rattle.rinqebo_c.proofs.calls.rinqebo_diff_new.Code as code
-use Rattle.rinqebo_compare.specs.contracts.compared_run as g
-use Rattle.rinqebo_compare.proofs.compared_run.Met.{met}
+use Rattle.rinqebo_resolve.specs.contracts.compared_run as g
+use Rattle.rinqebo_resolve.proofs.compared_run.Met.{met}
 
 -- a value of one MIR type is one machine value
 one : (τ : Ty) (vs : List Val) → Typed (τ ∷ []) vs → (v : Val) × (vs ≡ v ∷ []) × (T (has_ty τ v) × WT v)
@@ -148,7 +148,7 @@ rinqebo_diff_new_spec 𝓤 𝓛 𝓜 𝓡 wired =
     move ! (2 ∷ 0 ∷ []) $ fjoin ! $ move ! (2 ∷ 0 ∷ []) $ fjoin ! $ move ! (2 ∷ 0 ∷ []) $ join ! $
     nothing ! $ move ! (1 ∷ 0 ∷ []) $ join ! $ use1 𝓛 (raw (G.pre y)) (id⊢ 𝓤 _) $
     calls_at ! (framed 𝓤 𝓛.H 𝓜 (tables 𝓤 𝓛.H 𝓜 𝓡 𝓡.env)) G
-    (met 𝓤 𝓛 𝓜 𝓡 (code.calls-rinqebo_compare::compared_run 𝓡.env wired)) y
+    (met 𝓤 𝓛 𝓜 𝓡 (code.calls-rinqebo_resolve::compared_run 𝓡.env wired)) y
     (and_then ! (get ! refl) (and_then ! (get ! refl)
     (and_then ! (get ! refl) (and_then ! (get ! refl) (and_then ! (get ! refl) (no_more !)))))) (λ v.
     use1 𝓛 (later (some (λ (s : Run).

@@ -1,10 +1,10 @@
 -- How comparisons end.
 use Rattle.std.proofs.Common.{◌≡◌, ℕ, Bool, List, Option, None, Some, Result, Ok, Err, IfOk, inl, inr, refl, subst}
 use Rattle.std.specs.Str.{IsUtf8}
-use Rattle.rinqebo_compare.specs.Comparisons.{EndsBetween, EndsFor, EndsIn, EndsOf, EndsUnderstood, FailsOn, HoldsOn, IsCauseOn}
-use Rattle.rinqebo_compare.specs.Readings.{IsNoRequest}
-use Rattle.rinqebo_compare.specs.Requests.{IsRequestBetween}
-use Rattle.rinqebo_compare.specs.declared.comparing.Compared.{Compared}
+use Rattle.rinqebo_resolve.specs.Comparison.Comparisons.{EndsBetween, EndsFor, EndsIn, EndsOf, EndsUnderstood, FailsOn, HoldsOn, IsCauseOn}
+use Rattle.rinqebo_resolve.specs.Comparison.Readings.{IsNoRequest}
+use Rattle.rinqebo_resolve.specs.Comparison.Requests.{IsRequestBetween}
+use Rattle.rinqebo_resolve.specs.declared.comparison.comparing.Compared.{Compared}
 use Rattle.rinqebo_diff.specs.Failing.{DiffFails, SideFails}
 use Rattle.rinqebo_diff.specs.declared.loaded.DiffFailure.TheVariants as wants
 use Rattle.rinqebo_diff.specs.declared.loaded.SideName.{SideName}

@@ -2,7 +2,7 @@
 use Rattle.std.proofs.Common.{◌≡◌, ◌∙◌, ◌⊎◌, ◌<◌, ◌≤◌, inl, inr, ℕ, Bool, Global, List, Option, None, Some, ap, arith, drop, length, refl, String, string_bytes, subst, sym, take}
 use Rattle.std.proofs.Math.Seq.{take-append_seam}
 use Rattle.std.proofs.lemmas.Bool.{cases_lt}
-use Rattle.rinqebo_compare.specs.Comparisons.{EndsFor, EndsUnderstood, IsCompared, IsDiffFor, counts_origins, side_number}
+use Rattle.rinqebo_resolve.specs.Comparison.Comparisons.{EndsFor, EndsUnderstood, IsCompared, IsDiffFor, counts_origins, side_number}
 use Rattle.rinqebo_diff.specs.declared.loaded.SideName.{SideName}
 use Rattle.rinqebo_diff.specs.declared.loaded.SideName.TheVariants as names
 use Rattle.rinqebo_resolve.specs.Endings.{ending_status, ending_text}

@@ -1,5 +1,5 @@
-use Rattle.rinqebo_compare.proofs.Endings.{ends_in}
-use Rattle.rinqebo_compare.proofs.comparing.ended_in.Goals as goal
+use Rattle.rinqebo_resolve.proofs.comparison.Endings.{ends_in}
+use Rattle.rinqebo_resolve.proofs.comparison.comparing.ended_in.Goals as goal
 
 pub returns : goal.returns
 returns c =

@@ -2,15 +2,17 @@
 ghost use Rattle.std.specs.Prelude.{IfOk};
 ghost use Rattle.rinqebo_forms.specs.Runs.{run_view};
 ghost use Rattle.rinqebo_resolve.specs.Asking.{requested_view};
-ghost use Rattle.rinqebo_compare.specs.Comparisons.{EndsBetween, EndsFor, EndsIn, EndsOf};
-ghost use Rattle.rinqebo_compare.specs.Readings.{IsReadingOf};
+ghost use Rattle.rinqebo_resolve.specs.Comparison.Comparisons.{EndsBetween, EndsFor, EndsIn, EndsOf};
+ghost use Rattle.rinqebo_resolve.specs.Comparison.Readings.{IsReadingOf};
 
-use crate::request::request_of;
+use crate::asking::{RequestedRun, parted};
+use crate::comparison::request::request_of;
+use crate::ending::Ending;
+use crate::resolving::ending_of_failure;
 use rinqebo_changes::diff_json;
 use rinqebo_diff::{DiffFailure, DiffRequest, SideName, diff_answer};
 use rinqebo_forms::{RequestFault, RunRequest};
 use rinqebo_request::Gathered;
-use rinqebo_resolve::{Ending, RequestedRun, ending_of_failure, parted};
 use rinqebo_rules::NoProgress;
 use std::alloc::{AllocError, Global};
 

@@ -1,8 +1,8 @@
 use Rattle.rinqebo_forms.specs.Runs.{run_view}
-use Rattle.rinqebo_compare.specs.Comparisons.{IsUnderstood}
-use Rattle.rinqebo_compare.proofs.Endings.{understood, unread}
+use Rattle.rinqebo_resolve.specs.Comparison.Comparisons.{IsUnderstood}
+use Rattle.rinqebo_resolve.proofs.comparison.Endings.{understood, unread}
 use Rattle.rinqebo_diff.specs.declared.loaded.SideName.TheVariants as names
-use Rattle.rinqebo_compare.proofs.comparing.compared_with_memory.Goals as goal
+use Rattle.rinqebo_resolve.proofs.comparison.comparing.compared_with_memory.Goals as goal
 
 pub returns-in-Ended : goal.returns-in-Ended
 returns-in-Ended c =

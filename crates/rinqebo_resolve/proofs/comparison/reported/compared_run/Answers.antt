@@ -1,6 +1,6 @@
 use Rattle.std.proofs.Common.{◌∙◌}
-use Rattle.rinqebo_compare.proofs.Receiving.{done_with}
-use Rattle.rinqebo_compare.proofs.reported.compared_run.Goals as goal
+use Rattle.rinqebo_resolve.proofs.comparison.Receiving.{done_with}
+use Rattle.rinqebo_resolve.proofs.comparison.reported.compared_run.Goals as goal
 
 pub returns : goal.returns
 returns c =

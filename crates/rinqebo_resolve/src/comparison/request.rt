@@ -1,11 +1,11 @@
 //! The request of the program for what changes between two runs.
 ghost use Rattle.std.specs.Prelude.{IfOk};
 ghost use Rattle.rinqebo_resolve.specs.Asking.{requested_view};
-ghost use Rattle.rinqebo_compare.specs.Requests.{IsRequestBetween, IsSideFor};
+ghost use Rattle.rinqebo_resolve.specs.Comparison.Requests.{IsRequestBetween, IsSideFor};
 
+use crate::asking::RequestedRun;
 use rinqebo_diff::{ComparedSettings, DiffFormat, DiffRequest, DiffSide};
 use rinqebo_report::{Colour, Paper};
-use rinqebo_resolve::RequestedRun;
 use std::alloc::{AllocError, Global};
 
 /// A side: what a run requests of its files.

@@ -1,6 +1,5 @@
 //! One call for what changes between two runs: it takes two requests in JSON, and writes the
 //! document that the program writes for `diff --format json`.
-#![tactic(auto)]
 
 mod comparing;
 mod reported;

@@ -1,5 +1,5 @@
-use Rattle.rinqebo_compare.proofs.Endings.{side_fails}
-use Rattle.rinqebo_compare.proofs.comparing.ended.Goals as goal
+use Rattle.rinqebo_resolve.proofs.comparison.Endings.{side_fails}
+use Rattle.rinqebo_resolve.proofs.comparison.comparing.ended.Goals as goal
 
 pub returns-in_ok-ending_of_failure-in-Err-Side : goal.returns-in_ok-ending_of_failure-in-Err-Side
 returns-in_ok-ending_of_failure-in-Err-Side c =

@@ -1,6 +1,6 @@
 use Rattle.rinqebo_forms.specs.Runs.{run_view}
-use Rattle.rinqebo_compare.proofs.Endings.{ends_of}
-use Rattle.rinqebo_compare.proofs.comparing.ended_of.Goals as goal
+use Rattle.rinqebo_resolve.proofs.comparison.Endings.{ends_of}
+use Rattle.rinqebo_resolve.proofs.comparison.comparing.ended_of.Goals as goal
 
 pub returns : goal.returns
 returns c =

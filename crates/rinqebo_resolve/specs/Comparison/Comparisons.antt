@@ -3,7 +3,7 @@ use Rattle.std.specs.Prelude.{◌≡◌, ℕ, ◌==◌, not, Bool, List, Option,
 use Rattle.std.specs.Str.{IsUtf8}
 use Rattle.rinqebo_changes.specs.Documents.{IsDiffJson}
 use Rattle.rinqebo_changes.specs.declared.diff.Diff.{Diff}
-use Rattle.rinqebo_compare.specs.Requests.{IsRequestBetween}
+use Rattle.rinqebo_resolve.specs.Comparison.Requests.{IsRequestBetween}
 use Rattle.rinqebo_diff.specs.Differences.{Differs}
 use Rattle.rinqebo_diff.specs.Failing.{IsRefusedSide, LacksItsProfile, Loads, SideFails}
 use Rattle.rinqebo_diff.specs.declared.loaded.SideName.{SideName}

@@ -2,11 +2,11 @@
 ghost use Rattle.std.specs.Prelude.{◌≡◌, take};
 ghost use Rattle.rinqebo_resolve.specs.Endings.{IsSilent};
 ghost use Rattle.rinqebo_session.specs.declared.status.TheConstants.{DONE};
-ghost use Rattle.rinqebo_compare.specs.Comparisons.{counts_origins, side_number, IsCompared, IsComparedRun, IsDiffFor};
+ghost use Rattle.rinqebo_resolve.specs.Comparison.Comparisons.{counts_origins, side_number, IsCompared, IsComparedRun, IsDiffFor};
 
-use crate::comparing::{Compared, compared_for};
+use crate::comparison::comparing::{Compared, compared_for};
+use crate::run::Run;
 use rinqebo_diff::SideName;
-use rinqebo_resolve::Run;
 use std::alloc::Global;
 
 /// Whether a value that is the same and comes from elsewhere is a change too: unless the number is

@@ -1,8 +1,8 @@
 -- What the bytes of a request are.
 use Rattle.std.specs.Prelude.{◌≡◌, ℕ, List, None, Some}
 use Rattle.std.specs.Str.{IsUtf8}
-use Rattle.rinqebo_compare.specs.declared.comparing.Reading.{Reading}
-use Rattle.rinqebo_compare.specs.declared.comparing.Reading.TheVariants as readings
+use Rattle.rinqebo_resolve.specs.declared.comparison.comparing.Reading.{Reading}
+use Rattle.rinqebo_resolve.specs.declared.comparison.comparing.Reading.TheVariants as readings
 use Rattle.rinqebo_forms.specs.Runs.{run_of, run_view}
 use Rattle.rinqebo_resolve.specs.declared.ending.Ending.{Ending}
 use Rattle.rinqebo_resolve.specs.declared.ending.Ending.TheVariants as ends

@@ -1,6 +1,6 @@
-use Rattle.rinqebo_compare.proofs.Receiving.{reported_document}
+use Rattle.rinqebo_resolve.proofs.comparison.Receiving.{reported_document}
 use Rattle.rinqebo_resolve.proofs.Silent.{reported_kept}
-use Rattle.rinqebo_compare.proofs.reported.compare.Goals as goal
+use Rattle.rinqebo_resolve.proofs.comparison.reported.compare.Goals as goal
 
 pub returns-clause-compared : goal.returns-clause-compared
 returns-clause-compared c = record {

@@ -1,2 +1,0 @@
-mod Endings
-mod Receiving
