@@ -11,6 +11,7 @@
 //! | `schema` | a place of a configuration file, and its shape (`schema.rt`) |
 //! | `platform` | the spec of platforms, read, or evaluated on a platform (`platform.rt`) |
 //! | `filter` | a filter and a test (`filter.rt`) |
+//! | `spans` | a text, of which the tokens, items and paths are printed (`spans.rt`) |
 //!
 //! For a line of another form the program prints an error on standard error, and ends with status 2.
 #![tactic(auto)]
@@ -22,6 +23,7 @@ mod place;
 mod platform;
 mod row;
 mod schema;
+mod spans;
 mod value;
 
 use filter_engine::NextestFilters;
@@ -40,6 +42,7 @@ enum Kind {
     Schema,
     Platform,
     Filter,
+    Spans,
 }
 
 impl Kind {
@@ -52,6 +55,7 @@ impl Kind {
             "schema" => Ok(Kind::Schema),
             "platform" => Ok(Kind::Platform),
             "filter" => Ok(Kind::Filter),
+            "spans" => Ok(Kind::Spans),
             _ => Err(RowError::NoRow),
         }
     }
@@ -77,6 +81,7 @@ impl<'a> Defined<'a> {
             Kind::Schema => schema::answer_to(alloc, row).map(Some),
             Kind::Platform => platform::answer_to(alloc, &mut self.platforms, row),
             Kind::Filter => filter::answer_to(alloc, &mut self.filters, row),
+            Kind::Spans => spans::answer_to(alloc, row).map(Some),
         }
     }
 }
