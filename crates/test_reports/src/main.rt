@@ -41,6 +41,8 @@
 //! | `unreached SOURCE NAME ..` | checks that were not reached |
 //! | `print FORM ..` | what is printed: `text`, `colour`, `grouped`, `json`, `findings`, `concise`, `coloured-concise` or `github:FOLDER` |
 //! | `nearest NAME KNOWN ..` | the known name that is nearest to a name is printed |
+//! | `codes` | the document of the codes of findings is printed, and their list |
+//! | `code WORD` | the page of a code is printed |
 //!
 //! A range is the line and the column of its start, and then those of its end. A page has 200
 //! columns, or the number behind its form and a colon, as in `text:40`.
@@ -49,6 +51,7 @@
 #![tactic(auto)]
 
 mod builder;
+mod codes;
 mod found;
 mod line;
 mod parts;

@@ -1,5 +1,6 @@
 //! What is printed of a line.
 use crate::builder::Builder;
+use crate::codes::{all_codes, page_of};
 use crate::line::{Line, RowError};
 use rinqebo_report::{Colour, Format, Paper, Report, nearest_name, render, render_findings};
 use std::alloc::{AllocError, Global};
@@ -9,6 +10,8 @@ pub fn printed(alloc: Global, builder: &mut Builder, line: &Line) -> Result<Stri
     match line.word(0)? {
         "print" => printed_report(alloc, builder, line),
         "nearest" => nearest(alloc, line),
+        "codes" => Ok(all_codes(alloc)?),
+        "code" => Ok(page_of(alloc, line.word(1)?)?),
         _ => {
             builder.take(line)?;
             Ok(String::new(alloc))
