@@ -12,6 +12,7 @@
 //! | `platform` | the spec of platforms, read, or evaluated on a platform (`platform.rt`) |
 //! | `filter` | a filter and a test (`filter.rt`) |
 //! | `spans` | a text, of which the tokens, items and paths are printed (`spans.rt`) |
+//! | `report` | a line of a report, which is printed in its forms, or a page of codes (`reports.rt`) |
 //!
 //! For a line of another form the program prints an error on standard error, and ends with status 2.
 #![tactic(auto)]
@@ -21,6 +22,7 @@ mod faults;
 mod filter;
 mod place;
 mod platform;
+mod reports;
 mod row;
 mod schema;
 mod spans;
@@ -43,6 +45,7 @@ enum Kind {
     Platform,
     Filter,
     Spans,
+    Report,
 }
 
 impl Kind {
@@ -56,6 +59,7 @@ impl Kind {
             "platform" => Ok(Kind::Platform),
             "filter" => Ok(Kind::Filter),
             "spans" => Ok(Kind::Spans),
+            "report" => Ok(Kind::Report),
             _ => Err(RowError::NoRow),
         }
     }
@@ -68,6 +72,8 @@ struct Defined<'a> {
     platforms: Vec<TargetRow<'a>>,
     /// The engine of filters, with the packages of the last row that gives some.
     filters: NextestFilters,
+    /// The report, as far as its rows are read.
+    builder: reports::Builder,
 }
 
 impl<'a> Defined<'a> {
@@ -82,6 +88,7 @@ impl<'a> Defined<'a> {
             Kind::Platform => platform::answer_to(alloc, &mut self.platforms, row),
             Kind::Filter => filter::answer_to(alloc, &mut self.filters, row),
             Kind::Spans => spans::answer_to(alloc, row).map(Some),
+            Kind::Report => reports::answer_to(alloc, &mut self.builder, row),
         }
     }
 }
@@ -92,6 +99,7 @@ fn main(rt: HostRuntime) -> io::Result<ExitCode> {
     let mut defined = Defined {
         platforms: Vec::new(alloc),
         filters: NextestFilters::new(),
+        builder: reports::Builder::new(alloc),
     };
     for line in text.lines() {
         if line.is_empty() || line.starts_with("#") {

@@ -1,7 +1,8 @@
 //! What is printed of a line.
-use crate::builder::Builder;
-use crate::codes::{all_codes, page_of};
-use crate::line::{Line, RowError};
+use crate::reports::builder::Builder;
+use crate::reports::codes::{all_codes, page_of};
+use crate::reports::line::Line;
+use crate::row::RowError;
 use rinqebo_report::{Colour, Format, Paper, Report, nearest_name, render, render_findings};
 use std::alloc::{AllocError, Global};
 

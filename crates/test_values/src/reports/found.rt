@@ -1,6 +1,7 @@
 //! Findings, by the words of lines.
-use crate::line::{Line, RowError};
-use crate::parts::{expression_of, place_of};
+use crate::reports::line::Line;
+use crate::reports::parts::{expression_of, place_of};
+use crate::row::RowError;
 use rinqebo_report::{CharSpan, Finding, HelpPlace, Level, LinePart, Sign, SourceLine};
 use std::alloc::{AllocError, Global};
 

@@ -1,8 +1,7 @@
-//! Prints reports in each of their forms.
+//! Reports in each of their forms, and the pages of codes.
 //!
-//! The reports come on standard input. Empty lines and lines that begin with `#` are comments. Each
-//! other line has words with tabs between them, in which `\n`, `\t`, `\e` and `\\` are the end of a
-//! line, a tab, an escape and a backslash; `-` means nothing. It is one of these:
+//! A row has words with tabs between them, in which `\n`, `\t`, `\e` and `\\` are the end of a line,
+//! a tab, an escape and a backslash; `-` means nothing. It is one of these:
 //!
 //! | Line | Meaning |
 //! |---|---|
@@ -46,10 +45,6 @@
 //!
 //! A range is the line and the column of its start, and then those of its end. A page has 200
 //! columns, or the number behind its form and a colon, as in `text:40`.
-//!
-//! A line of another form is reported on standard error, and the status is 2.
-#![tactic(auto)]
-
 mod builder;
 mod codes;
 mod found;
@@ -57,35 +52,22 @@ mod line;
 mod parts;
 mod print;
 
-use builder::Builder;
-use line::{Line, RowError};
+use crate::row::RowError;
+pub use builder::Builder;
+use line::Line;
 use print::printed;
-use std::io;
-use std::process::ExitCode;
+use std::alloc::Global;
 
-fn main(rt: HostRuntime) -> io::Result<ExitCode> {
-    let alloc = rt.alloc();
-    let text = io::read_to_string(alloc, rt.stdin())?;
-    let mut builder = Builder::new(alloc);
-    for line in text.lines() {
-        if line.is_empty() || line.starts_with("#") {
-            continue;
-        }
-        let shown = match Line::read(alloc, line) {
-            Ok(words) => printed(alloc, &mut builder, &words),
-            Err(error) => Err(error),
-        };
-        match shown {
-            Ok(shown) => print!(rt; "{shown}")?,
-            Err(RowError::NoRow) => {
-                eprintln!(rt; "error: no line of a report: `{line}`")?;
-                return Ok(ExitCode::from(2));
-            }
-            Err(RowError::Memory) => {
-                eprintln!(rt; "error: out of memory")?;
-                return Ok(ExitCode::from(2));
-            }
-        }
+/// What is printed for a row: nothing, for most.
+pub fn answer_to(
+    alloc: Global,
+    builder: &mut Builder,
+    row: &str,
+) -> Result<Option<String>, RowError> {
+    let line = Line::read(alloc, row)?;
+    let text = printed(alloc, builder, &line)?;
+    match text.as_str().strip_suffix("\n") {
+        Some(lines) => Ok(Some(String::from_str(alloc, lines)?)),
+        None => Ok(None),
     }
-    Ok(ExitCode::SUCCESS)
 }

@@ -1,7 +1,8 @@
 //! Puts a report together, line by line.
-use crate::found::{complete, finding_of};
-use crate::line::{Line, RowError};
-use crate::parts::{answer_of, origin_of, scalar_of, verdict_of, written_of};
+use crate::reports::found::{complete, finding_of};
+use crate::reports::line::Line;
+use crate::reports::parts::{answer_of, origin_of, scalar_of, verdict_of, written_of};
+use crate::row::RowError;
 use rinqebo_report::{
     Asked, BuiltFor, Condition, ConditionAnswer, Content, Entry, Finding, ListScripts, ListWrapper,
     Origin, Report, Rule, RunMode, Scalar, SettingRow, Source, SourceKind, TableMember, TestId,

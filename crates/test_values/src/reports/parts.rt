@@ -1,5 +1,6 @@
 //! Parts of a report, by the words of a line.
-use crate::line::{Line, RowError};
+use crate::reports::line::Line;
+use crate::row::RowError;
 use rinqebo_report::{
     CharSpan, ConditionAnswer, FileLines, FilePlace, Origin, Part, Position, Range,
     RefusedExpression, ReportedDuration, Scalar, Verdict, Written,

@@ -1,18 +1,6 @@
 //! Lines of words with tabs between them.
+use crate::row::RowError;
 use std::alloc::{AllocError, Global};
-
-/// Why a line is none of a report.
-#[derive(Clone, Copy)]
-pub enum RowError {
-    NoRow,
-    Memory,
-}
-
-impl From<AllocError> for RowError {
-    fn from(_error: AllocError) -> RowError {
-        RowError::Memory
-    }
-}
 
 /// The words of a line.
 #[derive(Drop)]
