@@ -1,5 +1,5 @@
 //! What is printed of a run.
-use crate::case::{Run, Setup};
+use super::case::{Run, Setup};
 use nextest_explain::explain;
 use std::alloc::{AllocError, Global};
 use test_cases::{Beginnings, Case, text_of};
