@@ -11,7 +11,7 @@ use Rattle.filter_inputs.specs.declared.packages.member_set.MemberSet.{MemberSet
 use Rattle.filter_inputs.specs.Packages.Edges.{DependsOn, Reaches, itself, onward}
 use Rattle.filter_inputs.specs.Packages.Graph.{Graph, IsMemberNamed, IsMatched, IsDependency, IsDependent}
 use Rattle.filter_inputs.specs.Packages.GraphView.{has_member}
-use Rattle.filter_inputs.proofs.packages.Reaching.{reaches_through}
+use Rattle.filter_inputs.proofs.Reaching.{reaches_through}
 use Rattle.filter_engine.specs.Members.{reaches, name_has, is_named, is_dependency, is_dependent}
 use Rattle.filter_engine.specs.Truth.{IsMemberWith, IsInDeps, IsInRdeps}
 

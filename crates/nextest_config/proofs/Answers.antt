@@ -4,7 +4,7 @@ use Rattle.std.specs.Result.{IfOk}
 use Rattle.nextest_engines.specs.Engines.{Test}
 use Rattle.nextest_settings.specs.Profiles.Meaning.{configured_meaning, profile_meaning}
 use Rattle.nextest_settings.specs.Profiles.Profiles.{IsProfileOf}
-use Rattle.nextest_settings.proofs.profiles.MeaningOfTexts.{profile_means}
+use Rattle.nextest_settings.proofs.MeaningOfTexts.{profile_means}
 use Rattle.nextest_settings.specs.Profile.{Configured, EarlyModel, EvaluatableModel, profile_on}
 use Rattle.nextest_tables.specs.FileTexts.{names_in, IsIn}
 use Rattle.nextest_tree.specs.Schema.{is_one_of}

@@ -11,7 +11,7 @@ use Rattle.nextest_inheritance.specs.Parents.{with_default}
 use Rattle.nextest_load.specs.Loading.{source_layer}
 use Rattle.nextest_load.specs.Trees.{own_file}
 use Rattle.nextest_load.proofs.Closing.{each_mapped, each_reversed}
-use Rattle.nextest_settings.proofs.profiles.EachRule.{each_image, each_gathered}
+use Rattle.nextest_settings.proofs.EachRuleOf.{each_image, each_gathered}
 use Rattle.nextest_rules.specs.Rules.{Compiled, WrittenFilter, OverrideUse, LayerProfile, Layer, at_name, written_filter, override_rule, layer_of}
 use Rattle.nextest_settings.specs.Chains.{FilterSection, at_override, at_profile, chosen_at, first_of, filter_of_profile, match_all_filter, nearest_filter, overrides_of}
 use Rattle.nextest_settings.specs.Platforms.{EvaluatedRule, filter_of_override, rule_on}

@@ -13,7 +13,7 @@ use Rattle.nextest_tables.specs.FileTexts.{names_in}
 use Rattle.nextest_tables.specs.View.{by_name}
 use Rattle.nextest_tables.specs.Written.{Name}
 use Rattle.nextest_tree.specs.Schema.{is_one_of}
-use Rattle.nextest_settings.proofs.profiles.KnowsScripts.{fused}
+use Rattle.nextest_settings.proofs.KnowsScripts.{fused}
 
 key_at : {X : Type 0} (found same : Bool) (x : X) (later : Option X) (seen : Bool) → found ≡ same
     → is_some later ≡ seen → is_some (cond found (Some x) later) ≡ (same || seen)

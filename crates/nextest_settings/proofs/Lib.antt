@@ -21,3 +21,9 @@ pub mod EachRule
 pub mod Chains
 pub mod FirstOf
 pub mod Deciding
+pub use Rattle.nextest_settings.proofs.profiles.EachRule as EachRuleOf
+pub use Rattle.nextest_settings.proofs.profiles.IsAmong
+pub use Rattle.nextest_settings.proofs.profiles.IsLastGroup
+pub use Rattle.nextest_settings.proofs.profiles.KnowsScripts
+pub use Rattle.nextest_settings.proofs.profiles.MeaningOfTexts
+pub use Rattle.nextest_settings.proofs.profiles.ParentsIn

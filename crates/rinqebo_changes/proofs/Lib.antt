@@ -12,3 +12,5 @@ mod KeyedRows
 pub mod EqualRows
 mod WholeGroups
 mod WholeDiffs
+pub use Rattle.rinqebo_changes.proofs.sides.Own
+pub use Rattle.rinqebo_changes.proofs.sides.Zips

@@ -29,7 +29,7 @@ use Rattle.rinqebo_diff.specs.EqualSides.{GivesOneRun, NoTestChanges}
 use Rattle.rinqebo_diff.specs.RunChanges.{AreRunChangesIf}
 use Rattle.rinqebo_diff.specs.Sides.{Evaluation}
 use Rattle.rinqebo_diff.specs.declared.request.DiffRequest.{DiffRequest}
-use Rattle.rinqebo_changes.proofs.sides.Own.{own_tests}
+use Rattle.rinqebo_changes.proofs.Own.{own_tests}
 use Rattle.rinqebo_changes.specs.Sides.Matched.{ArePairs, IsOneTest, TestPair}
 use Rattle.rinqebo_changes.specs.Sides.Own.{NamesOnce}
 

@@ -11,7 +11,7 @@ use Rattle.filter_engine.specs.declared.compiling.FieldMatcher.{FieldMatcher}
 use Rattle.nextest_inheritance.specs.Parents.{parents_in}
 use Rattle.nextest_load.specs.Config.{ConfigModel, config_parents}
 use Rattle.nextest_load.specs.Load.{Loaded}
-use Rattle.nextest_settings.proofs.profiles.MeaningOfTexts.{profile_means}
+use Rattle.nextest_settings.proofs.MeaningOfTexts.{profile_means}
 use Rattle.nextest_settings.specs.Profiles.Meaning.{configured_meaning, profile_meaning}
 use Rattle.nextest_settings.specs.Profiles.Profiles.{IsChainAndDefault}
 use Rattle.nextest_rules.specs.Rules.{OverrideUse, RuleId, ScriptRuleUse}

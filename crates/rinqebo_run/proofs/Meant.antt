@@ -9,7 +9,7 @@ use Rattle.nextest_engines.specs.declared.queries.BuildPlatforms.{BuildPlatforms
 use Rattle.nextest_inheritance.specs.Parents.{parents_in, with_default, IsChain}
 use Rattle.nextest_load.specs.Config.{ConfigModel, config_parents}
 use Rattle.nextest_load.specs.Meaning.{config_meaning}
-use Rattle.nextest_settings.proofs.profiles.MeaningOfTexts.{overrides_meaning, script_rules_meaning, profile_means}
+use Rattle.nextest_settings.proofs.MeaningOfTexts.{overrides_meaning, script_rules_meaning, profile_means}
 use Rattle.nextest_settings.specs.Profiles.Profiles.{IsChainAndDefault}
 use Rattle.nextest_settings.specs.Profiles.Meaning.{with_config, configured_meaning}
 use Rattle.nextest_rules.specs.Meaning.{rule_meaning, override_meaning, script_rule_meaning}

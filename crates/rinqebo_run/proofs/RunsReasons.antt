@@ -13,7 +13,7 @@ use Rattle.nextest_inheritance.specs.Parents.{parents_in, with_default, IsChain}
 use Rattle.nextest_load.specs.Config.{ConfigModel, config_parents}
 use Rattle.nextest_load.specs.Load.{Loaded}
 use Rattle.nextest_load.specs.Meaning.{config_meaning}
-use Rattle.nextest_settings.proofs.profiles.MeaningOfTexts.{overrides_meaning, profile_means}
+use Rattle.nextest_settings.proofs.MeaningOfTexts.{overrides_meaning, profile_means}
 use Rattle.nextest_settings.specs.Profiles.Profiles.{IsChainAndDefault}
 use Rattle.nextest_settings.specs.Profiles.Meaning.{with_config, configured_meaning}
 use Rattle.nextest_rules.specs.Meaning.{written_meaning, override_meaning}

@@ -3,7 +3,7 @@ use Rattle.std.specs.Cmp.Lexicographic.{slice_cmp}
 use Rattle.std.specs.List.Sorted.{IsStrictlySortedBy}
 use Rattle.std.specs.Map.{keys_of}
 use Rattle.nextest_config.proofs.IsNotFound.{names_ascend}
-use Rattle.nextest_settings.proofs.profiles.KnowsScripts.{fused}
+use Rattle.nextest_settings.proofs.KnowsScripts.{fused}
 use Rattle.nextest_config.proofs.config.names_of_profiles.Goals as goal
 
 pub returns-clause-all : goal.returns-clause-all

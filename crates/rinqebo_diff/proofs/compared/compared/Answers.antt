@@ -6,7 +6,7 @@ use Rattle.nextest_settings.specs.Profiles.Meaning.{profile_meaning}
 use Rattle.rinqebo_diff.specs.Compared.{ReportsBy}
 use Rattle.rinqebo_changes.specs.Sides.Matched.{pair_view}
 use Rattle.rinqebo_diff.proofs.Comparing.{compared_more, compared_none, moved_bases}
-use Rattle.rinqebo_changes.proofs.sides.Zips.{taken_read}
+use Rattle.rinqebo_changes.proofs.Zips.{taken_read}
 use Rattle.rinqebo_diff.proofs.compared.compared.Goals as goal
 
 pub loop-pair-init : goal.loop-pair-init

@@ -1,6 +1,6 @@
 use Rattle.filter_inputs.specs.Lists.ListView.{listed_view}
 use Rattle.rinqebo_diff.specs.Differences.{IsCountOf}
-use Rattle.rinqebo_changes.proofs.sides.Zips.{zip_more}
+use Rattle.rinqebo_changes.proofs.Zips.{zip_more}
 use Rattle.rinqebo_diff.proofs.sides.counts_of.Goals as goal
 
 pub loop-binary-preserved : goal.loop-binary-preserved

@@ -1,7 +1,7 @@
 use Rattle.std.proofs.Common.{refl}
 use Rattle.filter_inputs.specs.Lists.ListView.{list_test_view}
 use Rattle.rinqebo_diff.specs.Differences.{IsIdOf}
-use Rattle.rinqebo_changes.proofs.sides.Zips.{zip_more}
+use Rattle.rinqebo_changes.proofs.Zips.{zip_more}
 use Rattle.rinqebo_diff.proofs.sides.ids_of.Goals as goal
 
 pub loop-test-preserved : goal.loop-test-preserved

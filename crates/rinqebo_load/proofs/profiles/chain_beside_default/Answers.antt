@@ -2,8 +2,8 @@ use Rattle.std.proofs.Common.{◌≡◌, ◌∙◌, ap, subst, true, IfOk}
 use Rattle.nextest_inheritance.specs.Parents.{parents_in, HasOneChain, IsChain}
 use Rattle.nextest_inheritance.specs.View.{borrowed_view}
 use Rattle.nextest_load.specs.Config.{config_parents}
-use Rattle.nextest_settings.proofs.profiles.EachRule.{each_at}
-use Rattle.nextest_settings.proofs.profiles.ParentsIn.{parents_written, parents_same, keys_same}
+use Rattle.nextest_settings.proofs.EachRuleOf.{each_at}
+use Rattle.nextest_settings.proofs.ParentsIn.{parents_written, parents_same, keys_same}
 use Rattle.nextest_tables.specs.FileTexts.{names_in}
 use Rattle.nextest_tree.specs.Schema.{is_one_of}
 use Rattle.rinqebo_load.proofs.profiles.chain_beside_default.Goals as goal

@@ -1,6 +1,6 @@
 use Rattle.std.proofs.Common.{◌≡◌, ◌∙◌, List, ap, map, sym}
 use Rattle.nextest_engines.specs.Engines.{test_view}
-use Rattle.nextest_settings.proofs.profiles.KnowsScripts.{fused}
+use Rattle.nextest_settings.proofs.KnowsScripts.{fused}
 use Rattle.nextest_settings.specs.Profiles.Meaning.{profile_meaning}
 use Rattle.nextest_rules.specs.Rules.{ScriptRuleUse}
 use Rattle.nextest_scripts.specs.ScriptId.{script_text}

@@ -1,5 +1,5 @@
 use Rattle.std.proofs.Common.{◌∙◌, ap, sym}
-use Rattle.nextest_settings.proofs.profiles.KnowsScripts.{fused}
+use Rattle.nextest_settings.proofs.KnowsScripts.{fused}
 use Rattle.nextest_sources.specs.WarningsView.{warning_view}
 use Rattle.rinqebo_objects.specs.WarningObjects.{warning_data, warnings_data}
 use Rattle.serde_json.specs.Data.{array}

@@ -1,6 +1,6 @@
 use Rattle.std.proofs.Common.{◌≡◌, ◌∙◌, append-nil, sym, map, string_bytes}
 use Rattle.std.specs.Map.{keys_of}
-use Rattle.nextest_settings.proofs.profiles.KnowsScripts.{fused}
+use Rattle.nextest_settings.proofs.KnowsScripts.{fused}
 use Rattle.rinqebo_run.proofs.list_objects.names_of_profiles.Goals as goal
 
 pub returns : goal.returns

@@ -1,6 +1,6 @@
 use Rattle.std.proofs.Common.{◌≡◌, ◌∙◌, append-nil, map, sym}
 use Rattle.std.specs.Map.{keys_of}
-use Rattle.nextest_settings.proofs.profiles.KnowsScripts.{fused}
+use Rattle.nextest_settings.proofs.KnowsScripts.{fused}
 use Rattle.nextest_scripts.specs.ScriptId.{script_text}
 use Rattle.rinqebo_session.proofs.profile.ids_of.Goals as goal
 

@@ -3,7 +3,7 @@ use Rattle.nextest_config.specs.Answers.{Question}
 use Rattle.nextest_config.specs.ConfigView.{configured_in}
 use Rattle.nextest_config.proofs.Answers.{asked_profile}
 use Rattle.nextest_elements.specs.declared.run_mode.NextestRunMode.TheVariants.{Test}
-use Rattle.nextest_settings.proofs.profiles.KnowsScripts.{fused}
+use Rattle.nextest_settings.proofs.KnowsScripts.{fused}
 use Rattle.nextest_scripts.specs.ScriptId.{script_text}
 use Rattle.nextest_scripts.specs.ScriptTexts.{wrapper_script_view}
 use Rattle.nextest_tables.specs.FileTexts.{names_in}

@@ -3,8 +3,8 @@ use Rattle.nextest_settings.specs.Queries.{query_in, test_query, written_value, 
 use Rattle.nextest_settings.specs.declared.setting.Setting.TheVariants.{TestGroup}
 use Rattle.nextest_inheritance.proofs.WithDefault.{all_different}
 use Rattle.nextest_load.proofs.Closing.{groups_closed}
-use Rattle.nextest_settings.proofs.profiles.IsAmong.{group_known}
-use Rattle.nextest_settings.proofs.profiles.IsLastGroup.{last_given, gets_by_name, whole_group}
+use Rattle.nextest_settings.proofs.IsAmong.{group_known}
+use Rattle.nextest_settings.proofs.IsLastGroup.{last_given, gets_by_name, whole_group}
 use Rattle.nextest_config.specs.Laws.{meant_by, profile_by}
 use Rattle.nextest_config.proofs.ScriptsAreEnabledInOrder.{in_order}
 use Rattle.nextest_config.proofs.run.laws.law_users.Goals as goal

@@ -1,0 +1,1 @@
+pub use Rattle.filter_inputs.proofs.packages.Reaching
