@@ -1,5 +1,5 @@
 //! Writes texts to the streams of a run, and returns exit statuses.
-ghost use Rattle.std.specs.Prelude.{◌≡◌, ◌⊎◌, IsOk};
+ghost use Rattle.std.specs.Prelude.{◌≡◌, ◌⊎◌, IsOk, OnOk, flat_map};
 ghost use Rattle.std.specs.Io.KnownBytes.{Appends};
 
 use crate::status::Status;
@@ -24,6 +24,29 @@ pub fn print_text<W: Write>(text: &str, status: u8, out: &mut W) -> u8
     ensures written { (result ≡ 6) ⊎ Appends (W.contents out.old) (W.contents out.new) text.now }
 {
     if out.write_all(text.as_bytes()).is_err() {
+        return Status::Write as u8;
+    }
+    status_of_write(out.flush(), status)
+}
+
+/// Writes texts one after another.
+fn write_texts<W: Write>(texts: &[&str], out: &mut W) -> io::Result<()>
+    ensures { OnOk result (Appends (W.contents out.old) (W.contents out.new)
+        (flat_map (λ text. text.now) texts.now)) }
+{
+    for text in texts {
+        out.write_all(text.as_bytes())?;
+    }
+    Ok(())
+}
+
+/// Writes texts one after another, and returns a status, or 6 where a write fails.
+pub fn print_texts<W: Write>(texts: &[&str], status: u8, out: &mut W) -> u8
+    ensures status { (result ≡ status) ⊎ (result ≡ 6) }
+    ensures written { (result ≡ 6) ⊎ Appends (W.contents out.old) (W.contents out.new)
+        (flat_map (λ text. text.now) texts.now) }
+{
+    if write_texts(texts, out).is_err() {
         return Status::Write as u8;
     }
     status_of_write(out.flush(), status)

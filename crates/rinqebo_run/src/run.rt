@@ -1,5 +1,5 @@
 //! Runs a request, and writes its result.
-ghost use Rattle.std.specs.Prelude.{◌≡◌, ◌⊎◌, ◌++◌, [], ◌∷◌, IfOk, IfErr, IfSome};
+ghost use Rattle.std.specs.Prelude.{◌≡◌, ◌⊎◌, ◌++◌, [], ◌∷◌, IfOk, IfErr, IfSome, flat_map};
 ghost use Rattle.std.specs.Io.KnownBytes.{Appends};
 ghost use Rattle.std.specs.Result.{result_map_both};
 ghost use Rattle.nextest_shape.specs.FileForm.{file_form};
@@ -25,7 +25,7 @@ use crate::list::list;
 use crate::list_fault::ListFault;
 use crate::list_page::RequestedList;
 use crate::list_text::write_list;
-use crate::printing::{print_text, refuse_for_memory, refuse_message};
+use crate::printing::{print_text, print_texts, refuse_for_memory, refuse_message};
 use crate::progress::ProgressLine;
 use crate::read_files::add_read_files;
 use crate::refusing::{refuse, refuse_in};
@@ -384,9 +384,10 @@ pub fn print_schema<O: Write, E: Write>(alloc: Global, out: &mut O, err: &mut E)
 pub fn print_document_schema<O: Write>(out: &mut O) -> u8
     ensures status { (result ≡ 0) ⊎ (result ≡ 6) }
     ensures page { (result ≡ 6)
-        ⊎ Appends (O.contents out.old) (O.contents out.new) DOCUMENT_SCHEMA.now }
+        ⊎ Appends (O.contents out.old) (O.contents out.new)
+        (flat_map (λ part. part.now) DOCUMENT_SCHEMA) }
 {
-    print_text(DOCUMENT_SCHEMA, Status::Success as u8, out)
+    print_texts(&DOCUMENT_SCHEMA, Status::Success as u8, out)
 }
 
 /// Reports why words are not a request, and returns the exit status. Help goes to standard output.
