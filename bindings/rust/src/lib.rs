@@ -41,8 +41,9 @@ pub use document::{
 };
 pub use error::Error;
 pub use objects::{
-    Command, FinalStatusLevel, GlobalTimeout, JunitFile, ListTest, MaxFail, Objects, RelativeTo, RunSettings,
-    ScriptReport, ScriptTimeout, SetupScript, StatusLevel, TargetRunner, TestThreads, Warning, WrapperScript,
+    Command, FinalStatusLevel, GlobalTimeout, JunitFile, JunitOrigins, ListTest, MaxFail, ObjectOrigins, Objects,
+    RelativeTo, RunOrigins, RunSettings, ScriptReport, ScriptTimeout, SetupScript, StatusLevel, TargetRunner,
+    TestThreads, TimeoutOrigins, Warning, WrapperScript,
 };
 use room::Room;
 pub use run::{resolve, resolve_json, RunRequest};

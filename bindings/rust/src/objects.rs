@@ -1,6 +1,6 @@
 //! What a runner needs of a profile beside the settings of tests.
 
-use crate::document::{Finding, Level};
+use crate::document::{Finding, Level, Origin};
 use crate::settings::{Group, GroupThreads, LeakTimeout};
 use crate::spelled;
 use serde::{Deserialize, Serialize};
@@ -194,6 +194,51 @@ pub struct WrapperScript {
     pub target_runner: TargetRunner,
 }
 
+/// Where the two timeouts of a whole run come from.
+#[derive(Clone, Debug, PartialEq, Eq, Serialize, Deserialize)]
+#[serde(rename_all = "kebab-case")]
+#[non_exhaustive]
+pub struct TimeoutOrigins {
+    pub test: Vec<Origin>,
+    pub benchmark: Vec<Origin>,
+}
+
+/// Where the report of a run comes from.
+#[derive(Clone, Debug, PartialEq, Eq, Serialize, Deserialize)]
+#[serde(rename_all = "kebab-case")]
+#[non_exhaustive]
+pub struct JunitOrigins {
+    pub path: Vec<Origin>,
+    pub report_name: Vec<Origin>,
+}
+
+/// Where the values of a profile for a whole run come from.
+#[derive(Clone, Debug, PartialEq, Eq, Serialize, Deserialize)]
+#[serde(rename_all = "kebab-case")]
+#[non_exhaustive]
+pub struct RunOrigins {
+    pub inherits: Vec<Origin>,
+    pub test_threads: Vec<Origin>,
+    pub max_fail: Vec<Origin>,
+    pub global_timeout: TimeoutOrigins,
+    pub status_level: Vec<Origin>,
+    pub final_status_level: Vec<Origin>,
+    pub junit: JunitOrigins,
+    pub store_dir: Vec<Origin>,
+    pub default_filter: Vec<Origin>,
+    pub run_extra_args: Vec<Origin>,
+}
+
+/// Where the values of a run and the groups come from.
+#[derive(Clone, Debug, PartialEq, Eq, Serialize, Deserialize)]
+#[serde(rename_all = "kebab-case")]
+#[non_exhaustive]
+pub struct ObjectOrigins {
+    pub run: RunOrigins,
+    /// Where the numbers of threads of the groups come from, by the groups' names.
+    pub groups: BTreeMap<String, Vec<Origin>>,
+}
+
 /// What a runner needs of a profile beside the settings of tests. The library writes it in JSON, for a session and in
 /// the document of a run.
 #[derive(Clone, Debug, PartialEq, Eq, Serialize, Deserialize)]
@@ -210,6 +255,8 @@ pub struct Objects {
     /// The warnings of the load.
     #[serde(rename = "findings")]
     pub warnings: Vec<Warning>,
+    /// Where the values of `run` and the groups come from. A session does not know it, and has `None` here.
+    pub origins: Option<ObjectOrigins>,
 }
 
 /// A warning of a load, as the library writes it in JSON.

@@ -1,7 +1,7 @@
 //! The library through its safe types.
 
 use rinqebo::{Backoff, Config, Display, Error, Group, GroupThreads, Machine, Mode, Outcome, Platform, Sources, Test, Threads};
-use rinqebo::{resolve, resolve_json, Document, Level, OriginKind, RunRequest, SourceKind};
+use rinqebo::{resolve, resolve_json, Document, Level, Origin, OriginKind, RunRequest, SourceKind};
 use rinqebo::{version, version_number, VERSION, VERSION_NUMBER};
 use rinqebo::{File, ReadOutcome, Refusal, ToolFile};
 use rinqebo::{FinalStatusLevel, Finding, ListTest, MaxFail, Objects, RelativeTo, StatusLevel, TargetRunner};
@@ -730,9 +730,45 @@ fn a_run_has_the_objects_of_its_profile() {
             for script in &mut listed.setup_scripts {
                 assert_eq!(script.tests.take(), Some(Vec::new()));
             }
+            // It does not keep where files write values.
+            assert!(listed.origins.take().is_some());
             assert_eq!(listed, objects);
         }
     }
+}
+
+#[test]
+fn a_run_says_where_its_objects_come_from() {
+    let list = example("list.json");
+    let sources = Sources::of_file("/w", RUNNER, TRIPLE);
+    let request = RunRequest { sources: &sources, profile: "ci", mode: Mode::Test, list: &list };
+    let origins = resolve(&request).unwrap().objects.origins.unwrap();
+    let text = |line: usize| RUNNER.lines().nth(line - 1).unwrap();
+    // The line of the one origin in the file, and the profile that writes it.
+    let written = |origins: &[Origin]| -> (String, Option<String>) {
+        let [origin] = origins else { panic!("one origin: {origins:?}") };
+        assert_eq!(origin.source, Some(1));
+        (text(origin.lines.unwrap().0).to_owned(), origin.profile.clone())
+    };
+    let of = |profile: &str, line: &str| (line.to_owned(), Some(profile.to_owned()));
+    let run = &origins.run;
+    assert_eq!(written(&run.test_threads), of("default", "test-threads = -2"));
+    assert_eq!(written(&run.max_fail), of("ci", "fail-fast = { max-fail = 3 }"));
+    assert_eq!(written(&run.global_timeout.test), of("default", "global-timeout = \"1h\""));
+    assert_eq!(written(&run.status_level), of("default", "status-level = \"retry\""));
+    assert_eq!(written(&run.final_status_level), of("quick", "final-status-level = \"slow\""));
+    assert_eq!(written(&run.junit.path), of("ci", "path = \"junit.xml\""));
+    assert_eq!(written(&run.junit.report_name), of("ci", "report-name = \"all\""));
+    assert_eq!(written(&run.inherits), of("ci", "inherits = \"quick\""));
+    assert_eq!(written(&run.default_filter), of("quick", "default-filter = \"not test(/^slow::/)\""));
+    assert_eq!(written(&run.run_extra_args), of("ci", "run-extra-args = [\"--show-output\"]"));
+    let kinds = |origins: &[Origin]| origins.iter().map(|origin| origin.kind).collect::<Vec<_>>();
+    assert_eq!(kinds(&run.store_dir), [OriginKind::DefaultTable]);
+    assert_eq!(kinds(&run.global_timeout.benchmark), [OriginKind::DefaultTable]);
+    assert_eq!(kinds(&origins.groups["db"]), [OriginKind::File]);
+    assert_eq!(written(&origins.groups["db"]), ("max-threads = 2".to_owned(), None));
+    assert_eq!(written(&origins.groups["net"]), ("max-threads = \"num-cpus\"".to_owned(), None));
+    assert_eq!(origins.groups.len(), 2);
 }
 
 #[test]
@@ -799,6 +835,7 @@ fn objects_are_written_as_they_are_read() {
     assert_eq!(written["groups"][1], json!({"name": "net", "max-threads": "num-cpus"}));
     assert_eq!(written["setup-scripts"][0]["slow-timeout"]["period"], json!("90s"));
     assert_eq!(written["setup-scripts"][0]["tests"], json!(null));
+    assert_eq!(written["origins"], json!(null));
 }
 
 #[test]

@@ -17,13 +17,22 @@ use Rattle.nextest_sources.specs.Warnings.{Warning, unknown_keys, reserved_profi
 use Rattle.nextest_tables.specs.Written.{Name}
 use Rattle.rinqebo_report.specs.declared.codes.code.Code.{Code}
 use Rattle.rinqebo_objects.specs.Enabling.{Enabling, enabling_data, test_data}
+use Rattle.rinqebo_objects.specs.Origins.{object_origins_data, optional_origins_data, report_origins_data, run_origins_data, timeout_origins_data, with_bound_origins, with_name_origins, with_output_origins}
 use Rattle.rinqebo_objects.specs.Objects.{objects_data, run_data, with_bounds, with_names, with_output}
 use Rattle.rinqebo_objects.specs.Scripts.{Directories, command_data, group_data, setup_script_data, wrapper_script_data, variables_data}
 use Rattle.rinqebo_objects.specs.Values.{global_timeout_data, leak_data, max_fail_data, optional_data, report_data, slow_data, threads_data}
 use Rattle.rinqebo_objects.specs.WarningObjects.{warning_data, warning_of}
+use Rattle.rinqebo_objects.specs.declared.origins.BoundOrigins.{BoundOrigins}
+use Rattle.rinqebo_objects.specs.declared.origins.GroupOrigins.{GroupOrigins}
+use Rattle.rinqebo_objects.specs.declared.origins.NameOrigins.{NameOrigins}
+use Rattle.rinqebo_objects.specs.declared.origins.ObjectOrigins.{ObjectOrigins}
+use Rattle.rinqebo_objects.specs.declared.origins.OutputOrigins.{OutputOrigins}
+use Rattle.rinqebo_objects.specs.declared.origins.RunOrigins.{RunOrigins}
 use Rattle.rinqebo_objects.specs.declared.run.RunSettings.{RunSettings}
 use Rattle.rinqebo_report.proofs.Exact.{IsExact, AreExact, exact_text, exact_null, exact_truth, exact_list, no_more, and_member, exact_object, exact_put, exact_puts}
-use Rattle.rinqebo_report.specs.Documents.{count_data, list_data}
+use Rattle.rinqebo_report.proofs.ExactDocuments.{deeper, origin}
+use Rattle.rinqebo_report.specs.declared.origin.Origin.{Origin}
+use Rattle.rinqebo_report.specs.Documents.{count_data, list_data, origin_data}
 use Rattle.serde_json.specs.Data.{Data, null, number, string, no_members, Members, depth}
 use Rattle.serde_json.specs.Find.{of_integer}
 use Rattle.serde_json.specs.Written.{has_float}
@@ -141,26 +150,70 @@ warning (deprecated_scripts source) = warned _ source [] null null (exact_null 2
 warning (empty_sections source profile times) =
     warned _ source [] (string profile) (count_data times) (exact_text 2 profile) (count 2 times)
 
-objects : (facts : ProfileFacts) (run : RunSettings) (profiles : List Name) (ws : List Warning) (ds : Option Directories)
-    (en : Option Enabling) → IsExact 5 (objects_data facts run profiles ws ds en)
-objects facts run profiles ws ds en =
-    exact_object 4 (and_member _ (exact_list 3 warning_data warning ws)
-    (and_member _ (exact_list 3 group_data (group 2) facts.groups)
-    (and_member _ (run_is run profiles)
-    (and_member _ (exact_list 3 (setup_script_data ds en) (setup ds en) facts.scripts.setup)
-    (and_member _ (exact_list 3 (wrapper_script_data ds) (wrapper ds) facts.scripts.wrapper) (no_more 4))))))
+origins_are : (os : List Origin) → IsExact 4 (list_data origin_data os)
+origins_are os = exact_list 3 origin_data origin os
 
-within : (d : Data) → IsExact 5 d → depth d ≤ 8
-within d h = omega (arith, h.nests)
+origins_in : (os : List Origin) → IsExact 5 (list_data origin_data os)
+origins_in os = deeper 5 (origins_are os) (omega arith)
+
+timeout_from : (o : BoundOrigins) → IsExact 5 (timeout_origins_data o)
+timeout_from o =
+    exact_object 4 (and_member _ (origins_are o.benchmark_timeout.items)
+    (and_member _ (origins_are o.global_timeout.items) (no_more 4)))
+
+report_from : (o : OutputOrigins) → IsExact 5 (report_origins_data o)
+report_from o =
+    exact_object 4 (and_member _ (origins_are o.report_path.items)
+    (and_member _ (origins_are o.report_name.items) (no_more 4)))
+
+named_from : {ms : Members} (o : NameOrigins) → AreExact 5 ms → AreExact 5 (with_name_origins o ms)
+named_from o h =
+    exact_put (codes "run-extra-args") _ _ (origins_in o.run_extra_args.items)
+    (exact_put (codes "inherits") _ _ (origins_in o.inherits.items)
+    (exact_put (codes "default-filter") _ _ (origins_in o.default_filter.items) h))
+
+shown_from : {ms : Members} (o : OutputOrigins) → AreExact 5 ms → AreExact 5 (with_output_origins o ms)
+shown_from o h =
+    exact_put (codes "store-dir") _ _ (origins_in o.store_dir.items)
+    (exact_put (codes "status-level") _ _ (origins_in o.status_level.items)
+    (exact_put (codes "junit") _ _ (report_from o)
+    (exact_put (codes "final-status-level") _ _ (origins_in o.final_status_level.items) h)))
+
+bounded_from : {ms : Members} (o : BoundOrigins) → AreExact 5 ms → AreExact 5 (with_bound_origins o ms)
+bounded_from o h =
+    exact_put (codes "test-threads") _ _ (origins_in o.test_threads.items)
+    (exact_put (codes "max-fail") _ _ (origins_in o.max_fail.items)
+    (exact_put (codes "global-timeout") _ _ (timeout_from o) h))
+
+run_from : (o : RunOrigins) → IsExact 6 (run_origins_data o)
+run_from o = exact_object 5 (bounded_from o.bounds (shown_from o.output (named_from o.names (no_more 5))))
+
+object_from : (o : ObjectOrigins) → IsExact 7 (object_origins_data o)
+object_from o =
+    let groups = exact_object 5
+    (exact_puts 5 (λ (g : GroupOrigins). string_bytes g.name) (λ g. list_data origin_data g.origins.items)
+    (λ g. origins_in g.origins.items) o.groups.items no_members (no_more 5)) in
+    exact_object 6 (and_member _ groups (and_member _ (run_from o.run) (no_more 6)))
+
+objects : (facts : ProfileFacts) (run : RunSettings) (profiles : List Name) (ws : List Warning) (ds : Option Directories)
+    (en : Option Enabling) (os : Option ObjectOrigins) → IsExact 8 (objects_data facts run profiles ws ds en os)
+objects facts run profiles ws ds en os =
+    exact_object 7 (and_member _ (exact_list 6 warning_data (λ w. deeper 6 (warning w) (omega arith)) ws)
+    (and_member _ (exact_list 6 group_data (group 5) facts.groups)
+    (and_member _ (optional 7 object_origins_data object_from os)
+    (and_member _ (deeper 7 (run_is run profiles) (omega arith))
+    (and_member _ (exact_list 6 (setup_script_data ds en) (λ e. deeper 6 (setup ds en e) (omega arith)) facts.scripts.setup)
+    (and_member _ (exact_list 6 (wrapper_script_data ds) (λ e. deeper 6 (wrapper ds e) (omega arith)) facts.scripts.wrapper)
+    (no_more 7)))))))
 
 pub objects_nest : (facts : ProfileFacts) (run : RunSettings) (profiles : List Name) (ws : List Warning)
-    (ds : Option Directories) (en : Option Enabling) (value : Data) → value ≡ objects_data facts run profiles ws ds en
-    → depth value ≤ 8
-objects_nest facts run profiles ws ds en value same =
-    subst (λ (d : Data). depth d ≤ 8) (sym same) (within _ (objects facts run profiles ws ds en))
+    (ds : Option Directories) (en : Option Enabling) (os : Option ObjectOrigins) (value : Data)
+    → value ≡ objects_data facts run profiles ws ds en os → depth value ≤ 8
+objects_nest facts run profiles ws ds en os value same =
+    subst (λ (d : Data). depth d ≤ 8) (sym same) (objects facts run profiles ws ds en os).nests
 
 pub objects_are_whole : (facts : ProfileFacts) (run : RunSettings) (profiles : List Name) (ws : List Warning)
-    (ds : Option Directories) (en : Option Enabling) (value : Data) → value ≡ objects_data facts run profiles ws ds en
-    → has_float value ≡ false
-objects_are_whole facts run profiles ws ds en value same =
-    subst (λ (d : Data). has_float d ≡ false) (sym same) (objects facts run profiles ws ds en).whole
+    (ds : Option Directories) (en : Option Enabling) (os : Option ObjectOrigins) (value : Data)
+    → value ≡ objects_data facts run profiles ws ds en os → has_float value ≡ false
+objects_are_whole facts run profiles ws ds en os value same =
+    subst (λ (d : Data). has_float d ≡ false) (sym same) (objects facts run profiles ws ds en os).whole

@@ -9,9 +9,11 @@ use Rattle.nextest_settings.specs.Values.{nearest}
 use Rattle.nextest_sources.specs.Warnings.{Warning}
 use Rattle.nextest_tables.specs.Written.{Name}
 use Rattle.rinqebo_objects.specs.Enabling.{Enabling}
+use Rattle.rinqebo_objects.specs.Origins.{optional_origins_data}
 use Rattle.rinqebo_objects.specs.Scripts.{Directories, group_data, setup_script_data, wrapper_script_data}
 use Rattle.rinqebo_objects.specs.Values.{global_timeout_data, max_fail_data, optional_data, report_data, threads_data}
 use Rattle.rinqebo_objects.specs.WarningObjects.{warnings_data}
+use Rattle.rinqebo_objects.specs.declared.origins.ObjectOrigins.{ObjectOrigins}
 use Rattle.rinqebo_objects.specs.declared.run.RunSettings.{RunSettings}
 use Rattle.rinqebo_report.specs.Documents.{list_data}
 use Rattle.serde_json.specs.Data.{Data, string, object, Members, no_members, member, put}
@@ -65,23 +67,26 @@ abbrev pub run_data : RunSettings → List Name → Data
 run_data run profiles =
     object (with_bounds run (with_output run (with_names run profiles no_members)))
 
--- the objects of a profile, with the values that it has for a whole run
+-- the objects of a profile, with the values that it has for a whole run, and with where these and
+-- its groups come from
 abbrev pub objects_data : ProfileFacts → RunSettings → List Name → List Warning → Option Directories
-    → Option Enabling → Data
-objects_data facts run profiles warnings directories enabling =
+    → Option Enabling → Option ObjectOrigins → Data
+objects_data facts run profiles warnings directories enabling origins =
     object (member (codes "findings") (warnings_data warnings)
     (member (codes "groups") (list_data group_data facts.groups)
+    (member (codes "origins") (optional_origins_data origins)
     (member (codes "run") (run_data run profiles)
     (member (codes "setup-scripts")
     (list_data (setup_script_data directories enabling) facts.scripts.setup)
     (member (codes "wrappers") (list_data (wrapper_script_data directories) facts.scripts.wrapper)
-    no_members)))))
+    no_members))))))
 
 -- A value is the objects of a profile with a default filter of this text, among profiles of these
--- names, with the warnings of the load and with the tests of a list that enable each setup script.
+-- names, with the warnings of the load, with the tests of a list that enable each setup script, and
+-- with where the values of the run and the groups come from, if that is given.
 pub record AreObjectsOf (facts : ProfileFacts) (filter : List ℕ) (profiles : List Name)
     (warnings : List Warning) (directories : Option Directories) (enabling : Option Enabling)
-    (value : Data) : Type 0 where
+    (origins : Option ObjectOrigins) (value : Data) : Type 0 where
   pub run : RunSettings
   pub is_run : IsRunOf facts filter run
-  pub same : value ≡ objects_data facts run profiles warnings directories enabling
+  pub same : value ≡ objects_data facts run profiles warnings directories enabling origins

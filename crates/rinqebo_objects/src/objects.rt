@@ -11,6 +11,7 @@ ghost use Rattle.rinqebo_objects.specs.Objects.{AreObjectsOf, objects_data};
 ghost use Rattle.rinqebo_objects.specs.Scripts.{directories_view};
 
 use crate::groups::groups_json;
+use crate::origins::{ObjectOrigins, optional_origins_json};
 use crate::run::{RunSettings, run_json};
 use crate::scripts::{Directories, setup_scripts_json, wrapper_scripts_json};
 use crate::warnings::warnings_json;
@@ -30,6 +31,8 @@ pub struct Surroundings<'a> {
     pub warnings: &'a DefaultConfigWarnings,
     /// The directories that programs are relative to, if they are joined.
     pub directories: Option<Directories<'a>>,
+    /// Where the values of the run and the groups come from, if that is known.
+    pub origins: Option<&'a ObjectOrigins>,
 }
 
 /// The objects of a profile, with the values that it has for a whole run.
@@ -46,8 +49,9 @@ fn objects_with<F: Filters, S: Specs>(
         let directories = directories_view around.entry.directories in
         let listed = option_map (λ tests. map test_view tests.now) tests.entry in
         let enabling = enabling_in F.holds (profile_meaning F.meaning profile.now) listed in
+        let origins = option_map (λ origins. origins.now) around.entry.origins in
         IfOk result (λ value. view value
-        ≡ objects_data profile.now.facts run.now profiles warnings directories enabling) }
+        ≡ objects_data profile.now.facts run.now profiles warnings directories enabling origins) }
 {
     let scripts = profile.script_config();
     let findings = warnings_json(alloc, around.warnings)?;
@@ -62,18 +66,21 @@ fn objects_with<F: Filters, S: Specs>(
         tally,
     )?;
     let wrappers = wrapper_scripts_json(alloc, around.directories, &scripts.wrapper)?;
+    let origins = optional_origins_json(alloc, around.origins)?;
     json!(in alloc; {
         "run": run,
         "groups": groups,
         "setup-scripts": setup,
         "wrappers": wrappers,
-        "findings": findings
+        "findings": findings,
+        "origins": origins
     })
 }
 
-/// The objects of a profile: an object with the members `run`, `groups`, `setup-scripts`, `wrappers`
-/// and `findings`. Where the directories are given, programs are joined to them. Where the tests of
-/// a list are given, each setup script has those of them that enable it.
+/// The objects of a profile: an object with the members `run`, `groups`, `setup-scripts`,
+/// `wrappers`, `findings` and `origins`. If the directories are given, programs are joined to them.
+/// If the tests of a list are given, each setup script has those of them that enable it. If it is
+/// not given where the values of the run and the groups come from, `origins` is null.
 pub fn objects_json<F: Filters, S: Specs>(
     alloc: Global,
     profile: &EvaluatableProfile<'_, F, S>,
@@ -86,8 +93,9 @@ pub fn objects_json<F: Filters, S: Specs>(
         let directories = directories_view around.entry.directories in
         let listed = option_map (λ tests. map test_view tests.now) tests.entry in
         let enabling = enabling_in F.holds (profile_meaning F.meaning profile.now) listed in
+        let origins = option_map (λ origins. origins.now) around.entry.origins in
         IfOk result (λ objects. AreObjectsOf profile.now.facts profile.now.default_filter.text
-        profiles warnings directories enabling (view objects.value)) }
+        profiles warnings directories enabling origins (view objects.value)) }
 {
     let run = RunSettings::of(alloc, profile)?;
     let value = objects_with(alloc, profile, &run, around, tests, tally)?;
@@ -104,9 +112,10 @@ pub fn objects_text<F: Filters, S: Specs>(
     ensures { let profiles = map string_bytes around.entry.profiles.now in
         let warnings = warnings_view around.entry.warnings.now in
         let directories = directories_view around.entry.directories in
+        let origins = option_map (λ origins. origins.now) around.entry.origins in
         IfOk result (λ text. (value : Data)
         × AreObjectsOf profile.now.facts profile.now.default_filter.text profiles warnings
-        directories None value
+        directories None origins value
         × (string_bytes text ≡ compact_text value)) }
 {
     let objects = objects_json(alloc, profile, around, None, tally)?;

@@ -46,7 +46,7 @@ nothing : (n : ℕ) → IsExact (n + 1) (array no_items)
 nothing n = record { nests = omega arith; whole = refl }
 
 -- what nests to a depth nests to no more than a greater one
-deeper : {m : ℕ} {d : Data} (n : ℕ) → IsExact m d → m ≤ n → IsExact n d
+pub deeper : {m : ℕ} {d : Data} (n : ℕ) → IsExact m d → m ≤ n → IsExact n d
 deeper n h le = record { nests = omega (arith, h.nests); whole = h.whole }
 
 text : (n : ℕ) (s : String Global) → IsExact n (text_data s)
@@ -112,7 +112,7 @@ unwritten word =
     kind 2 word null null null null null
     (exact_null 2) (exact_null 2) (exact_null 2) (exact_null 2) (exact_null 2)
 
-origin : (o : Origin) → IsExact 3 (origin_data o)
+pub origin : (o : Origin) → IsExact 3 (origin_data o)
 origin origins.BuiltIn = unwritten _
 origin origins.DefaultTable = unwritten _
 origin (origins.Written w) =

@@ -20,6 +20,7 @@ use Rattle.rinqebo_request.specs.declared.files.layers.Layer.{Layer}
 use Rattle.rinqebo_objects.specs.Enabling.{enabling_in}
 use Rattle.rinqebo_objects.specs.Objects.{AreObjectsOf}
 use Rattle.rinqebo_objects.specs.Scripts.{Directories}
+use Rattle.rinqebo_objects.specs.declared.origins.ObjectOrigins.{ObjectOrigins}
 use Rattle.rinqebo_objects.specs.WarningObjects.{warnings_data}
 use Rattle.rinqebo_rules.specs.Rows.{AreTestsReported}
 use Rattle.rinqebo_rules.specs.Scripts.{AreScriptsReported}
@@ -38,7 +39,9 @@ use Rattle.rinqebo_load.specs.Accepted.{AreAccepted}
 use Rattle.rinqebo_load.specs.Meant.{config_meant}
 use Rattle.rinqebo_rules.specs.Origins.{IsOriginOf}
 use Rattle.rinqebo_rules.specs.RulePlaces.{Place, id_place, script_place}
+use Rattle.rinqebo_rules.specs.TestOrigins.{Basis}
 use Rattle.rinqebo_load.specs.Sessions.{files_view, readings}
+use Rattle.rinqebo_run.specs.ObjectOrigins.{AreObjectOrigins}
 use Rattle.rinqebo_run.specs.Requested.{IsRequestedIn}
 use Rattle.rinqebo_run.specs.ReportsReasons.{configured_by}
 use Rattle.rinqebo_load.specs.declared.session.Session.{Session}
@@ -76,19 +79,23 @@ directories_for root list = option_map (λ target. record {
 }) list.target_directory
 
 -- A value is the objects of a profile, among profiles of these names, with some warnings
--- (`HasObjects` says which), and with the tests of a list that enable each setup script. Its programs
--- are joined to the root and to the target directory of the list, if that has one.
-pub record AreObjectsListed {M : Type 0} (matches : M → Test → M → Bool)
+-- (`HasObjects` says which), with the tests of a list that enable each setup script, and with where
+-- the values of the run and the groups come from. Its programs are joined to the root and to the
+-- target directory of the list, if that has one.
+pub record AreObjectsListed {M : Type 0} (matches : M → Test → M → Bool) (basis : Basis)
     (profile : EvaluatableModel M) (root : List ℕ) (list : TestList) (profiles : List Name)
     (value : Data) : Type 0 where
   pub warnings : List Warning
+  pub origins : ObjectOrigins
+  pub are_origins : AreObjectOrigins basis profile origins
   pub are : AreObjectsOf profile.facts profile.default_filter.text profiles warnings
-      (directories_for root list) (enabling_in matches profile (Some (all_tests list))) value
+      (directories_for root list) (enabling_in matches profile (Some (all_tests list)))
+      (Some origins) value
 
 -- A report lists tests as the profile of a name gives them settings on the platforms of a build,
 -- with the origins of these in the layers of the files and in the chain of the profile, the rules
 -- of the profile that hold for none, and the scripts that it gives to the list. Where it has
--- objects, they are those of the profile.
+-- objects, they are those of the profile, with origins in the same layers and chain.
 pub record AreTestsOf {M K P : Type 0} (meets : K → P → Option Bool) (matches : M → Test → M → Bool)
     (matches_binary : BinaryMatch M) (platforms : BuildPlatforms P) (configured : Configured M K)
     (name : Name) (mode : NextestRunMode) (asked : RequestedSettings) (layers : List Layer)
@@ -104,8 +111,9 @@ pub record AreTestsOf {M K P : Type 0} (meets : K → P → Option Bool) (matche
       profile unused
   pub scripts_reported : AreScriptsReported matches matches_binary profile (all_tests list)
       (all_binaries list) scripts
-  pub objects_reported : IfSome objects (λ exact. AreObjectsListed matches profile
-      configured.root list (names_in configured.config.profiles) (view exact.value))
+  pub objects_reported : IfSome objects (λ exact. AreObjectsListed matches
+      (record { layers = layers; chain = chain }) profile configured.root list
+      (names_in configured.config.profiles) (view exact.value))
 
 -- a fact of the tests, of the rules, of the scripts and of the objects that a report lists
 abbrev pub IfListed : Content

@@ -22,6 +22,7 @@ mod list_page;
 mod list_scripts;
 mod list_text;
 mod looked_up;
+mod object_origins;
 mod open_filters;
 mod printing;
 mod profile;

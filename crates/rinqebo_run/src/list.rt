@@ -113,7 +113,7 @@ fn listed<'c, P: Progress>(
     let requested = requested_of(alloc, session, profile, &chain, mode)?;
     let on = profile_on(alloc, session, config, profile)?;
     let rows = listed_rows(alloc, session, &chain, &on, mode, asked, progress)?;
-    let objects = objects_of_list(alloc, session, config, warnings, &on)?;
+    let objects = objects_of_list(alloc, session, config, warnings, &on, &chain)?;
     Ok(Content::List {
         asked: requested,
         unused: unused_origins(alloc, &session.layers, &rows.unused)?,

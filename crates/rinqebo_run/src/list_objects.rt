@@ -1,21 +1,24 @@
 //! The objects of a profile beside a list: what a runner needs beside the settings of tests.
-ghost use Rattle.std.specs.Prelude.{◌≡◌, IfOk, map, string_bytes};
+ghost use Rattle.std.specs.Prelude.{◌≡◌, IfOk, Some, map, option_map, string_bytes};
 ghost use Rattle.filter_language.specs.Filtersets.{marks_view};
 ghost use Rattle.filter_engine.specs.Compiling.{names_of};
 ghost use Rattle.filter_engine.specs.Engine.{filter_holds};
 ghost use Rattle.filter_inputs.specs.Lists.ListView.{list_view};
+ghost use Rattle.nextest_inheritance.specs.View.{borrowed_view};
 ghost use Rattle.nextest_settings.specs.Profiles.Meaning.{profile_meaning};
 ghost use Rattle.nextest_sources.specs.WarningsView.{warnings_view};
 ghost use Rattle.nextest_tables.specs.FileTexts.{names_in};
 ghost use Rattle.serde_json.specs.View.{view};
 ghost use Rattle.rinqebo_objects.specs.Scripts.{directories_view};
+ghost use Rattle.rinqebo_run.specs.ListedBy.{basis_of};
 ghost use Rattle.rinqebo_run.specs.Listed.{AreObjectsListed, FindsWarnings, directories_for};
 
 use crate::list::Profile;
+use crate::object_origins::object_origins;
 use filter_engine::NextestTally;
 use nextest_config::{DefaultConfigWarnings, MergedProfile};
 use rinqebo_load::{Config, Session};
-use rinqebo_objects::{Directories, Surroundings, objects_json};
+use rinqebo_objects::{Directories, ObjectOrigins, Surroundings, objects_json};
 use rinqebo_report::ExactValue;
 use std::alloc::{AllocError, Global};
 use std::collections::BTreeMap;
@@ -68,35 +71,41 @@ fn directories_of<'a>(session: &'a Session<'_>) -> Option<Directories<'a>>
     }
 }
 
-/// What the objects of a profile have from its configuration and from the list.
+/// What the objects of a profile have from its configuration, from the list and from the files.
 fn surroundings<'a>(
     profiles: &'a [String],
     warnings: &'a DefaultConfigWarnings,
     directories: Option<Directories<'a>>,
+    origins: &'a ObjectOrigins,
 ) -> Surroundings<'a>
     ensures profiles { result.profiles.now ≡ profiles.now }
     ensures warnings { result.warnings.now ≡ warnings.now }
     ensures directories { result.directories ≡ directories.entry }
+    ensures origins { option_map (λ origins. origins.now) result.origins ≡ Some origins.now }
 {
     Surroundings {
         profiles,
         warnings,
         directories,
+        origins: Some(origins),
     }
 }
 
-/// The objects of a profile of a configuration, with the warnings of its load, and with the tests of
-/// the list of a session that enable each setup script. Programs are joined to the root and to the
-/// target directory of the list, if that has one.
+/// The objects of a profile of a configuration, with the warnings of its load, with the tests of the
+/// list of a session that enable each setup script, and with where the values of the run and the
+/// groups come from. Programs are joined to the root and to the target directory of the list, if
+/// that has one.
 pub fn objects_of_list(
     alloc: Global,
     session: &Session<'_>,
     config: &Config,
     warnings: &DefaultConfigWarnings,
     profile: &Profile<'_>,
+    chain: &[&str],
 ) -> Result<ExactValue, AllocError>
     ensures objects { let profile = profile_meaning (marks_view names_of) profile.now in
-        IfOk result (λ objects. AreObjectsListed filter_holds profile
+        IfOk result (λ objects. AreObjectsListed filter_holds
+        (basis_of session.now (borrowed_view chain.now)) profile
         (string_bytes session.now.gathered.now.paths.workspace_root)
         (list_view session.now.tests) (names_in config.now.config.profiles)
         (view objects.value)) }
@@ -105,8 +114,9 @@ pub fn objects_of_list(
 {
     let names = profile_names(alloc, config)?;
     let tests = session.tests.queries(alloc)?;
+    let origins = object_origins(alloc, &session.layers, chain, profile)?;
     let mut tally = NextestTally::new();
-    let around = surroundings(&names, &*warnings, directories_of(session));
+    let around = surroundings(&names, &*warnings, directories_of(session), &origins);
     let objects = objects_json(alloc, profile, around, Some(&tests), &mut tally)?;
     Ok(objects)
 }

@@ -47,12 +47,12 @@ directories_in loaded = option_map (λ target. record {
 }) loaded.target_directory
 
 -- A text is that of the objects of a profile with this default filter, among the profiles of its
--- configuration. There is no list of tests.
+-- configuration. There is no list of tests, and it is not known where values come from.
 pub record IsObjectsText (loaded : Loaded) (facts : ProfileFacts) (filter text : List ℕ)
     : Type 0 where
   pub value : Data
   pub are : AreObjectsOf facts filter (names_in loaded.config.config.profiles)
-      (warnings_view loaded.warnings) (directories_in loaded) None value
+      (warnings_view loaded.warnings) (directories_in loaded) None None value
   pub written : text ≡ compact_text value
 
 -- A profile of a configuration is open: it is the one of the name, by its chain, on the platforms

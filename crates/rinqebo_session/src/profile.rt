@@ -129,6 +129,7 @@ fn objects_of(
         profiles: &profiles,
         warnings: &loaded.warnings,
         directories: directories_of(loaded),
+        origins: None,
     };
     let mut tally = NextestTally::new();
     let text = objects_text(alloc, profile, around, &mut tally)?;

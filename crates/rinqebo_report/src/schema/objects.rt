@@ -4,13 +4,14 @@
 pub const OBJECTS: &str = r##"    "objects": {
       "description": "What a runner needs of a profile beside the settings of tests.",
       "type": "object",
-      "required": ["findings", "groups", "run", "setup-scripts", "wrappers"],
+      "required": ["findings", "groups", "origins", "run", "setup-scripts", "wrappers"],
       "properties": {
         "run": { "$ref": "#/$defs/run" },
         "groups": { "type": "array", "items": { "$ref": "#/$defs/group" } },
         "setup-scripts": { "type": "array", "items": { "$ref": "#/$defs/setup-script" } },
         "wrappers": { "type": "array", "items": { "$ref": "#/$defs/wrapper" } },
-        "findings": { "type": "array", "items": { "$ref": "#/$defs/load-warning" } }
+        "findings": { "type": "array", "items": { "$ref": "#/$defs/load-warning" } },
+        "origins": { "$ref": "#/$defs/object-origins" }
       },
       "additionalProperties": false
     },
@@ -60,6 +61,57 @@ pub const OBJECTS: &str = r##"    "objects": {
       "properties": {
         "name": { "type": "string" },
         "max-threads": { "$ref": "#/$defs/threads" }
+      },
+      "additionalProperties": false
+    },
+    "object-origins": {
+      "description": "What decides the values of the run and of the groups.",
+      "type": "object",
+      "required": ["groups", "run"],
+      "properties": {
+        "run": { "$ref": "#/$defs/run-origins" },
+        "groups": {
+          "description": "Of the groups, by their names.",
+          "type": "object",
+          "additionalProperties": { "$ref": "#/$defs/origins" }
+        }
+      },
+      "additionalProperties": false
+    },
+    "run-origins": {
+      "description": "Of the members of the run.",
+      "type": "object",
+      "required": [
+        "default-filter", "final-status-level", "global-timeout", "inherits", "junit", "max-fail",
+        "run-extra-args", "status-level", "store-dir", "test-threads"
+      ],
+      "properties": {
+        "inherits": { "$ref": "#/$defs/origins" },
+        "test-threads": { "$ref": "#/$defs/origins" },
+        "max-fail": { "$ref": "#/$defs/origins" },
+        "global-timeout": {
+          "type": "object",
+          "required": ["benchmark", "test"],
+          "properties": {
+            "test": { "$ref": "#/$defs/origins" },
+            "benchmark": { "$ref": "#/$defs/origins" }
+          },
+          "additionalProperties": false
+        },
+        "status-level": { "$ref": "#/$defs/origins" },
+        "final-status-level": { "$ref": "#/$defs/origins" },
+        "junit": {
+          "type": "object",
+          "required": ["path", "report-name"],
+          "properties": {
+            "path": { "$ref": "#/$defs/origins" },
+            "report-name": { "$ref": "#/$defs/origins" }
+          },
+          "additionalProperties": false
+        },
+        "store-dir": { "$ref": "#/$defs/origins" },
+        "default-filter": { "$ref": "#/$defs/origins" },
+        "run-extra-args": { "$ref": "#/$defs/origins" }
       },
       "additionalProperties": false
     },

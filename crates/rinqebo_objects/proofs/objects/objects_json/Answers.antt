@@ -18,8 +18,9 @@ invariant_of-result g c =
     let directories = directories_view c.args.around.directories in
     let listed = option_map (λ tests. map test_view tests.now) c.args.tests in
     let enabling = enabling_in F.holds (profile_meaning F.meaning c.args.profile.now) listed in
+    let origins = option_map (λ origins. origins.now) c.args.around.origins in
     let value = view c.in_ok-value.value in
     record {
-      nests = objects_nest facts run profiles warnings directories enabling value c.in_ok-value.ensures;
-      whole = objects_are_whole facts run profiles warnings directories enabling value c.in_ok-value.ensures;
+      nests = objects_nest facts run profiles warnings directories enabling origins value c.in_ok-value.ensures;
+      whole = objects_are_whole facts run profiles warnings directories enabling origins value c.in_ok-value.ensures;
     }

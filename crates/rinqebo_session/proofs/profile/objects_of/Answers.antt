@@ -13,9 +13,9 @@ returns c =
     let text = c.in_ok-text.ensures in
     record {
       value = text.0;
-      are = subst (λ profiles. AreObjectsOf facts filter profiles warnings (directories_in loaded) None text.0)
+      are = subst (λ profiles. AreObjectsOf facts filter profiles warnings (directories_in loaded) None None text.0)
           (ap (map string_bytes) c.deref.ensures.value ∙ c.in_ok-profiles.ensures)
-          (subst (λ directories. AreObjectsOf facts filter (map string_bytes c.deref.result.now) warnings directories None text.0)
+          (subst (λ directories. AreObjectsOf facts filter (map string_bytes c.deref.result.now) warnings directories None None text.0)
           c.directories_of.ensures text.1);
       written = text.2;
     }
