@@ -143,36 +143,47 @@ pub enum OriginKind {
     File,
 }
 
-/// What is wrong with a file.
+/// What is wrong with a file. What is not known is left out where it is written in JSON.
 #[derive(Clone, Debug, PartialEq, Eq, Serialize, Deserialize)]
 #[non_exhaustive]
 pub struct Finding {
     /// Its code, such as `unknown-key`.
     pub code: String,
     /// The name that nextest-runner has for it.
+    #[serde(default, skip_serializing_if = "Option::is_none")]
     pub upstream: Option<String>,
     pub level: Level,
     pub message: String,
     /// The keys that lead to it, with dots between them.
+    #[serde(default, skip_serializing_if = "Option::is_none")]
     pub path: Option<String>,
     /// The path of the file, in a finding of a configuration that is loaded.
     #[serde(default, skip_serializing_if = "Option::is_none")]
     pub file: Option<String>,
     /// The position of the source among those of the document, from 0.
+    #[serde(default, skip_serializing_if = "Option::is_none")]
     pub source: Option<usize>,
     /// The first and the last line.
+    #[serde(default, skip_serializing_if = "Option::is_none")]
     pub lines: Option<(usize, usize)>,
     /// The lines and columns at which it starts and ends.
+    #[serde(default, skip_serializing_if = "Option::is_none")]
     pub range: Option<Range>,
+    #[serde(default, skip_serializing_if = "Option::is_none")]
     pub column: Option<usize>,
     /// The filter or the platform that it is about, and the bytes at fault.
+    #[serde(default, skip_serializing_if = "Option::is_none")]
     pub expression: Option<String>,
+    #[serde(default, skip_serializing_if = "Option::is_none")]
     pub span: Option<(usize, usize)>,
     /// What was expected.
+    #[serde(default, skip_serializing_if = "Option::is_none")]
     pub expected: Option<String>,
     /// What to do.
+    #[serde(default, skip_serializing_if = "Option::is_none")]
     pub help: Option<String>,
     /// Notes that explain it.
+    #[serde(default, skip_serializing_if = "Vec::is_empty")]
     pub notes: Vec<String>,
 }
 

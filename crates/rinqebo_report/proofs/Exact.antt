@@ -8,6 +8,7 @@ use Rattle.serde_json.specs.Data.{Data, null, boolean, string, object, Members, 
 use Rattle.serde_json.specs.View.{items_of}
 use Rattle.serde_json.specs.Written.{has_float, items_have_float, members_have_float}
 use Rattle.rinqebo_report.specs.Documents.{list_data}
+use Rattle.rinqebo_report.specs.Filled.{is_empty_data, put_filled, put_unless}
 
 pub record IsExact (n : ℕ) (d : Data) : Type 0 where
   pub nests : depth d ≤ n
@@ -75,6 +76,15 @@ exact_put {n} k d (member l e ms) first h =
       | Less ↦ and_member k first h
       | Equal ↦ and_member l first rest.1
       | Greater ↦ and_member l rest.0 (exact_put k d ms first rest.1)
+    ]
+
+pub exact_filled : {n : ℕ} (k : List ℕ) (d : Data) (ms : Members) → IsExact n d → AreExact n ms
+    → AreExact n (put_filled k d ms)
+exact_filled {n} k d ms first h =
+    let P : Bool → Type 0 = λ b. AreExact n (put_unless b k d ms) in
+    elim (is_empty_data d) as P [
+      | true ↦ h
+      | false ↦ exact_put k d ms first h
     ]
 
 pub exact_puts : {X : Type 0} (n : ℕ) (key : X → List ℕ) (f : X → Data) → ((x : X) → IsExact n (f x))

@@ -1,12 +1,12 @@
 -- The document of a report nests little, and has no number that is a float.
-use Rattle.std.proofs.Common.{◌≡◌, ◌≤◌, ◌+◌, ℕ, ℤ, pos, negsuc, Bool, true, false, List, [], ◌∷◌, Option, None, Some, String, string_bytes, codes, refl, arith}
+use Rattle.std.proofs.Common.{◌≡◌, ◌≤◌, ◌+◌, ℕ, ℤ, pos, negsuc, Bool, true, false, List, [], ◌∷◌, Option, None, Some, String, string_bytes, codes, if◌then◌else◌, refl, arith}
 use Rattle.std.specs.declared.alloc.Global.{Global}
 use Rattle.serde_json.specs.Data.{Data, null, number, array, no_items, Members, no_members, depth}
 use Rattle.serde_json.specs.Find.{of_integer}
 use Rattle.serde_json.specs.Read.{max_depth}
 use Rattle.serde_json.specs.Written.{has_float}
-use Rattle.rinqebo_report.specs.Document.{common_members, with_requested, with_ignored, with_objects, with_content, document_data}
-use Rattle.rinqebo_report.specs.Documents.{count_data, text_data, optional_text_data, optional_count_data, list_data, pair_data, lines_data, range_data, scalar_data, value_data, optional_value_data, part_data, kind_data, origin_data, setting_data, runs_data, test_data, test_id_data, entry_data, rule_data, tool_data, source_data, unreached_data, wrapper_data, place_source_data, place_lines_data, place_range_data, span_data, expression_data, expression_span_data, finding_data}
+use Rattle.rinqebo_report.specs.Document.{check_members, common_members, document_data, document_members, is_check, with_checks, with_content, with_files, with_ignored, with_objects, with_requested}
+use Rattle.rinqebo_report.specs.Documents.{count_data, text_data, optional_text_data, optional_count_data, list_data, pair_data, lines_data, range_data, scalar_data, value_data, optional_value_data, part_data, kind_data, origin_data, setting_data, runs_data, test_data, test_id_data, entry_data, rule_data, tool_data, source_data, unreached_data, wrapper_data, place_source_data, place_lines_data, place_range_data, span_data, expression_data, expression_span_data, with_fault, with_site, with_expression, with_advice, finding_data, summary_data}
 use Rattle.rinqebo_report.specs.declared.exact_value.ExactValue.{ExactValue}
 use Rattle.rinqebo_report.specs.declared.finding.RefusedExpression.{RefusedExpression}
 use Rattle.rinqebo_report.specs.declared.finding.Finding.{Finding}
@@ -37,7 +37,7 @@ use Rattle.rinqebo_report.specs.declared.value.Scalar.{Scalar}
 use Rattle.rinqebo_report.specs.declared.value.Scalar.TheVariants as scalars
 use Rattle.rinqebo_report.specs.declared.value.Value.{Value}
 use Rattle.rinqebo_report.specs.declared.value.Value.TheVariants as values
-use Rattle.rinqebo_report.proofs.Exact.{IsExact, AreExact, exact_text, exact_null, exact_truth, exact_list, no_more, and_member, exact_object, exact_put, exact_puts}
+use Rattle.rinqebo_report.proofs.Exact.{IsExact, AreExact, exact_text, exact_null, exact_truth, exact_list, no_more, and_member, exact_object, exact_put, exact_filled, exact_puts}
 
 count : (n m : ℕ) → IsExact n (count_data m)
 count n m = record { nests = omega arith; whole = refl }
@@ -203,22 +203,36 @@ expression_span : (n : ℕ) (e : Option RefusedExpression) → IsExact (n + 1) (
 expression_span n None = exact_null (n + 1)
 expression_span n (Some e) = span n e.span
 
+fault : {ms : Members} (f : Finding) → AreExact 2 ms → AreExact 2 (with_fault f ms)
+fault f h =
+    exact_filled (codes "upstream") _ _ (optional_text 2 f.upstream)
+    (exact_put (codes "message") _ _ (text 2 f.message)
+    (exact_put (codes "level") _ _ (exact_text 2 _) (exact_put (codes "code") _ _ (text 2 f.code) h)))
+
+site : {ms : Members} (f : Finding) → AreExact 2 ms → AreExact 2 (with_site f ms)
+site f h =
+    exact_filled (codes "source") _ _ (place_source 2 f.place)
+    (exact_filled (codes "range") _ _ (place_range 0 f.place)
+    (exact_filled (codes "path") _ _ (optional_text 2 f.path)
+    (exact_filled (codes "lines") _ _ (place_lines 1 f.place)
+    (exact_filled (codes "column") _ _ (optional_count 2 f.column) h))))
+
+refused : {ms : Members} (f : Finding) → AreExact 2 ms → AreExact 2 (with_expression f ms)
+refused f h =
+    exact_filled (codes "span") _ _ (expression_span 1 f.expression)
+    (exact_filled (codes "expression") _ _ (expression 2 f.expression) h)
+
+advice : {ms : Members} (f : Finding) → AreExact 2 ms → AreExact 2 (with_advice f ms)
+advice f h =
+    exact_filled (codes "notes") _ _ (texts 1 f.notes.items)
+    (exact_filled (codes "help") _ _ (optional_text 2 f.help)
+    (exact_filled (codes "expected") _ _ (optional_text 2 f.expected) h))
+
 finding : (f : Finding) → IsExact 3 (finding_data f)
-finding f =
-    exact_object 2 (and_member _ (text 2 f.code)
-    (and_member _ (optional_count 2 f.column)
-    (and_member _ (optional_text 2 f.expected)
-    (and_member _ (expression 2 f.expression)
-    (and_member _ (optional_text 2 f.help)
-    (and_member _ (exact_text 2 _)
-    (and_member _ (place_lines 1 f.place)
-    (and_member _ (text 2 f.message)
-    (and_member _ (texts 1 f.notes.items)
-    (and_member _ (optional_text 2 f.path)
-    (and_member _ (place_range 0 f.place)
-    (and_member _ (place_source 2 f.place)
-    (and_member _ (expression_span 1 f.expression)
-    (and_member _ (optional_text 2 f.upstream) (no_more 2)))))))))))))))
+finding f = exact_object 2 (advice f (refused f (site f (fault f (no_more 2)))))
+
+summary : (fs : List Finding) → IsExact 1 (summary_data fs)
+summary fs = exact_object 0 (and_member _ (count 0 _) (and_member _ (count 0 _) (and_member _ (count 0 _) (no_more 0))))
 
 -- members with what was requested, and with those of each page
 asked : {ms : Members} (command : List ℕ) (a : Asked) → AreExact 8 ms → AreExact 8 (with_requested command a ms)
@@ -267,20 +281,49 @@ content (contents.ShowConfig a entries) h =
     exact_put (codes "entries") _ _ (entries_of entries.items) (asked (codes "show-config") a h)
 content contents.Check h = h
 
+findings_of : (report : Report) → IsExact 8 (list_data finding_data report.findings.items)
+findings_of report = exact_list 7 finding_data (λ f. deeper 7 (finding f) (omega arith)) report.findings.items
+
+sources_of : (report : Report) → IsExact 8 (list_data source_data report.sources.items)
+sources_of report = exact_list 7 source_data (λ s. deeper 7 (source s) (omega arith)) report.sources.items
+
+unreached_of : (report : Report) → IsExact 8 (list_data unreached_data report.unreached.items)
+unreached_of report = exact_list 7 unreached_data (λ u. deeper 7 (unreached u) (omega arith)) report.unreached.items
+
 common : (report : Report) → AreExact 8 (common_members report)
 common report =
-    and_member _ (nothing 7) (and_member _ (exact_text 8 _) (and_member _ (nothing 7)
-    (and_member _ (exact_list 7 finding_data (λ f. deeper 7 (finding f) (omega arith)) report.findings.items)
+    and_member _ (nothing 7) (and_member _ (nothing 7) (and_member _ (findings_of report)
     (and_member _ (exact_null 8) (and_member _ (nothing 7)
     (and_member _ (exact_null 8) (and_member _ (exact_null 8) (and_member _ (text 8 report.root)
-    (and_member _ (nothing 7) (and_member _ (nothing 7)
-    (and_member _ (exact_list 7 source_data (λ s. deeper 7 (source s) (omega arith)) report.sources.items)
-    (and_member _ (exact_null 8) (and_member _ (nothing 7)
-    (and_member _ (exact_list 7 unreached_data (λ u. deeper 7 (unreached u) (omega arith)) report.unreached.items)
-    (and_member _ (nothing 7) (and_member _ (count 8 1) (no_more 8)))))))))))))))))
+    (and_member _ (nothing 7) (and_member _ (nothing 7) (and_member _ (sources_of report)
+    (and_member _ (exact_null 8) (and_member _ (nothing 7) (and_member _ (unreached_of report)
+    (and_member _ (nothing 7) (and_member _ (count 8 1) (no_more 8))))))))))))))))
+
+files : {ms : Members} (report : Report) → AreExact 8 ms → AreExact 8 (with_files report ms)
+files report h = exact_put (codes "sources") _ _ (sources_of report) (exact_put (codes "root") _ _ (text 8 report.root) h)
+
+checks : {ms : Members} (report : Report) → AreExact 8 ms → AreExact 8 (with_checks report ms)
+checks report h =
+    exact_filled (codes "unreached") _ _ (unreached_of report)
+    (exact_put (codes "summary") _ _ (deeper 8 (summary report.findings.items) (omega arith))
+    (exact_put (codes "findings") _ _ (findings_of report) h))
+
+checked : (report : Report) → AreExact 8 (check_members report)
+checked report =
+    exact_put (codes "version") _ _ (count 8 1)
+    (checks report (files report (exact_put (codes "command") _ _ (exact_text 8 _) (no_more 8))))
+
+members : (report : Report) → AreExact 8 (document_members report)
+members report =
+    let P : Bool → Type 0 =
+    λ b. AreExact 8 (if b then check_members report else with_content report.content (common_members report)) in
+    elim (is_check report.content) as P [
+      | true ↦ checked report
+      | false ↦ content report.content (common report)
+    ]
 
 document : (report : Report) → IsExact 9 (document_data report)
-document report = exact_object 8 (content report.content (common report))
+document report = exact_object 8 (members report)
 
 within : (d : Data) → IsExact 9 d → depth d ≤ max_depth
 within d h = omega (arith, h.nests)

@@ -1,5 +1,5 @@
 -- The document of a report.
-use Rattle.std.specs.Prelude.{ℕ, Bool, true, List, Option, None, Some, codes, string_bytes, if◌then◌else◌}
+use Rattle.std.specs.Prelude.{ℕ, Bool, true, false, List, Option, None, Some, codes, string_bytes, if◌then◌else◌}
 use Rattle.serde_json.specs.Data.{Data, null, boolean, string, array, object, no_items, item, Members, no_members, member, put}
 use Rattle.serde_json.specs.View.{view}
 use Rattle.rinqebo_report.specs.declared.exact_value.ExactValue.{ExactValue}
@@ -13,15 +13,15 @@ use Rattle.rinqebo_report.specs.declared.report.Report.{Report}
 use Rattle.rinqebo_report.specs.declared.report.Rule.{Rule}
 use Rattle.rinqebo_report.specs.declared.report.TestId.{TestId}
 use Rattle.rinqebo_report.specs.declared.report.TestRows.{TestRows}
-use Rattle.rinqebo_report.specs.Documents.{count_data, text_data, optional_text_data, list_data, origin_data, test_data, test_id_data, entry_data, rule_data, finding_data, source_data, unreached_data, wrapper_data}
+use Rattle.rinqebo_report.specs.Documents.{count_data, text_data, optional_text_data, list_data, origin_data, test_data, test_id_data, entry_data, rule_data, finding_data, source_data, summary_data, unreached_data, wrapper_data}
+use Rattle.rinqebo_report.specs.Filled.{put_filled}
 use Rattle.rinqebo_report.specs.Headers.{mode_word}
 
--- The members that every document has, with their keys in the order of bytes: they are those of
--- `check`, and what other commands report is empty or null.
+-- The members that every document has but that of `check`, with their keys in the order of bytes.
+-- What only some commands report is empty or null.
 abbrev pub common_members : Report → Members
 common_members report =
     member (codes "chain") (array no_items)
-    (member (codes "command") (string (codes "check"))
     (member (codes "entries") (array no_items)
     (member (codes "findings") (list_data finding_data report.findings.items)
     (member (codes "host") null
@@ -36,7 +36,7 @@ common_members report =
     (member (codes "tests") (array no_items)
     (member (codes "unreached") (list_data unreached_data report.unreached.items)
     (member (codes "unused") (array no_items)
-    (member (codes "version") (count_data 1) no_members))))))))))))))))
+    (member (codes "version") (count_data 1) no_members)))))))))))))))
 
 -- members, with a command, and what was requested
 abbrev pub with_requested : List ℕ → Asked → Members → Members
@@ -99,6 +99,39 @@ with_content (contents.ShowConfig asked entries) members =
     with_config asked entries.items members
 with_content contents.Check members = members
 
+-- members, with the workspace and the files
+abbrev pub with_files : Report → Members → Members
+with_files report members =
+    put (codes "sources") (list_data source_data report.sources.items)
+    (put (codes "root") (text_data report.root) members)
+
+-- members, with what is wrong, how much that is, and which checks were not reached, if there are some
+abbrev pub with_checks : Report → Members → Members
+with_checks report members =
+    put_filled (codes "unreached") (list_data unreached_data report.unreached.items)
+    (put (codes "summary") (summary_data report.findings.items)
+    (put (codes "findings") (list_data finding_data report.findings.items) members))
+
+-- the members of the document of `check`
+abbrev pub check_members : Report → Members
+check_members report =
+    put (codes "version") (count_data 1) (with_checks report (with_files report
+    (put (codes "command") (string (codes "check")) no_members)))
+
+-- whether a report has nothing but findings
+abbrev pub is_check : Content → Bool
+is_check contents.Check = true
+is_check (contents.Explain asked test) = false
+is_check (contents.Why asked test key rules is_ignored) = false
+is_check (contents.List asked tests unused scripts objects) = false
+is_check (contents.ShowConfig asked entries) = false
+
+-- the members of the document of a report
+abbrev pub document_members : Report → Members
+document_members report =
+    if is_check report.content then check_members report
+    else with_content report.content (common_members report)
+
 -- the document of a report
 abbrev pub document_data : Report → Data
-document_data report = object (with_content report.content (common_members report))
+document_data report = object (document_members report)

@@ -1,5 +1,5 @@
 -- Reports as JSON: objects with their keys in the order of bytes.
-use Rattle.std.specs.Prelude.{ℕ, Bool, true, List, Option, None, Some, map, fold, codes, String, string_bytes, if◌then◌else◌}
+use Rattle.std.specs.Prelude.{ℕ, Bool, true, List, Option, None, Some, length, map, fold, count_by, codes, String, string_bytes, if◌then◌else◌}
 use Rattle.std.specs.declared.alloc.Global.{Global}
 use Rattle.serde_json.specs.Data.{Data, null, boolean, number, unsigned, string, array, object, no_items, item, Members, no_members, member, put}
 use Rattle.serde_json.specs.Find.{of_integer}
@@ -33,8 +33,9 @@ use Rattle.rinqebo_report.specs.declared.value.Scalar.TheVariants as scalars
 use Rattle.rinqebo_report.specs.declared.value.Value.{Value}
 use Rattle.rinqebo_report.specs.declared.value.Value.TheVariants as values
 use Rattle.rinqebo_report.specs.Durations.{duration_text}
+use Rattle.rinqebo_report.specs.Filled.{put_filled}
 use Rattle.rinqebo_report.specs.Headers.{platform_word}
-use Rattle.rinqebo_report.specs.Pages.{level_word, verdict_text}
+use Rattle.rinqebo_report.specs.Pages.{is_error, is_warning, level_word, verdict_text}
 
 -- a number
 abbrev pub count_data : ℕ → Data
@@ -259,46 +260,42 @@ expression_span_data (Some expression) = span_data expression.span
 -- members, with what is wrong
 abbrev pub with_fault : Finding → Members → Members
 with_fault finding members =
-    put (codes "upstream") (optional_text_data finding.upstream)
+    put_filled (codes "upstream") (optional_text_data finding.upstream)
     (put (codes "message") (text_data finding.message) (put (codes "level")
     (string (level_word finding.level)) (put (codes "code") (text_data finding.code) members)))
 
 -- members, with where it is
 abbrev pub with_site : Finding → Members → Members
 with_site finding members =
-    put (codes "source") (place_source_data finding.place)
-    (put (codes "range") (place_range_data finding.place)
-    (put (codes "path") (optional_text_data finding.path)
-    (put (codes "lines") (place_lines_data finding.place)
-    (put (codes "column") (optional_count_data finding.column) members))))
+    put_filled (codes "source") (place_source_data finding.place)
+    (put_filled (codes "range") (place_range_data finding.place)
+    (put_filled (codes "path") (optional_text_data finding.path)
+    (put_filled (codes "lines") (place_lines_data finding.place)
+    (put_filled (codes "column") (optional_count_data finding.column) members))))
 
 -- members, with the expression that it is about
 abbrev pub with_expression : Finding → Members → Members
 with_expression finding members =
-    put (codes "span") (expression_span_data finding.expression)
-    (put (codes "expression") (expression_data finding.expression) members)
+    put_filled (codes "span") (expression_span_data finding.expression)
+    (put_filled (codes "expression") (expression_data finding.expression) members)
 
 -- members, with what to do
 abbrev pub with_advice : Finding → Members → Members
 with_advice finding members =
-    put (codes "notes") (list_data text_data finding.notes.items)
-    (put (codes "help") (optional_text_data finding.help)
-    (put (codes "expected") (optional_text_data finding.expected) members))
+    put_filled (codes "notes") (list_data text_data finding.notes.items)
+    (put_filled (codes "help") (optional_text_data finding.help)
+    (put_filled (codes "expected") (optional_text_data finding.expected) members))
 
--- a finding
+-- A finding: its level, its code and its message, and what is known beside them. Members that would
+-- be empty are left out.
 abbrev pub finding_data : Finding → Data
 finding_data finding =
-    object (member (codes "code") (text_data finding.code)
-    (member (codes "column") (optional_count_data finding.column)
-    (member (codes "expected") (optional_text_data finding.expected)
-    (member (codes "expression") (expression_data finding.expression)
-    (member (codes "help") (optional_text_data finding.help)
-    (member (codes "level") (string (level_word finding.level))
-    (member (codes "lines") (place_lines_data finding.place)
-    (member (codes "message") (text_data finding.message)
-    (member (codes "notes") (list_data text_data finding.notes.items)
-    (member (codes "path") (optional_text_data finding.path)
-    (member (codes "range") (place_range_data finding.place)
-    (member (codes "source") (place_source_data finding.place)
-    (member (codes "span") (expression_span_data finding.expression)
-    (member (codes "upstream") (optional_text_data finding.upstream) no_members))))))))))))))
+    object (with_advice finding (with_expression finding (with_site finding
+    (with_fault finding no_members))))
+
+-- how many findings there are, of both levels and of each
+abbrev pub summary_data : List Finding → Data
+summary_data findings =
+    object (member (codes "errors") (count_data (count_by is_error findings))
+    (member (codes "findings") (count_data (length findings))
+    (member (codes "warnings") (count_data (count_by is_warning findings)) no_members)))

@@ -14,6 +14,7 @@ pub mod Columns
 pub mod Github
 pub mod Groups
 pub mod Rendered
+pub mod Filled
 pub mod Documents
 pub mod Document
 pub mod Uncoloured

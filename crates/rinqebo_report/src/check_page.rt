@@ -13,7 +13,7 @@ use crate::report::{Report, Unreached};
 use std::alloc::{AllocError, Global};
 
 /// How many findings refuse.
-fn errors_of(findings: &[Finding]) -> usize
+pub(crate) fn errors_of(findings: &[Finding]) -> usize
     ensures { result ≡ count_by is_error findings.now }
 {
     let mut errors = 0usize;
@@ -26,7 +26,7 @@ fn errors_of(findings: &[Finding]) -> usize
 }
 
 /// How many findings only warn.
-fn warnings_of(findings: &[Finding]) -> usize
+pub(crate) fn warnings_of(findings: &[Finding]) -> usize
     ensures { result ≡ count_by is_warning findings.now }
 {
     let mut warnings = 0usize;

@@ -1,8 +1,10 @@
 //! Findings as JSON.
 ghost use Rattle.std.specs.Prelude.{◌≡◌, IfOk, OnOk};
 ghost use Rattle.serde_json.specs.View.{members_view, view};
-ghost use Rattle.rinqebo_report.specs.Documents.{list_data, place_source_data, place_lines_data, place_range_data, span_data, expression_data, expression_span_data, with_fault, with_site, with_expression, with_advice, finding_data};
+ghost use Rattle.rinqebo_report.specs.Documents.{list_data, place_source_data, place_lines_data, place_range_data, span_data, expression_data, expression_span_data, with_fault, with_site, with_expression, with_advice, finding_data, summary_data};
 
+use crate::check_page::{errors_of, warnings_of};
+use crate::filled::put_filled;
 use crate::finding::{CharSpan, Finding, RefusedExpression};
 use crate::json_parts::{
     lines_json, optional_count_json, optional_text_json, range_json, texts_json,
@@ -93,7 +95,7 @@ fn put_fault(
     let message = Value::try_from_str(alloc, finding.message.as_str())?;
     put(members, alloc, "message", message)?;
     let upstream = optional_text_json(alloc, &finding.upstream)?;
-    put(members, alloc, "upstream", upstream)
+    put_filled(members, alloc, "upstream", upstream)
 }
 
 /// Puts where it is among members.
@@ -105,19 +107,16 @@ fn put_site(
     ensures { OnOk result (members_view members.new.entries
         ≡ with_site finding.now (members_view members.old.entries)) }
 {
-    put(
-        members,
-        alloc,
-        "column",
-        optional_count_json(finding.column),
-    )?;
+    let column = optional_count_json(finding.column);
+    put_filled(members, alloc, "column", column)?;
     let lines = place_lines_json(alloc, finding.place)?;
-    put(members, alloc, "lines", lines)?;
+    put_filled(members, alloc, "lines", lines)?;
     let path = optional_text_json(alloc, &finding.path)?;
-    put(members, alloc, "path", path)?;
+    put_filled(members, alloc, "path", path)?;
     let range = place_range_json(alloc, finding.place)?;
-    put(members, alloc, "range", range)?;
-    put(members, alloc, "source", place_source_json(finding.place))
+    put_filled(members, alloc, "range", range)?;
+    let source = place_source_json(finding.place);
+    put_filled(members, alloc, "source", source)
 }
 
 /// Puts the expression that it is about among members.
@@ -130,9 +129,9 @@ fn put_expression(
         ≡ with_expression finding.now (members_view members.old.entries)) }
 {
     let expression = expression_json(alloc, &finding.expression)?;
-    put(members, alloc, "expression", expression)?;
+    put_filled(members, alloc, "expression", expression)?;
     let span = expression_span_json(alloc, &finding.expression)?;
-    put(members, alloc, "span", span)
+    put_filled(members, alloc, "span", span)
 }
 
 /// Puts what to do among members.
@@ -145,14 +144,14 @@ fn put_advice(
         ≡ with_advice finding.now (members_view members.old.entries)) }
 {
     let expected = optional_text_json(alloc, &finding.expected)?;
-    put(members, alloc, "expected", expected)?;
+    put_filled(members, alloc, "expected", expected)?;
     let help = optional_text_json(alloc, &finding.help)?;
-    put(members, alloc, "help", help)?;
+    put_filled(members, alloc, "help", help)?;
     let notes = texts_json(alloc, &finding.notes)?;
-    put(members, alloc, "notes", notes)
+    put_filled(members, alloc, "notes", notes)
 }
 
-/// A finding.
+/// A finding. Members that would be empty are left out.
 fn finding_json(alloc: Global, finding: &Finding) -> Result<Value, AllocError>
     ensures { IfOk result (λ value. view value ≡ finding_data finding.now) }
 {
@@ -162,6 +161,16 @@ fn finding_json(alloc: Global, finding: &Finding) -> Result<Value, AllocError>
     put_expression(&mut members, alloc, finding)?;
     put_advice(&mut members, alloc, finding)?;
     Ok(Value::Object(members))
+}
+
+/// How many findings there are, of both levels and of each.
+pub(crate) fn summary_json(alloc: Global, findings: &[Finding]) -> Result<Value, AllocError>
+    ensures { IfOk result (λ value. view value ≡ summary_data findings.now) }
+{
+    let errors = errors_of(findings);
+    let warnings = warnings_of(findings);
+    let count = findings.len();
+    json!(in alloc; {"errors": errors, "findings": count, "warnings": warnings})
 }
 
 /// Findings.

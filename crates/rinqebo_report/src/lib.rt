@@ -12,6 +12,7 @@ mod duration;
 mod exact_value;
 mod excerpt;
 mod explain_page;
+mod filled;
 mod finding;
 mod finding_page;
 mod format;

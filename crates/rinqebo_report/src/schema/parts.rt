@@ -51,16 +51,18 @@ pub const PARTS: &str = r##"    "test-id": {
       "type": ["integer", "null"],
       "minimum": 0
     },
-    "lines": {
+    "lines": { "anyOf": [{ "$ref": "#/$defs/known-lines" }, { "type": "null" }] },
+    "known-lines": {
       "description": "The first line and the last, from 1.",
-      "type": ["array", "null"],
+      "type": "array",
       "items": { "type": "integer", "minimum": 1 },
       "minItems": 2,
       "maxItems": 2
     },
-    "range": {
+    "range": { "anyOf": [{ "$ref": "#/$defs/known-range" }, { "type": "null" }] },
+    "known-range": {
       "description": "The line and column of the first character, and of the one behind.",
-      "type": ["array", "null"],
+      "type": "array",
       "items": {
         "type": "array",
         "items": { "type": "integer", "minimum": 1 },

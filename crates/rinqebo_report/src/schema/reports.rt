@@ -5,10 +5,43 @@ pub const REPORTS: &str = r##"{
   "$schema": "https://json-schema.org/draft/2020-12/schema",
   "title": "Documents of rinqebo",
   "description": "What rinqebo prints with --format json, and its library returns.",
-  "oneOf": [{ "$ref": "#/$defs/report" }, { "$ref": "#/$defs/diff" }],
+  "oneOf": [
+    { "$ref": "#/$defs/check" },
+    { "$ref": "#/$defs/report" },
+    { "$ref": "#/$defs/diff" }
+  ],
   "$defs": {
+    "check": {
+      "description": "The document of check.",
+      "type": "object",
+      "required": ["command", "findings", "root", "sources", "summary", "version"],
+      "properties": {
+        "version": { "const": 1 },
+        "command": { "const": "check" },
+        "root": { "description": "The root of the workspace.", "type": "string" },
+        "sources": { "$ref": "#/$defs/sources" },
+        "findings": { "type": "array", "items": { "$ref": "#/$defs/finding" } },
+        "summary": {
+          "description": "How many findings there are.",
+          "type": "object",
+          "required": ["errors", "findings", "warnings"],
+          "properties": {
+            "errors": { "$ref": "#/$defs/count" },
+            "findings": { "$ref": "#/$defs/count" },
+            "warnings": { "$ref": "#/$defs/count" }
+          },
+          "additionalProperties": false
+        },
+        "unreached": {
+          "type": "array",
+          "items": { "$ref": "#/$defs/unreached" },
+          "minItems": 1
+        }
+      },
+      "additionalProperties": false
+    },
     "report": {
-      "description": "The document of check, explain, list and show-config.",
+      "description": "The document of explain, list and show-config.",
       "type": "object",
       "required": [
         "chain", "command", "entries", "findings", "host", "list-wrappers", "mode", "profile",
@@ -17,7 +50,7 @@ pub const REPORTS: &str = r##"{
       ],
       "properties": {
         "version": { "const": 1 },
-        "command": { "enum": ["check", "explain", "list", "show-config"] },
+        "command": { "enum": ["explain", "list", "show-config"] },
         "root": { "description": "The root of the workspace.", "type": "string" },
         "profile": { "type": ["string", "null"] },
         "chain": { "$ref": "#/$defs/chain" },
@@ -120,38 +153,44 @@ pub const REPORTS: &str = r##"{
     },
     "finding": {
       "type": "object",
-      "required": [
-        "code", "column", "expected", "expression", "help", "level", "lines", "message", "notes",
-        "path", "range", "source", "span", "upstream"
-      ],
+      "required": ["code", "level", "message"],
       "properties": {
         "level": { "enum": ["error", "warning"] },
         "code": { "$ref": "#/$defs/code" },
         "upstream": {
           "description": "The name that nextest-runner has for it.",
-          "type": ["string", "null"]
+          "type": "string",
+          "minLength": 1
         },
         "message": { "type": "string" },
-        "source": { "$ref": "#/$defs/source-index" },
-        "lines": { "$ref": "#/$defs/lines" },
-        "range": { "$ref": "#/$defs/range" },
+        "source": { "description": "A place among the sources.", "$ref": "#/$defs/count" },
+        "lines": { "$ref": "#/$defs/known-lines" },
+        "range": { "$ref": "#/$defs/known-range" },
         "column": {
           "description": "Where a text that is not a document is at fault.",
-          "type": ["integer", "null"],
+          "type": "integer",
           "minimum": 1
         },
-        "path": { "description": "The keys that lead to the value.", "type": ["string", "null"] },
-        "expression": { "description": "The refused expression.", "type": ["string", "null"] },
+        "path": {
+          "description": "The keys that lead to the value.",
+          "type": "string",
+          "minLength": 1
+        },
+        "expression": {
+          "description": "The refused expression.",
+          "type": "string",
+          "minLength": 1
+        },
         "span": {
           "description": "Its first character that is at fault, and the one behind the last.",
-          "type": ["array", "null"],
+          "type": "array",
           "items": { "$ref": "#/$defs/count" },
           "minItems": 2,
           "maxItems": 2
         },
-        "expected": { "type": ["string", "null"] },
-        "notes": { "$ref": "#/$defs/texts" },
-        "help": { "type": ["string", "null"] }
+        "expected": { "type": "string", "minLength": 1 },
+        "notes": { "type": "array", "items": { "type": "string" }, "minItems": 1 },
+        "help": { "type": "string", "minLength": 1 }
       },
       "additionalProperties": false
     },

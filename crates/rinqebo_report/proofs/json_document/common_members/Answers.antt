@@ -25,52 +25,49 @@ returns c =
     let chain = and_then (codes "chain") (Array c.new.result) c.new-members.result.entries c.put.new.map.entries
     (array no_items) _ c.in_ok-put.ensures.ok
     (empty c.new.result c.new.ensures.items) none in
-    let command = and_then (codes "command") c.in_ok-command.command c.put.new.map.entries c.put-2.new.map.entries
-    (string (codes "check")) _ c.in_ok-put-2.ensures.ok
-    c.in_ok-command.ensures chain in
-    let entries = and_then (codes "entries") (Array c.new-2.result) c.put-2.new.map.entries c.put-3.new.map.entries
-    (array no_items) _ c.in_ok-put-3.ensures.ok
-    (empty c.new-2.result c.new-2.ensures.items) command in
-    let findings = and_then (codes "findings") c.in_ok-findings.findings c.put-3.new.map.entries c.put-4.new.map.entries
-    (list_data finding_data report.findings.items) _ c.in_ok-put-4.ensures.ok
+    let entries = and_then (codes "entries") (Array c.new-2.result) c.put.new.map.entries c.put-2.new.map.entries
+    (array no_items) _ c.in_ok-put-2.ensures.ok
+    (empty c.new-2.result c.new-2.ensures.items) chain in
+    let findings = and_then (codes "findings") c.in_ok-findings.findings c.put-2.new.map.entries c.put-3.new.map.entries
+    (list_data finding_data report.findings.items) _ c.in_ok-put-3.ensures.ok
     (c.in_ok-findings.ensures ∙ ap (list_data finding_data) c.deref.ensures.value) entries in
-    let host = and_then (codes "host") Null c.put-4.new.map.entries c.put-5.new.map.entries
-    null _ c.in_ok-put-5.ensures.ok
+    let host = and_then (codes "host") Null c.put-3.new.map.entries c.put-4.new.map.entries
+    null _ c.in_ok-put-4.ensures.ok
     nothing findings in
-    let wrappers = and_then (codes "list-wrappers") (Array c.new-3.result) c.put-5.new.map.entries c.put-6.new.map.entries
-    (array no_items) _ c.in_ok-put-6.ensures.ok
+    let wrappers = and_then (codes "list-wrappers") (Array c.new-3.result) c.put-4.new.map.entries c.put-5.new.map.entries
+    (array no_items) _ c.in_ok-put-5.ensures.ok
     (empty c.new-3.result c.new-3.ensures.items) host in
-    let mode = and_then (codes "mode") Null c.put-6.new.map.entries c.put-7.new.map.entries
-    null _ c.in_ok-put-7.ensures.ok
+    let mode = and_then (codes "mode") Null c.put-5.new.map.entries c.put-6.new.map.entries
+    null _ c.in_ok-put-6.ensures.ok
     nothing wrappers in
-    let profile = and_then (codes "profile") Null c.put-7.new.map.entries c.put-8.new.map.entries
-    null _ c.in_ok-put-8.ensures.ok
+    let profile = and_then (codes "profile") Null c.put-6.new.map.entries c.put-7.new.map.entries
+    null _ c.in_ok-put-7.ensures.ok
     nothing mode in
-    let root = and_then (codes "root") c.in_ok-root.root c.put-8.new.map.entries c.put-9.new.map.entries
-    (text_data report.root) _ c.in_ok-put-9.ensures.ok
+    let root = and_then (codes "root") c.in_ok-root.root c.put-7.new.map.entries c.put-8.new.map.entries
+    (text_data report.root) _ c.in_ok-put-8.ensures.ok
     (c.in_ok-root.ensures ∙ ap string c.as_str.ensures.value) profile in
-    let told = and_then (codes "rules") (Array c.new-4.result) c.put-9.new.map.entries c.put-10.new.map.entries
-    (array no_items) _ c.in_ok-put-10.ensures.ok
+    let told = and_then (codes "rules") (Array c.new-4.result) c.put-8.new.map.entries c.put-9.new.map.entries
+    (array no_items) _ c.in_ok-put-9.ensures.ok
     (empty c.new-4.result c.new-4.ensures.items) root in
-    let setup = and_then (codes "setup-scripts") (Array c.new-5.result) c.put-10.new.map.entries c.put-11.new.map.entries
-    (array no_items) _ c.in_ok-put-11.ensures.ok
+    let setup = and_then (codes "setup-scripts") (Array c.new-5.result) c.put-9.new.map.entries c.put-10.new.map.entries
+    (array no_items) _ c.in_ok-put-10.ensures.ok
     (empty c.new-5.result c.new-5.ensures.items) told in
-    let sources = and_then (codes "sources") c.in_ok-sources.sources c.put-11.new.map.entries c.put-12.new.map.entries
-    (list_data source_data report.sources.items) _ c.in_ok-put-12.ensures.ok
+    let sources = and_then (codes "sources") c.in_ok-sources.sources c.put-10.new.map.entries c.put-11.new.map.entries
+    (list_data source_data report.sources.items) _ c.in_ok-put-11.ensures.ok
     (c.in_ok-sources.ensures ∙ ap (list_data source_data) c.deref-2.ensures.value) setup in
-    let target = and_then (codes "target") Null c.put-12.new.map.entries c.put-13.new.map.entries
-    null _ c.in_ok-put-13.ensures.ok
+    let target = and_then (codes "target") Null c.put-11.new.map.entries c.put-12.new.map.entries
+    null _ c.in_ok-put-12.ensures.ok
     nothing sources in
-    let tests = and_then (codes "tests") (Array c.new-6.result) c.put-13.new.map.entries c.put-14.new.map.entries
-    (array no_items) _ c.in_ok-put-14.ensures.ok
+    let tests = and_then (codes "tests") (Array c.new-6.result) c.put-12.new.map.entries c.put-13.new.map.entries
+    (array no_items) _ c.in_ok-put-13.ensures.ok
     (empty c.new-6.result c.new-6.ensures.items) target in
-    let unreached = and_then (codes "unreached") c.in_ok-unreached.unreached c.put-14.new.map.entries c.put-15.new.map.entries
-    (list_data unreached_data report.unreached.items) _ c.in_ok-put-15.ensures.ok
+    let unreached = and_then (codes "unreached") c.in_ok-unreached.unreached c.put-13.new.map.entries c.put-14.new.map.entries
+    (list_data unreached_data report.unreached.items) _ c.in_ok-put-14.ensures.ok
     (c.in_ok-unreached.ensures ∙ ap (list_data unreached_data) c.deref-3.ensures.value) tests in
-    let unused = and_then (codes "unused") (Array c.new-7.result) c.put-15.new.map.entries c.put-16.new.map.entries
-    (array no_items) _ c.in_ok-put-16.ensures.ok
+    let unused = and_then (codes "unused") (Array c.new-7.result) c.put-14.new.map.entries c.put-15.new.map.entries
+    (array no_items) _ c.in_ok-put-15.ensures.ok
     (empty c.new-7.result c.new-7.ensures.items) unreached in
-    let version = and_then (codes "version") c.from.result c.put-16.new.map.entries c.put-17.new.map.entries
-    (count_data 1) _ c.in_ok-put-17.ensures.ok
+    let version = and_then (codes "version") c.from.result c.put-15.new.map.entries c.put-16.new.map.entries
+    (count_data 1) _ c.in_ok-put-16.ensures.ok
     c.from.ensures unused in
     version
