@@ -1,5 +1,5 @@
 //! Profiles of a session, and what their calls return.
-ghost use Rattle.std.specs.Prelude.{◌≡◌, ◌≢◌, ◌↔◌, IfOk, IfErr, IsTrue, map, option_map, slice_get, string_bytes};
+ghost use Rattle.std.specs.Prelude.{◌≡◌, ◌≢◌, ◌↔◌, IfOk, IfErr, IsTrue, None, map, option_map, slice_get, string_bytes};
 ghost use Rattle.nextest_load.specs.ConfigView.{groups_view};
 ghost use Rattle.nextest_scripts.specs.ScriptId.{script_text};
 ghost use Rattle.rinqebo_session.specs.Answering.{ReturnsNumbers, ReturnsBy, ReturnsTest, AreSized, IsAnswerOf};
@@ -114,6 +114,22 @@ fn directories_of(loaded: &Loaded) -> Option<Directories<'_>>
     }
 }
 
+/// What the objects of a profile have from a configuration whose profiles have these names. It is
+/// not known where values come from.
+fn surroundings_of<'a>(loaded: &'a Loaded, profiles: &'a [String]) -> Surroundings<'a>
+    ensures profiles { result.profiles.now ≡ profiles.now }
+    ensures warnings { result.warnings.now ≡ loaded.now.warnings }
+    ensures directories { directories_view result.directories ≡ directories_in loaded.now }
+    ensures origins { result.origins ≡ None }
+{
+    Surroundings {
+        profiles,
+        warnings: &loaded.warnings,
+        directories: directories_of(loaded),
+        origins: None,
+    }
+}
+
 /// The objects of a profile of a configuration, as a text.
 fn objects_of(
     alloc: Global,
@@ -125,12 +141,7 @@ fn objects_of(
         (string_bytes text)) }
 {
     let profiles = loaded.config.profile_names(alloc)?;
-    let around = Surroundings {
-        profiles: &profiles,
-        warnings: &loaded.warnings,
-        directories: directories_of(loaded),
-        origins: None,
-    };
+    let around = surroundings_of(loaded, &profiles);
     let mut tally = NextestTally::new();
     let text = objects_text(alloc, profile, around, &mut tally)?;
     Ok(text)

@@ -1,6 +1,7 @@
-use Rattle.std.proofs.Common.{◌∙◌, None, ap, map, string_bytes, subst}
+use Rattle.std.proofs.Common.{◌∙◌, None, ap, map, option_map, string_bytes, subst}
 use Rattle.nextest_sources.specs.WarningsView.{warnings_view}
 use Rattle.rinqebo_objects.specs.Objects.{AreObjectsOf}
+use Rattle.rinqebo_objects.specs.Scripts.{directories_view}
 use Rattle.rinqebo_session.specs.Opening.{directories_in}
 use Rattle.rinqebo_session.proofs.profile.objects_of.Goals as goal
 
@@ -9,13 +10,20 @@ returns c =
     let facts = c.args.profile.now.facts in
     let filter = c.args.profile.now.default_filter.text in
     let loaded = c.args.loaded.now in
-    let warnings = warnings_view loaded.warnings in
     let text = c.in_ok-text.ensures in
+    let around = c.surroundings_of-around.result in
+    let known = c.surroundings_of-around.ensures in
+    let names = map string_bytes around.profiles.now in
     record {
       value = text.0;
-      are = subst (λ profiles. AreObjectsOf facts filter profiles warnings (directories_in loaded) None None text.0)
-          (ap (map string_bytes) c.deref.ensures.value ∙ c.in_ok-profiles.ensures)
-          (subst (λ directories. AreObjectsOf facts filter (map string_bytes c.deref.result.now) warnings directories None None text.0)
-          c.directories_of.ensures text.1);
+      are = subst (λ profiles. AreObjectsOf facts filter profiles (warnings_view loaded.warnings) (directories_in loaded) None None text.0)
+          (ap (map string_bytes) (known.profiles ∙ c.deref.ensures.value) ∙ c.in_ok-profiles.ensures)
+          (subst (λ warnings. AreObjectsOf facts filter names (warnings_view warnings) (directories_in loaded) None None text.0)
+          known.warnings
+          (subst (λ directories. AreObjectsOf facts filter names (warnings_view around.warnings.now) directories None None text.0)
+          known.directories
+          (subst (λ origins. AreObjectsOf facts filter names (warnings_view around.warnings.now)
+          (directories_view around.directories) None (option_map (λ o. o.now) origins) text.0)
+          known.origins text.1)));
       written = text.2;
     }
