@@ -3,3 +3,9 @@ pub mod Evaluating
 pub mod Failing
 pub mod EqualSides
 pub mod SwappedSides
+pub mod TurnedRows
+pub mod TurnedRuns
+pub mod TurnedTests
+pub mod ReportedTwice
+pub mod OneRun
+pub mod TurnedSides

@@ -11,3 +11,4 @@ pub mod Evaluated
 pub mod Beside
 pub mod EqualSides
 pub mod SwappedSides
+pub mod TurnedSides

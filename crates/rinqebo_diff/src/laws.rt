@@ -11,14 +11,15 @@ ghost use Rattle.rinqebo_changes.specs.Sides.Own.{NamesOnce};
 ghost use Rattle.rinqebo_diff.specs.Asked.{compares_runs};
 ghost use Rattle.rinqebo_diff.specs.Compared.{AreCompared};
 ghost use Rattle.rinqebo_diff.specs.Differences.{SideReports, tests_of, diff_status, IsDiffOf};
-ghost use Rattle.rinqebo_diff.specs.EqualSides.{GivesOneRun, NoTestChanges};
+ghost use Rattle.rinqebo_diff.specs.EqualSides.{NoTestChanges};
 ghost use Rattle.rinqebo_diff.specs.Sides.{Evaluation};
 ghost use Rattle.rinqebo_diff.specs.SwappedSides.{HaveSwapped};
+ghost use Rattle.rinqebo_diff.specs.TurnedSides.{swapped_request, AreTurnedAlone, AreTurnedRuns, AreTurnedTests};
 ghost use Rattle.rinqebo_diff.specs.declared.request.DiffRequest.{DiffRequest as Requested};
 
-/// No test changes between a side and itself, and none is on one side alone: by the same session,
-/// profile and mode each test has the same values. If the whole run is not compared, or the side
-/// gives it the same each time, nothing changes at all, and the exit status is 0.
+/// Nothing changes between a side and itself: by the same session, profile and mode each test has
+/// the same values, none is on one side alone, and the whole run has the same. So without
+/// `--origins` the exit status is 0.
 pub fn law_equal_sides()
     ensures tests { (side : Evaluation) (mode : Mode) (asked : Asked) (files others : List File)
         (pairs : List TestPair) (changed : List Changed) → NamesOnce (tests_of side)
@@ -28,17 +29,35 @@ pub fn law_equal_sides()
         → NoTestChanges (tests_of side) changed }
     ensures whole { (request : Requested) (side : Evaluation) (diff : Comparison)
         → request.with_origins ≡ false → request.from.mode ≡ request.to.mode
-        → NamesOnce (tests_of side) → (request.with_run ≡ true → GivesOneRun side)
-        → IsDiffOf request side side diff → diff_status diff ≡ 0 }
+        → NamesOnce (tests_of side) → IsDiffOf request side side diff → diff_status diff ≡ 0 }
 {}
 
-/// Between swapped sides the same settings of the same tests change, each with its two sides
-/// swapped.
+/// What changes between two sides changes between the swapped sides, the other way.
+///
+/// What one diff lists as removed, the other one lists as added, and the other way round. The same
+/// settings of the same tests change, and the same rows of the whole run, each with its two sides
+/// swapped; and the exit status is the same. With `--origins`, what a diff may report of tests may
+/// be reported of the swapped sides, each change with its sides swapped.
 pub fn law_swapped_sides()
-    ensures { (left right : Evaluation) (one two : Mode) (asked : Asked) (files others : List File)
-        (with_origins : Bool) (pairs : List TestPair) (changed : List Changed)
+    ensures tests { (left right : Evaluation) (one two : Mode) (asked : Asked)
+        (files others : List File) (with_origins : Bool) (pairs : List TestPair)
+        (changed : List Changed)
         → AreCompared (SideReports left one asked) (SideReports right two asked)
         (is_change files others with_origins) (compares_runs asked) pairs changed
         → HaveSwapped (SideReports left one asked) (SideReports right two asked)
         (is_change others files with_origins) (compares_runs asked) pairs changed }
+    ensures alone { (request : Requested) (left right : Evaluation) (diff other : Comparison)
+        → IsDiffOf request left right diff → IsDiffOf (swapped_request request) right left other
+        → AreTurnedAlone diff other }
+    ensures run { (request : Requested) (left right : Evaluation) (diff other : Comparison)
+        → IsDiffOf request left right diff → IsDiffOf (swapped_request request) right left other
+        → AreTurnedRuns diff.run.items other.run.items }
+    ensures changed { (request : Requested) (left right : Evaluation) (diff other : Comparison)
+        → request.with_origins ≡ false → NamesOnce (tests_of left) → NamesOnce (tests_of right)
+        → IsDiffOf request left right diff → IsDiffOf (swapped_request request) right left other
+        → AreTurnedTests diff.changed.items other.changed.items }
+    ensures status { (request : Requested) (left right : Evaluation) (diff other : Comparison)
+        → request.with_origins ≡ false → NamesOnce (tests_of left) → NamesOnce (tests_of right)
+        → IsDiffOf request left right diff → IsDiffOf (swapped_request request) right left other
+        → diff_status diff ≡ diff_status other }
 {}

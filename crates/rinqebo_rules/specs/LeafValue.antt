@@ -46,7 +46,14 @@ pub record AreItems (items : Nodes) (texts : List (String Global)) : Type 0 wher
   pub told : are_texts items ≡ true
   pub same : nodes_of (map text_node texts) ≡ items
 
--- A value is that of a leaf: a file writes the leaf for it.
+-- whether a value is as a file spells it: a file has no length of time, but a text that spells it
+abbrev pub is_spelled : Value → Bool
+is_spelled (values.Scalar (scalars.Duration duration)) = false
+is_spelled value = true
+
+-- A value is that of a leaf: a file writes the leaf for it, and it is reported as the file spells
+-- it.
 pub record IsValueOf (leaf : Node) (value : Value) : Type 0 where
   pub told : is_tellable leaf ≡ true
   pub same : value_node value ≡ leaf
+  pub spelled : is_spelled value ≡ true
