@@ -1,8 +1,9 @@
 -- Lists that are written as their tests are asked.
-use Rattle.std.proofs.Common.{◌≡◌, ◌∙◌, ◌⊎◌, ◌<◌, ◌^◌, inl, inr, ℕ, List, [], ◌∷◌, ◌++◌, Option, None, Result, Ok, Err, IfErr, IsErrAnd, ap, arith, flat_map, length, map, refl, string_bytes, subst, sym, take}
+use Rattle.std.proofs.Common.{◌≡◌, ◌∙◌, ◌⊎◌, ◌<◌, ◌^◌, inl, inr, ℕ, List, [], ◌∷◌, ◌++◌, Option, None, ap, arith, flat_map, length, map, refl, string_bytes, subst, sym, take}
 use Rattle.std.proofs.KnownBytes.{Appends-nil, Appends-trans}
 use Rattle.std.proofs.lemmas.Grind.{flat_map-append}
 use Rattle.std.proofs.lemmas.List.{append-nil, take-map, take_all}
+use Rattle.std.proofs.lemmas.Slice.Zip.{AllZip-long}
 use Rattle.std.specs.Io.KnownBytes.{Appends}
 use Rattle.std.specs.List.{AllZip}
 use Rattle.std.specs.declared.vec.Vec.{Vec}
@@ -24,6 +25,9 @@ use Rattle.nextest_tables.specs.Written.{Name}
 use Rattle.rinqebo_request.specs.declared.files.gathering.Gathered.{Gathered}
 use Rattle.rinqebo_rules.specs.TestOrigins.{Basis}
 use Rattle.rinqebo_rules.specs.Rows.{AreTestsReported, IsTestReported}
+use Rattle.rinqebo_rules.specs.Scripts.{AreScriptsReported}
+use Rattle.rinqebo_rules.specs.Unused.{AreUnusedIn}
+use Rattle.rinqebo_rules.specs.declared.unused.UnusedRules.{UnusedRules}
 use Rattle.rinqebo_report.specs.Headers.{list_head_runs}
 use Rattle.rinqebo_report.specs.Pages.{list_end_runs, list_runs, listed_runs}
 use Rattle.rinqebo_report.specs.Pieces.{painted, page_text}
@@ -34,6 +38,7 @@ use Rattle.rinqebo_report.specs.declared.layout.Paper.{Paper}
 use Rattle.rinqebo_report.specs.declared.report.Asked.{Asked}
 use Rattle.rinqebo_report.specs.declared.report.Content.{Content}
 use Rattle.rinqebo_report.specs.declared.report.Content.TheVariants as contents
+use Rattle.rinqebo_report.specs.declared.report.ListScripts.{ListScripts}
 use Rattle.rinqebo_report.specs.declared.report.Report.{Report}
 use Rattle.rinqebo_report.specs.declared.report.TestRows.{TestRows}
 use Rattle.rinqebo_request.specs.declared.request.RequestedSettings.{RequestedSettings}
@@ -43,18 +48,19 @@ use Rattle.rinqebo_request.specs.declared.request.Request.{Request}
 use Rattle.platform_language.specs.Expressions.{Spec, spec_view}
 use Rattle.platform_language.specs.declared.expression.TargetSpec.{TargetSpec}
 use Rattle.filter_inputs.specs.Lists.ListView.{list_test_view, list_view}
-use Rattle.filter_inputs.specs.Lists.Lists.{ListTest, list_tests}
+use Rattle.filter_inputs.specs.Lists.Lists.{ListTest, all_binaries, all_tests, list_tests}
 use Rattle.filter_inputs.specs.declared.lists.list.ListedTest.{ListedTest}
 use Rattle.rinqebo_run.proofs.Documents.{text_or_json}
-use Rattle.rinqebo_run.proofs.Listing.{given_means, tells_tests, zip_mapped}
+use Rattle.rinqebo_run.proofs.Listing.{given_means, listed_here, tells_tests, zip_mapped}
 use Rattle.rinqebo_run.proofs.Refused.{failure_reported}
 use Rattle.rinqebo_run.proofs.Statuses.{failed_silent, failed_status}
+use Rattle.rinqebo_run.proofs.Stops.{stops_so}
 use Rattle.rinqebo_run.specs.Answered.{AnswersQuestion, Reports}
 use Rattle.rinqebo_run.specs.Begun.{tests_text, AreFirstOf, AreFirstWritten, AreWritten, BeginsList, BeginsPage, IsBegun}
 use Rattle.rinqebo_load.specs.Accepted.{AreAccepted}
 use Rattle.rinqebo_rules.specs.Conditions.{is_met_by}
 use Rattle.rinqebo_run.specs.Listed.{IsProfileOn, ReportsTests}
-use Rattle.rinqebo_run.specs.ListedBy.{basis_of, read_by}
+use Rattle.rinqebo_run.specs.ListedBy.{basis_of, places_of, read_by}
 use Rattle.rinqebo_run.specs.Requested.{IsRequestedOf}
 use Rattle.rinqebo_run.proofs.Requests.{requested_on}
 use Rattle.rinqebo_run.specs.Refused.{Fails, IsFailureIn, IsReportedBy}
@@ -63,7 +69,7 @@ use Rattle.rinqebo_load.specs.SessionOf.{IsSessionOf}
 use Rattle.rinqebo_load.specs.Sessions.{files_view, readings, IsLoadedFrom}
 use Rattle.rinqebo_run.specs.Statuses.{IsAnswerStatus, IsStatus}
 use Rattle.rinqebo_findings.specs.Reports.{IsReportOf}
-use Rattle.rinqebo_run.specs.Written.{AreFirstBy, AsksList, IsStopStatus, StopsList, WritesList, WritesPage}
+use Rattle.rinqebo_run.specs.Written.{AreFirstBy, AsksList, EndsPage, HasPage, IsStopStatus, StopsList, WritesList, WritesPage}
 use Rattle.rinqebo_load.specs.declared.failure.Failure.{Failure}
 use Rattle.rinqebo_load.specs.declared.failure.Failure.TheVariants as failures
 use Rattle.rinqebo_run.specs.declared.list_fault.ListFault.{ListFault}
@@ -71,12 +77,6 @@ use Rattle.rinqebo_run.specs.declared.list_fault.ListFault.TheVariants as faults
 use Rattle.rinqebo_run.specs.declared.list_page.BesideTests.{BesideTests}
 use Rattle.rinqebo_run.specs.declared.list_page.RequestedList.{RequestedList}
 use Rattle.rinqebo_load.specs.declared.session.Session.{Session}
-
--- a fault is passed on
-pub passed_stop : {A : Type 0} (P : ListFault → Type 0) (r : Result A ListFault) (fault : ListFault)
-    → IsErrAnd r (λ told. told ≡ fault) → P fault → IfErr r P
-passed_stop P (Ok answer) fault same is = tt
-passed_stop P (Err told) fault same is = subst P (sym same) is
 
 -- the lines of tests, and those of one more
 pub tests_text-push : (head : Report) (paper : Paper) (tests : List TestRows) (rows : TestRows)
@@ -195,6 +195,45 @@ first_here session loaded name mode asked on names chain headed header head pape
           first.page;
     }
 
+-- the page of a list, where what is behind the tests followed
+pub page_here : (session : Session) (loaded : Loaded (Filterset FieldMatcher) TargetSpec) (name : Name)
+    (mode : NextestRunMode) (asked : RequestedSettings) (on : EvaluatableModel (Filterset FieldMatcher))
+    (names chain headed : List Name) (header : Asked) (head : Report) (paper : Paper) (ids : UnusedRules)
+    (scripts : ListScripts) (count : ℕ) (old mid last whole : Option (List ℕ))
+    → IsProfileOn is_met_by session.engines.platforms (read_by session loaded) name on
+    → IsChainAndDefault (parents_in (config_parents loaded.config)) name names → chain ≡ names → headed ≡ names
+    → IsRequestedOf session name mode headed header → Appends old mid (page_text paper.colour (list_head_runs paper.columns header))
+    → AreWritten (basis_of session chain) (readings session.engines.filters).matches_test mode
+    (profile_meaning (marks_view names_of) on) asked (list_tests (list_view session.tests)) head paper mid last
+    → count ≡ length (list_tests (list_view session.tests)) → count < 2 ^ 63
+    → AreUnusedIn (map (query_in (readings session.engines.filters).matches_test
+    (profile_meaning (marks_view names_of) on)) (all_tests (list_view session.tests)))
+    (profile_meaning (marks_view names_of) on) ids
+    → AreScriptsReported (readings session.engines.filters).matches_test (readings session.engines.filters).matches_binary
+    (profile_meaning (marks_view names_of) on) (all_tests (list_view session.tests))
+    (all_binaries (list_view session.tests)) scripts
+    → EndsPage session head paper count (places_of ids) last whole
+    → HasPage session loaded name mode asked head paper old whole
+page_here session loaded name mode asked on names chain headed header head paper ids scripts count old mid last whole
+    is ends same same_header is_asked opening written counted fits unused scripted behind =
+    let long : length (list_tests (list_view session.tests)) ≡ length written.tests =
+    sym (AllZip-long _ (list_tests (list_view session.tests)) written.tests written.are_reported) in
+    let all : count ≡ length written.tests = counted ∙ long in
+    record {
+      beside = record { asked = header; unused = behind.unused; scripts = scripts };
+      writes = record {
+        tests = written.tests;
+        fit = subst (λ n. n < 2 ^ 63) all fits;
+        told = listed_here session loaded name mode asked on names chain ids written.tests behind.unused.items scripts None
+            is ends same written.are_reported unused behind.are_origins scripted tt;
+        chain = names;
+        is_chain = ends;
+        requested = requested_on session name mode headed names header same_header is_asked;
+        page = whole_page head paper header written.tests behind.unused.items count old mid last whole all opening
+            written.page behind.page;
+      };
+    }
+
 -- the page of a list was begun by what was loaded
 pub begins_list : (session : Session) (profile : Name) (mode : NextestRunMode) (asked : RequestedSettings) (paper : Paper)
     (loaded : Loaded (Filterset FieldMatcher) TargetSpec) (old new : Option (List ℕ)) → AreAccepted session
@@ -255,24 +294,6 @@ writes_list session profile mode asked paper head beside loaded old new accepted
       looked_up = looked;
       page = writes.page;
     }
-
--- why a list was not written whole, in other words
-pub stops_so : (refuses others : Failure → Type 0) (begun more : Type 0) (old new : Option (List ℕ))
-    (fault : ListFault) → ((failure : Failure) → refuses failure → others failure) → (begun → more)
-    → StopsList refuses begun old new fault → StopsList others more old new fault
-stops_so refuses others begun more old new (faults.Refused failure) told first stop = (told failure stop.0, stop.1)
-stops_so refuses others begun more old new faults.Memory told first (inl is) = inl (first is)
-stops_so refuses others begun more old new faults.Memory told first (inr same) = inr same
-stops_so refuses others begun more old new faults.Write told first stop = tt
-
--- why a list was not written whole of which something was written before
-pub stops_behind : (more begun : Type 0) (old mid new : Option (List ℕ)) (fault : ListFault)
-    → (more → begun) → (mid ≡ new → begun) → StopsList (λ _. ⊥) more mid new fault
-    → StopsList (λ _. ⊥) begun old new fault
-stops_behind more begun old mid new (faults.Refused failure) further first stop = absurd stop.0
-stops_behind more begun old mid new faults.Memory further first (inl is) = inl (further is)
-stops_behind more begun old mid new faults.Memory further first (inr same) = inl (first (sym same))
-stops_behind more begun old mid new faults.Write further first stop = tt
 
 -- a question that asks for a list is answered by what tells its tests
 answers_list : (q : Question) (list : RequestedList) (session : Session) (report : Report) → AsksList q list
@@ -337,23 +358,27 @@ pub list_stopped : (request : Request) (gathered : Gathered) (list : RequestedLi
     (old new : Option (List ℕ)) (fault : ListFault) → IsSessionOf request gathered session
     → AsksList request.question list → request.format ≡ formats.Text
     → StopsList (IsFailureOn session list.profile.now)
-    (BeginsList session list.profile.now list.mode list.settings.now request.paper old new) old new fault
-    → StopsList (Fails request gathered) (IsBegun request gathered old new) old new fault
+    (BeginsList session list.profile.now list.mode list.settings.now request.paper old)
+    (WritesList session list.profile.now list.mode list.settings.now request.paper old) old new fault
+    → StopsList (Fails request gathered) (IsBegun request gathered old) (Reports request gathered 0 old) old new fault
 list_stopped request gathered list session old new fault begun asks is_text stop =
     stops_so (IsFailureOn session list.profile.now) (Fails request gathered)
-    (BeginsList session list.profile.now list.mode list.settings.now request.paper old new)
-    (IsBegun request gathered old new) old new fault
+    (BeginsList session list.profile.now list.mode list.settings.now request.paper old)
+    (IsBegun request gathered old)
+    (WritesList session list.profile.now list.mode list.settings.now request.paper old)
+    (Reports request gathered 0 old) old new fault
     (λ failure cause. inr (record {
       session = session;
       begun = begun;
       cause = fails_about request.question list session failure asks cause;
     }))
-    (λ begins. record {
+    (λ whole begins. record {
       session = session;
       of_request = begun;
       is_text = is_text;
-      page = begins_page request.question list session request.paper old new asks begins;
-    }) stop
+      page = begins_page request.question list session request.paper old whole asks begins;
+    })
+    (λ whole writes. inr (list_reported request gathered list session old whole begun asks is_text writes)) stop
 
 -- what a run ends with whose list was not written whole is a status
 pub stop_status : (q : Question) (fault : ListFault) (n : ℕ) → IsStopStatus fault n → IsStatus q n
@@ -363,7 +388,7 @@ stop_status q faults.Write n ends = failed_status q failures.Memory n (inr (inr 
 
 -- what went out of a list that was not written whole
 pub stop_quiet : (request : Request) (gathered : Gathered) (old new : Option (List ℕ)) (fault : ListFault) (n : ℕ)
-    → StopsList (Fails request gathered) (IsBegun request gathered old new) old new fault → IsStopStatus fault n
+    → StopsList (Fails request gathered) (IsBegun request gathered old) (Reports request gathered 0 old) old new fault → IsStopStatus fault n
     → IsAnswerStatus request.question n ⊎ (n ≡ 6) ⊎ (new ≡ old) ⊎ ((n ≡ 5) × IsBegun request gathered old new)
 stop_quiet request gathered old new (faults.Refused failure) n stop ends = inr (inr (inl stop.1))
 stop_quiet request gathered old new faults.Memory n (inl begun) (inl five) = inr (inr (inr (five, begun)))
@@ -374,7 +399,7 @@ stop_quiet request gathered old new faults.Write n stop ends = inr (inl ends)
 -- a list that was not written whole has no status of an answer
 pub stop_silent : {X : Type 0} (request : Request) (gathered : Gathered) (old new : Option (List ℕ))
     (fault : ListFault) (n : ℕ)
-    → StopsList (Fails request gathered) (IsBegun request gathered old new) old new fault → IsStopStatus fault n
+    → StopsList (Fails request gathered) (IsBegun request gathered old) (Reports request gathered 0 old) old new fault → IsStopStatus fault n
     → IsAnswerStatus request.question n → X
 stop_silent request gathered old new (faults.Refused failure) n stop ends is =
     failed_silent request gathered failure n stop.0 ends is
@@ -385,7 +410,7 @@ stop_silent request gathered old new faults.Write n stop ends is =
 
 -- the status of a run whose list was not written whole tells of files
 pub stop_reported : (request : Request) (gathered : Gathered) (old new : Option (List ℕ)) (fault : ListFault) (n : ℕ)
-    → StopsList (Fails request gathered) (IsBegun request gathered old new) old new fault → IsStopStatus fault n
+    → StopsList (Fails request gathered) (IsBegun request gathered old) (Reports request gathered 0 old) old new fault → IsStopStatus fault n
     → IsReportedBy request gathered n
 stop_reported request gathered old new (faults.Refused failure) n stop ends =
     failure_reported request gathered failure n stop.0 ends

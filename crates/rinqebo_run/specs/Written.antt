@@ -1,6 +1,9 @@
 -- Lists that the program writes as it resolves their tests.
-use Rattle.std.specs.Prelude.{◌≡◌, ◌⊎◌, ◌<◌, ◌^◌, ℕ, List, Option, None, length, string_bytes}
+use Rattle.std.specs.Prelude.{◌≡◌, ◌⊎◌, ◌<◌, ◌^◌, ℕ, List, [], Option, None, length, string_bytes}
 use Rattle.std.specs.Io.KnownBytes.{Appends}
+use Rattle.std.specs.List.{AllZip}
+use Rattle.std.specs.declared.alloc.Global.{Global}
+use Rattle.std.specs.declared.vec.Vec.{Vec}
 use Rattle.filter_language.specs.Filtersets.{marks_view}
 use Rattle.filter_language.specs.declared.filterset.Filterset.{Filterset}
 use Rattle.nextest_elements.specs.declared.run_mode.NextestRunMode.{NextestRunMode}
@@ -15,13 +18,16 @@ use Rattle.nextest_settings.specs.Deciding.{QueryContext}
 use Rattle.nextest_settings.specs.Profile.{EvaluatableModel}
 use Rattle.nextest_tables.specs.Written.{Name}
 use Rattle.rinqebo_rules.specs.TestOrigins.{Basis}
+use Rattle.rinqebo_rules.specs.Origins.{IsOriginOf}
 use Rattle.rinqebo_rules.specs.Rows.{IsTestReported}
+use Rattle.rinqebo_rules.specs.RulePlaces.{Place}
 use Rattle.rinqebo_findings.specs.Reports.{IsReportOf}
-use Rattle.rinqebo_report.specs.Pages.{list_runs, listed_runs}
+use Rattle.rinqebo_report.specs.Pages.{list_end_runs, list_runs, listed_runs}
 use Rattle.rinqebo_report.specs.Pieces.{page_text}
 use Rattle.rinqebo_report.specs.Rendered.{rendered}
 use Rattle.rinqebo_report.specs.declared.format.Format.TheVariants as formats
 use Rattle.rinqebo_report.specs.declared.layout.Paper.{Paper}
+use Rattle.rinqebo_report.specs.declared.origin.Origin.{Origin}
 use Rattle.rinqebo_report.specs.declared.report.Report.{Report}
 use Rattle.rinqebo_report.specs.declared.report.TestRows.{TestRows}
 use Rattle.rinqebo_request.specs.declared.request.RequestedSettings.{RequestedSettings}
@@ -34,6 +40,7 @@ use Rattle.filter_inputs.specs.Lists.Lists.{ListTest, list_tests}
 use Rattle.rinqebo_run.specs.Begun.{AreFirstOf}
 use Rattle.rinqebo_run.specs.Listed.{ReportsTests}
 use Rattle.rinqebo_run.specs.ListedBy.{listed_by, read_by}
+use Rattle.rinqebo_run.specs.Prefixes.{ReceivesPrefix}
 use Rattle.rinqebo_run.specs.Requested.{IsRequestedOf}
 use Rattle.rinqebo_run.specs.LookedUp.{IsLookedUp}
 use Rattle.rinqebo_load.specs.Sessions.{readings}
@@ -86,6 +93,23 @@ pub record WritesPage (session : Session) (loaded : Loaded (Filterset FieldMatch
   pub page : Appends old new (page_text paper.colour (list_runs paper.columns
       (string_bytes head.root) head.sources.items beside.asked tests beside.unused.items))
 
+-- The program wrote the page of a list by a configuration that was loaded, whatever follows the
+-- tests.
+pub record HasPage (session : Session) (loaded : Loaded (Filterset FieldMatcher) TargetSpec)
+    (profile : Name) (mode : NextestRunMode) (asked : RequestedSettings) (head : Report)
+    (paper : Paper) (old new : Option (List ℕ)) : Type 0 where
+  pub beside : BesideTests
+  pub writes : WritesPage session loaded profile mode asked head paper old new beside
+
+-- The program wrote what follows the tests of a list: how many there are, and the origins of the
+-- rules at some places, which hold for none of them.
+pub record EndsPage (session : Session) (head : Report) (paper : Paper) (count : ℕ)
+    (places : List Place) (old new : Option (List ℕ)) : Type 0 where
+  pub unused : Vec Origin Global
+  pub are_origins : AllZip (λ place. IsOriginOf session.layers.items place []) places unused.items
+  pub page : Appends old new (page_text paper.colour (list_end_runs paper.columns
+      (string_bytes head.root) head.sources.items count unused.items))
+
 -- The program wrote the page of a list whole. It looked up each filter that it evaluates for the
 -- list.
 pub record WritesList (session : Session) (profile : Name) (mode : NextestRunMode)
@@ -96,13 +120,21 @@ pub record WritesList (session : Session) (profile : Name) (mode : NextestRunMod
   pub looked_up : IsLookedUp session profile
   pub page : Appends old new (rendered report formats.Text paper)
 
+-- what a writer holds if no write fails: what it held, and then nothing, or the beginning of a list
+-- that is not written whole for another reason, or all of the list
+abbrev pub IsListed : (Option (List ℕ) → Type 0) → (Option (List ℕ) → Type 0) → Option (List ℕ)
+    → Option (List ℕ) → Type 0
+IsListed begins ends old whole = (whole ≡ old) ⊎ begins whole ⊎ ends whole
+
 -- The program did not write a list whole: a run refuses for a reason, and wrote nothing; or memory
--- ran out, and it wrote the first tests, or nothing; or a write failed.
-abbrev pub StopsList : (Failure → Type 0) → Type 0 → Option (List ℕ) → Option (List ℕ)
-    → ListFault → Type 0
-StopsList refuses begun old new (faults.Refused failure) = refuses failure × (new ≡ old)
-StopsList refuses begun old new faults.Memory = begun ⊎ (new ≡ old)
-StopsList refuses begun old new faults.Write = Unit {0}
+-- ran out, and it wrote the first tests, or nothing; or a write failed, and it wrote a prefix of
+-- what it writes if no write fails.
+abbrev pub StopsList : (Failure → Type 0) → (Option (List ℕ) → Type 0)
+    → (Option (List ℕ) → Type 0) → Option (List ℕ) → Option (List ℕ) → ListFault → Type 0
+StopsList refuses begins ends old new (faults.Refused failure) = refuses failure × (new ≡ old)
+StopsList refuses begins ends old new faults.Memory = begins new ⊎ (new ≡ old)
+StopsList refuses begins ends old new faults.Write =
+    ReceivesPrefix (IsListed begins ends old) old new
 
 -- the exit status of a run that did not write its list whole
 abbrev pub IsStopStatus : ListFault → ℕ → Type 0

@@ -20,7 +20,8 @@ ghost use Rattle.rinqebo_report.specs.Pieces.{page_text};
 ghost use Rattle.rinqebo_run.specs.ListedBy.{basis_of, places_of};
 ghost use Rattle.rinqebo_rules.specs.Origins.{IsOriginOf};
 ghost use Rattle.rinqebo_run.specs.Begun.{AreFirstWritten, AreWritten};
-ghost use Rattle.rinqebo_run.specs.Written.{AreFirstBy, ShowsTest, StopsList, WritesPage};
+ghost use Rattle.rinqebo_run.specs.Prefixes.{AppendsPrefix};
+ghost use Rattle.rinqebo_run.specs.Written.{AreFirstBy, EndsPage, HasPage, ShowsTest, StopsList, WritesPage};
 ghost use Rattle.rinqebo_run.specs.declared.list_fault.ListFault.TheVariants as faults;
 
 use crate::asked::requested_of;
@@ -28,6 +29,7 @@ use crate::list::{Profile, profile_on};
 use crate::list_fault::ListFault;
 use crate::list_origins::unused_origins;
 use crate::list_scripts::scripts_of_list;
+use crate::streams::{write_bytes, write_whole};
 use filter_engine::{NextestFilters, NextestTally};
 use filter_inputs::ListedTest;
 use nextest_config::NextestRunMode;
@@ -83,23 +85,20 @@ pub struct BesideTests {
 pub fn write_text<W: Write>(text: &str, out: &mut W) -> Result<(), ListFault>
     ensures ok { OnOk result (Appends (W.contents out.old) (W.contents out.new) text.now) }
     ensures err { IfErr result (λ fault. fault ≡ faults.Write) }
+    ensures begun { AppendsPrefix (W.contents out.old) (W.contents out.new) text.now }
 {
-    match out.write_all(text.as_bytes()) {
-        Ok(()) => Ok(()),
-        Err(_) => Err(ListFault::Write),
-    }
+    write_bytes(text.as_bytes(), out)?;
+    Ok(())
 }
 
 /// Writes the last text of a page.
 pub fn write_last<W: Write>(text: &str, out: &mut W) -> Result<(), ListFault>
     ensures ok { OnOk result (Appends (W.contents out.old) (W.contents out.new) text.now) }
     ensures err { IfErr result (λ fault. fault ≡ faults.Write) }
+    ensures begun { AppendsPrefix (W.contents out.old) (W.contents out.new) text.now }
 {
-    write_text(text, out)?;
-    match out.flush() {
-        Ok(()) => Ok(()),
-        Err(_) => Err(ListFault::Write),
-    }
+    write_whole(text, out)?;
+    Ok(())
 }
 
 impl<'c> ListPage<'c, '_> {
@@ -153,8 +152,7 @@ impl<'c> ListPage<'c, '_> {
         ensures err { IfErr result (StopsList (λ _. ⊥) (AreFirstWritten origins.old filter_holds
             asking.now.mode (profile_meaning (marks_view names_of) asking.now.profile.now)
             asking.now.asked.now (map list_test_view listed.now) self.now.head.now self.now.paper
-            (O.contents out.old) (O.contents out.new))
-            (O.contents out.old) (O.contents out.new)) }
+            (O.contents out.old)) (λ _. ⊥) (O.contents out.old) (O.contents out.new)) }
     {
         let mut tally = NextestTally::new();
         let mut used = asking.before_tests(alloc)?;
@@ -194,8 +192,7 @@ impl<'c> ListPage<'c, '_> {
             self.now.list.mode (profile_meaning (marks_view names_of) on.now)
             self.now.list.settings.now
             (list_tests (list_view self.now.session.now.tests)) self.now.head.now self.now.paper
-            (O.contents out.old) (O.contents out.new))
-            (O.contents out.old) (O.contents out.new)) }
+            (O.contents out.old)) (λ _. ⊥) (O.contents out.old) (O.contents out.new)) }
     {
         let asking = Lister {
             profile: on,
@@ -217,7 +214,9 @@ impl<'c> ListPage<'c, '_> {
     ) -> Result<(), ListFault>
         ensures ok { OnOk result (Appends (O.contents out.old) (O.contents out.new)
             (page_text self.now.paper.colour (list_head_runs self.now.paper.columns asked.now))) }
-        ensures err { IfErr result (StopsList (λ _. ⊥) ⊥
+        ensures err { IfErr result (StopsList (λ _. ⊥) (λ _. ⊥)
+            (λ whole. Appends (O.contents out.old) whole
+            (page_text self.now.paper.colour (list_head_runs self.now.paper.columns asked.now)))
             (O.contents out.old) (O.contents out.new)) }
     {
         let text = render_list_head(alloc, asked, self.paper)?;
@@ -241,7 +240,8 @@ impl<'c> ListPage<'c, '_> {
             (page_text self.now.paper.colour (list_end_runs self.now.paper.columns
             (string_bytes self.now.head.now.root) self.now.head.now.sources.items count
             origins.items))) }
-        ensures err { IfErr result (StopsList (λ _. ⊥) ⊥
+        ensures err { IfErr result (StopsList (λ _. ⊥) (λ _. ⊥) (EndsPage self.now.session.now
+            self.now.head.now self.now.paper count (places_of unused.now) (O.contents out.old))
             (O.contents out.old) (O.contents out.new)) }
     {
         let origins = unused_origins(alloc, &self.session.layers, unused)?;
@@ -263,9 +263,10 @@ impl<'c> ListPage<'c, '_> {
             self.now.head.now self.now.paper (O.contents out.old) (O.contents out.new)) }
         ensures err { IfErr result (StopsList (λ _. ⊥) (AreFirstBy self.now.session.now
             self.now.config.now self.now.list.profile.now self.now.list.mode
-            self.now.list.settings.now
-            self.now.paper (O.contents out.old) (O.contents out.new))
-            (O.contents out.old) (O.contents out.new)) }
+            self.now.list.settings.now self.now.paper (O.contents out.old))
+            (HasPage self.now.session.now self.now.config.now self.now.list.profile.now
+            self.now.list.mode self.now.list.settings.now self.now.head.now self.now.paper
+            (O.contents out.old)) (O.contents out.old) (O.contents out.new)) }
     {
         let chain = chain_of_profile(alloc, self.config, self.list.profile)?;
         let asked = requested_of(

@@ -54,8 +54,9 @@ fn write_in<O: Write, E: Write>(
     ensures ok { OnOk result (WritesList session.now list.now.profile.now list.now.mode
         list.now.settings.now paper (O.contents out.old) (O.contents out.new)) }
     ensures err { IfErr result (StopsList (IsFailureOn session.now list.now.profile.now)
-        (BeginsList session.now list.now.profile.now list.now.mode list.now.settings.now
-        paper (O.contents out.old) (O.contents out.new))
+        (BeginsList session.now list.now.profile.now list.now.mode list.now.settings.now paper
+        (O.contents out.old)) (WritesList session.now list.now.profile.now list.now.mode
+        list.now.settings.now paper (O.contents out.old))
         (O.contents out.old) (O.contents out.new)) }
 {
     let mut warnings = DefaultConfigWarnings::new(alloc);
@@ -91,7 +92,8 @@ pub fn write_list<O: Write, E: Write>(
     ensures ok { OnOk result
         (Reports request.now gathered.now 0 (O.contents out.old) (O.contents out.new)) }
     ensures err { IfErr result (StopsList (Fails request.now gathered.now)
-        (IsBegun request.now gathered.now (O.contents out.old) (O.contents out.new))
+        (IsBegun request.now gathered.now (O.contents out.old))
+        (Reports request.now gathered.now 0 (O.contents out.old))
         (O.contents out.old) (O.contents out.new)) }
 {
     let session = Session::new(alloc, request, gathered)?;
