@@ -26,7 +26,6 @@ use Rattle.rinqebo_report.specs.declared.origin.Source.{Source}
 use Rattle.rinqebo_report.specs.declared.report.Entry.{Entry}
 use Rattle.rinqebo_report.specs.declared.report.TestId.{TestId}
 use Rattle.rinqebo_report.specs.declared.report.TestRows.{TestRows}
-use Rattle.rinqebo_rules.specs.Trees.{trees_of}
 use Rattle.rinqebo_run.specs.Listed.{IsProfileOn}
 use Rattle.rinqebo_run.specs.ListedBy.{read_by}
 use Rattle.rinqebo_run.specs.ShownConfig.{AreShown}
@@ -111,8 +110,8 @@ alone_as a b ids same all = subst (λ ts. AllZip IsIdOf ts ids) same all
 
 -- leaves are shown in the same layers and of the same profiles by other names
 pub shown_of : (files layers : List Layer) (names chain : List (Bor (List ℕ))) (entries : List Entry) → files ≡ layers
-    → names ≡ chain → AreShown (trees_of files) (keys_view names) [] false entries
-    → AreShown (trees_of layers) (borrowed_view chain) [] false entries
+    → names ≡ chain → AreShown files (keys_view names) [] false entries
+    → AreShown layers (borrowed_view chain) [] false entries
 shown_of files layers names chain entries one two are =
-    subst (λ ns. AreShown (trees_of layers) (keys_view ns) [] false entries) two
-    (subst (λ fs. AreShown (trees_of fs) (keys_view names) [] false entries) one are)
+    subst (λ ns. AreShown layers (keys_view ns) [] false entries) two
+    (subst (λ fs. AreShown fs (keys_view names) [] false entries) one are)

@@ -9,7 +9,6 @@ use Rattle.rinqebo_report.specs.declared.report.Entry.{Entry}
 use Rattle.rinqebo_report.specs.declared.report.ListScripts.{ListScripts}
 use Rattle.rinqebo_report.specs.declared.report.SettingRow.{SettingRow}
 use Rattle.rinqebo_rules.specs.Scripts.{AreScriptsReported}
-use Rattle.rinqebo_rules.specs.Trees.{trees_of}
 use Rattle.rinqebo_run.specs.ShownConfig.{AreShown}
 use Rattle.rinqebo_changes.specs.Sides.RunRows.{AreRunRows}
 use Rattle.rinqebo_diff.specs.Sides.{Evaluation}
@@ -18,8 +17,7 @@ use Rattle.rinqebo_diff.specs.Sides.{Evaluation}
 -- scripts that its profile gives to its list.
 pub record AreRunRowsOf (evaluation : Evaluation) (rows : List SettingRow) : Type 0 where
   pub entries : List Entry
-  pub are_entries : AreShown (trees_of evaluation.session.layers.items) evaluation.chain [] false
-      entries
+  pub are_entries : AreShown evaluation.session.layers.items evaluation.chain [] false entries
   pub scripts : ListScripts
   pub are_scripts : AreScriptsReported
       (readings evaluation.session.engines.filters).matches_test

@@ -1,12 +1,16 @@
 -- What is reported of the leaves of a configuration.
-use Rattle.std.proofs.Common.{◌≡◌, ◌<◌, ◌+◌, ◌∙◌, ℕ, List, [], ◌∷◌, ◌++◌, Bool, Bor, true, false, cond, ap, filter, get_or, length, map, Option, string_bytes, subst, sym, take}
+use Rattle.std.proofs.Common.{◌≡◌, ◌<◌, ◌+◌, ◌∙◌, ℕ, List, [], ◌∷◌, ◌++◌, Bool, Bor, true, false, cond, ap, filter, get_or, length, map, MatchOption, Option, None, Some, Result, Ok, Err, IfOk, string_bytes, subst, sym, take}
 use Rattle.std.proofs.lemmas.List.{append-nil, map-append, take_more}
 use Rattle.std.proofs.lemmas.List.Elements.{filter-append}
 use Rattle.std.proofs.lemmas.Slice.Zip.{all_zipped_more}
 use Rattle.std.specs.List.{AllZip}
 use Rattle.nextest_documents.specs.Entries.{Leaf, leaf_view}
+use Rattle.nextest_documents.specs.Sections.{base_path}
 use Rattle.nextest_documents.specs.declared.entries.LayerLeaf.{LayerLeaf as Found}
+use Rattle.nextest_places.specs.declared.step.Step.{Step}
 use Rattle.rinqebo_rules.specs.LeafValue.{is_tellable}
+use Rattle.rinqebo_rules.specs.ReportedEntries.{IsEntryOf, step_key}
+use Rattle.rinqebo_report.specs.declared.origin.FilePlace.{FilePlace}
 use Rattle.rinqebo_report.specs.declared.report.Entry.{Entry}
 use Rattle.filter_engine.specs.Compiling.{names_of}
 use Rattle.filter_engine.specs.Engine.{Filter}
@@ -21,6 +25,7 @@ use Rattle.nextest_tables.specs.FileTexts.{names_in, IsIn}
 use Rattle.nextest_tables.specs.Written.{Name}
 use Rattle.platform_language.specs.Expressions.{Spec, spec_view}
 use Rattle.platform_language.specs.declared.expression.TargetSpec.{TargetSpec}
+use Rattle.rinqebo_request.specs.Files.Origins.{IsPathPlace}
 use Rattle.rinqebo_request.specs.declared.files.layers.Layer.{Layer as FileLayer}
 use Rattle.rinqebo_load.specs.Accepted.{AreAccepted}
 use Rattle.rinqebo_load.specs.Sessions.{files_view, readings, IsLoadedFrom}
@@ -49,27 +54,45 @@ next_leaf found n m leaf within at next =
     ∙ map-append leaf_view (take n found) (get_or found n leaf ∷ [])
     ∙ ap (λ l. map leaf_view (take n found) ++ leaf_view l ∷ []) (sym at)
 
+-- a leaf is reported at its place
+pub leaf_reported : {E : Type 0} (layers : List FileLayer) (leaf : Leaf) (path : List Step) (place : FilePlace)
+    (told : Result (Option Entry) E) → map step_key path ≡ map Some (base_path leaf.region ++ leaf.path)
+    → IsPathPlace layers leaf.layer path place
+    → IfOk told (λ entry. MatchOption entry (tells leaf ≡ false) (IsEntryOf leaf place))
+    → IfOk told (λ entry. MatchOption entry (tells leaf ≡ false) (ReportsLeaf layers leaf))
+leaf_reported layers leaf path place (Err fault) spelled there is = tt
+leaf_reported layers leaf path place (Ok None) spelled there none = none
+leaf_reported layers leaf path place (Ok (Some entry)) spelled there is = record {
+  path = path;
+  spelled = spelled;
+  place = place;
+  place_reported = there;
+  is_entry = is;
+}
+
 -- one leaf more that is reported
-pub reported_more : (found : List Found) (n m : ℕ) (leaf : Found) (old new : List Entry) (entry : Entry)
-    → n < length found → leaf ≡ get_or found n leaf → m ≡ n + 1 → TellLeaves (map leaf_view (take n found)) old
-    → ReportsLeaf (leaf_view leaf) entry → new ≡ old ++ entry ∷ [] → TellLeaves (map leaf_view (take m found)) new
-reported_more found n m leaf old new entry within at next before is more =
+pub reported_more : (layers : List FileLayer) (found : List Found) (n m : ℕ) (leaf : Found) (old new : List Entry)
+    (entry : Entry) → n < length found → leaf ≡ get_or found n leaf → m ≡ n + 1
+    → TellLeaves layers (map leaf_view (take n found)) old → ReportsLeaf layers (leaf_view leaf) entry
+    → new ≡ old ++ entry ∷ [] → TellLeaves layers (map leaf_view (take m found)) new
+reported_more layers found n m leaf old new entry within at next before is more =
     let leaves = map leaf_view (take n found) in
     let same = ap (filter tells) (next_leaf found n m leaf within at next)
     ∙ ended leaves (leaf_view leaf) true is.is_entry.value.told in
-    subst (λ ls. AllZip ReportsLeaf ls new) (sym same)
-    (subst (AllZip ReportsLeaf (filter tells leaves ++ leaf_view leaf ∷ [])) (sym more)
-    (all_zipped_more ReportsLeaf (filter tells leaves) old (leaf_view leaf) entry before is))
+    subst (λ ls. AllZip (ReportsLeaf layers) ls new) (sym same)
+    (subst (AllZip (ReportsLeaf layers) (filter tells leaves ++ leaf_view leaf ∷ [])) (sym more)
+    (all_zipped_more (ReportsLeaf layers) (filter tells leaves) old (leaf_view leaf) entry before is))
 
 -- one leaf more that is not told
-pub reported_less : (found : List Found) (n m : ℕ) (leaf : Found) (old new : List Entry) → n < length found
-    → leaf ≡ get_or found n leaf → m ≡ n + 1 → TellLeaves (map leaf_view (take n found)) old
-    → tells (leaf_view leaf) ≡ false → new ≡ old → TellLeaves (map leaf_view (take m found)) new
-reported_less found n m leaf old new within at next before none kept =
+pub reported_less : (layers : List FileLayer) (found : List Found) (n m : ℕ) (leaf : Found) (old new : List Entry)
+    → n < length found → leaf ≡ get_or found n leaf → m ≡ n + 1 → TellLeaves layers (map leaf_view (take n found)) old
+    → tells (leaf_view leaf) ≡ false → new ≡ old → TellLeaves layers (map leaf_view (take m found)) new
+reported_less layers found n m leaf old new within at next before none kept =
     let leaves = map leaf_view (take n found) in
     let same = ap (filter tells) (next_leaf found n m leaf within at next)
     ∙ ended leaves (leaf_view leaf) false none ∙ append-nil (filter tells leaves) in
-    subst (λ ls. AllZip ReportsLeaf ls new) (sym same) (subst (AllZip ReportsLeaf (filter tells leaves)) (sym kept) before)
+    subst (λ ls. AllZip (ReportsLeaf layers) ls new) (sym same)
+    (subst (AllZip (ReportsLeaf layers) (filter tells leaves)) (sym kept) before)
 
 -- what is requested of layers, a place and a chain by other names
 pub shown_at : (keys : List (Bor (List ℕ))) (with_hidden : Bool) (layers others : List FileLayer)

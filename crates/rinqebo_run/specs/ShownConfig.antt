@@ -1,24 +1,26 @@
 -- The leaves of a configuration, as a report lists them.
-use Rattle.std.specs.Prelude.{◌≡◌, ℕ, List, [], ◌∷◌, ◌++◌, Bool, filter, Option}
+use Rattle.std.specs.Prelude.{◌≡◌, ℕ, List, [], ◌∷◌, ◌++◌, Bool, filter, map, Option, Some}
 use Rattle.std.specs.List.{AllZip}
 use Rattle.nextest_elements.specs.declared.run_mode.NextestRunMode.TheVariants as modes
 use Rattle.nextest_documents.specs.Entries.{AreEntries, Leaf}
+use Rattle.nextest_documents.specs.Sections.{base_path}
 use Rattle.filter_engine.specs.Engine.{Filter}
 use Rattle.nextest_inheritance.specs.Parents.{parents_in}
 use Rattle.nextest_load.specs.Config.{ScriptTables, config_parents}
 use Rattle.nextest_load.specs.Scripts.{AreScriptsOf}
 use Rattle.nextest_settings.specs.Profiles.Profiles.{IsChainAndDefault}
 use Rattle.nextest_settings.specs.Profile.{Configured, EvaluatableModel}
+use Rattle.nextest_places.specs.declared.step.Step.{Step}
 use Rattle.nextest_sources.specs.Inputs.{sources_in}
 use Rattle.nextest_tables.specs.FileTexts.{names_in, IsIn}
 use Rattle.nextest_tables.specs.Written.{Name}
-use Rattle.nextest_tree.specs.Node.{Node}
 use Rattle.rinqebo_rules.specs.LeafValue.{is_tellable}
-use Rattle.rinqebo_rules.specs.ReportedEntries.{IsEntryOf}
+use Rattle.rinqebo_rules.specs.ReportedEntries.{IsEntryOf, step_key}
 use Rattle.rinqebo_rules.specs.RulePlaces.{Place}
 use Rattle.rinqebo_rules.specs.Runs.{filtering_place}
 use Rattle.rinqebo_rules.specs.SpelledLeaves.{AreSpelledOut}
 use Rattle.rinqebo_rules.specs.Trees.{trees_of}
+use Rattle.rinqebo_request.specs.Files.Origins.{IsPathPlace}
 use Rattle.rinqebo_request.specs.declared.files.layers.Layer.{Layer}
 use Rattle.rinqebo_report.specs.declared.origin.FilePlace.{FilePlace}
 use Rattle.rinqebo_report.specs.declared.report.Content.{Content}
@@ -35,23 +37,26 @@ use Rattle.rinqebo_run.specs.Listed.{IsProfileOn}
 use Rattle.rinqebo_run.specs.Requested.{IfRequested, IsRequestedOf}
 use Rattle.rinqebo_run.specs.ReportsReasons.{configured_by}
 
--- An entry shows a leaf, at a place in the file of the leaf's layer.
-pub record ReportsLeaf (leaf : Leaf) (entry : Entry) : Type 0 where
+-- An entry shows a leaf, at the place of the leaf in the file of its layer: that of the path through
+-- the keys of the leaf's region and its own.
+pub record ReportsLeaf (layers : List Layer) (leaf : Leaf) (entry : Entry) : Type 0 where
+  pub path : List Step
+  pub spelled : map step_key path ≡ map Some (base_path leaf.region ++ leaf.path)
   pub place : FilePlace
-  pub source : place.source ≡ leaf.layer
+  pub place_reported : IsPathPlace layers leaf.layer path place
   pub is_entry : IsEntryOf leaf place entry
 
 -- entries show leaves one by one: all those whose values a report can show
-abbrev pub TellLeaves : List Leaf → List Entry → Type 0
-TellLeaves leaves entries =
-    AllZip ReportsLeaf (filter (λ leaf. is_tellable leaf.value) leaves) entries
+abbrev pub TellLeaves : List Layer → List Leaf → List Entry → Type 0
+TellLeaves layers leaves entries =
+    AllZip (ReportsLeaf layers) (filter (λ leaf. is_tellable leaf.value) leaves) entries
 
 -- Entries show the requested leaves in the layers of a chain of profiles.
-pub record AreShown (layers : List Node) (chain keys : List (List ℕ)) (with_hidden : Bool)
+pub record AreShown (layers : List Layer) (chain keys : List (List ℕ)) (with_hidden : Bool)
     (entries : List Entry) : Type 0 where
   pub leaves : List Leaf
-  pub are_leaves : AreEntries layers chain keys with_hidden leaves
-  pub told : TellLeaves leaves entries
+  pub are_leaves : AreEntries (trees_of layers) chain keys with_hidden leaves
+  pub told : TellLeaves layers leaves entries
 
 -- Entries show what a user requests of a chain of profiles in the layers of files: the leaves that
 -- count, with the default filter of the override at a place, if there is one, in place of theirs,
@@ -62,7 +67,7 @@ pub record AreShownOf (layers : List Layer) (place : Option Place) (chain keys :
   pub in_force : List Entry
   pub spelled : List Entry
   pub are : entries ≡ in_force ++ spelled
-  pub counted_shown : AreShown (trees_of layers) chain keys with_hidden counted
+  pub counted_shown : AreShown layers chain keys with_hidden counted
   pub is_in_force : IsInForce layers place keys with_hidden counted in_force
   pub spelled_out : AreSpelledOut layers chain keys spelled
 

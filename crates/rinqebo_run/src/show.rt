@@ -11,7 +11,6 @@ ghost use Rattle.rinqebo_findings.specs.Failures.{IsFailureAbout};
 ghost use Rattle.rinqebo_findings.specs.Reports.{IsReportOf};
 ghost use Rattle.platform_language.specs.Expressions.{spec_view};
 ghost use Rattle.rinqebo_rules.specs.RulePlaces.{place_view};
-ghost use Rattle.rinqebo_rules.specs.Trees.{trees_of};
 ghost use Rattle.rinqebo_run.specs.ListedBy.{read_by};
 ghost use Rattle.rinqebo_run.specs.ShownConfig.{ReportsLeaf, TellLeaves, AreShown, AreShownOf, IsShownBy, shown_status, ShowsConfig};
 
@@ -40,7 +39,8 @@ fn reported_leaf(
     leaf: &LayerLeaf<'_>,
 ) -> Result<Option<Entry>, AllocError>
     ensures { IfOk result (λ told. MatchOption told
-        (is_tellable (leaf_view leaf.now).value ≡ false) (ReportsLeaf (leaf_view leaf.now))) }
+        (is_tellable (leaf_view leaf.now).value ≡ false)
+        (ReportsLeaf layers.now (leaf_view leaf.now))) }
 {
     let path = steps_of(alloc, leaf)?;
     let place = path_place(layers, leaf.layer, &path);
@@ -53,7 +53,8 @@ fn reported_leaves(
     layers: &[Layer],
     leaves: &[LayerLeaf<'_>],
 ) -> Result<Vec<Entry>, AllocError>
-    ensures { IfOk result (λ entries. TellLeaves (map leaf_view leaves.now) entries.items) }
+    ensures { IfOk result (λ entries.
+        TellLeaves layers.now (map leaf_view leaves.now) entries.items) }
 {
     let mut entries = Vec::new(alloc);
     for leaf in leaves {
@@ -73,7 +74,7 @@ pub fn entries_in(
     keys: &[&str],
     with_hidden: bool,
 ) -> Result<Vec<Entry>, AllocError>
-    ensures { IfOk result (λ entries. AreShown (trees_of layers.now) (keys_view chain.now)
+    ensures { IfOk result (λ entries. AreShown layers.now (keys_view chain.now)
         (keys_view keys.now) with_hidden entries.items) }
 {
     let trees = trees_of(alloc, layers)?;

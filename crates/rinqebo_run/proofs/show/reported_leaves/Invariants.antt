@@ -5,4 +5,4 @@ use Rattle.rinqebo_run.proofs.show.reported_leaves.Given as goal
 
 -- the leaves so far
 abbrev pub invariant-loop-leaf : goal.invariant-loop-leaf
-invariant-loop-leaf l = TellLeaves (map leaf_view (take l.leaf-index l.leaves)) l.entries.items
+invariant-loop-leaf l = TellLeaves l.layers (map leaf_view (take l.leaf-index l.leaves)) l.entries.items
