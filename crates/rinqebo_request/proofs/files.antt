@@ -3,3 +3,4 @@ pub mod Seeking
 pub mod Highest
 pub mod Ranges
 pub mod Documents
+pub mod Reading

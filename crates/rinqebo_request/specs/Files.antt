@@ -1,3 +1,4 @@
 pub mod Features
 pub mod Origins
 pub mod Layers
+pub mod Gathering

@@ -1,4 +1,7 @@
 //! The request of a user.
+ghost use Rattle.std.specs.Prelude.{◌≡◌};
+ghost use Rattle.rinqebo_request.specs.Files.Gathering.{is_discovered, list_named};
+
 use crate::named::ProfileSource;
 use nextest_config::{BuildPlatform, ConfigExperimental, NextestRunMode, Setting, ToolName};
 use rinqebo_report::{Code, Format, Paper};
@@ -137,6 +140,18 @@ pub enum ConfigFile<'a> {
     Input(&'a str),
 }
 
+impl ConfigFile<'_> {
+    /// Whether no user names the file.
+    pub fn is_discovered(self) -> bool
+        ensures { result ≡ is_discovered self.entry }
+    {
+        match self {
+            ConfigFile::Discovered => true,
+            ConfigFile::Named(_) | ConfigFile::Input(_) => false,
+        }
+    }
+}
+
 /// A file that a tool provides.
 #[derive(Drop)]
 pub struct ToolFile<'a> {
@@ -210,7 +225,9 @@ pub struct Request<'a> {
 
 impl<'a> Request<'a> {
     /// The list of tests that the user names, if there is one.
-    pub fn list(&self) -> Option<ListFile<'a>> {
+    pub fn list(&self) -> Option<ListFile<'a>>
+        ensures { result ≡ list_named self.now.question }
+    {
         match &self.question {
             Question::List { list, .. } => Some(*list),
             Question::Explain { test, .. }

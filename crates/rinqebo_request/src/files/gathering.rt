@@ -1,6 +1,9 @@
 //! Reads the files that a request names.
-ghost use Rattle.std.specs.Prelude.{◌≡◌, IfOk, string_bytes};
+ghost use Rattle.std.specs.Prelude.{◌≡◌, IfOk, MatchOption, Some, map, option_map, string_bytes};
+ghost use Rattle.std.specs.List.{AllZip};
 ghost use Rattle.std.specs.Option.{ForSome};
+ghost use Rattle.nextest_sources.specs.Sources.{file_view, not_found, outcome_view, text, tool_file_view};
+ghost use Rattle.rinqebo_request.specs.Files.Gathering.{AreFilesFor, IsFileIn, IsListText, IsNamedFile, IsOwnFile, IsReadAt, IsText, IsTextAt, IsToolFile, input_left};
 
 use crate::environment::Environment;
 use crate::files::root::root_above;
@@ -109,10 +112,36 @@ fn root_of<R: FileReader>(
 }
 
 /// The file at a path.
-fn read_at<R: FileReader>(alloc: Global, path: &str, files: &R) -> Result<FileInput, AllocError> {
+fn read_at<R: FileReader>(alloc: Global, path: &str, files: &R) -> Result<FileInput, AllocError>
+    ensures { IfOk result (λ file. IsReadAt (R.MayGive files.now) path.now (file_view file)) }
+{
     Ok(FileInput {
         path: ConfigPath::new(alloc, path)?,
         outcome: files.read(alloc, path)?,
+    })
+}
+
+/// The file at a path, which a user names.
+fn file_at<R: FileReader>(
+    alloc: Global,
+    path: &str,
+    files: &R,
+) -> Result<Option<FileInput>, AllocError>
+    ensures { IfOk result (λ file. MatchOption (option_map file_view file) ⊥
+        (IsReadAt (R.MayGive files.now) path.now)) }
+{
+    let file = read_at(alloc, path, files)?;
+    Ok(Some(file))
+}
+
+/// A file at a path that is not read: it counts as missing.
+fn unread(alloc: Global, path: &str) -> Result<FileInput, AllocError>
+    ensures { IfOk result (λ file. file_view file
+        ≡ record { path = path.now; outcome = not_found }) }
+{
+    Ok(FileInput {
+        path: ConfigPath::new(alloc, path)?,
+        outcome: ReadOutcome::NotFound,
     })
 }
 
@@ -122,15 +151,33 @@ fn shared_file<R: FileReader>(
     root: &str,
     config_file: ConfigFile<'_>,
     files: &R,
-) -> Result<FileInput, AllocError> {
+) -> Result<FileInput, AllocError>
+    ensures { IfOk result (λ file. IsOwnFile (R.MayGive files.now) root.now config_file.entry
+        (file_view file)) }
+{
     let path = join_paths(alloc, root, CONFIG_PATH)?;
-    match config_file {
-        ConfigFile::Discovered => read_at(alloc, path.as_str(), files),
-        ConfigFile::Named(_) | ConfigFile::Input(_) => Ok(FileInput {
-            path: ConfigPath::new(alloc, path.as_str())?,
-            outcome: ReadOutcome::NotFound,
-        }),
+    let own = path.as_str();
+    if config_file.is_discovered() {
+        read_at(alloc, own, files)
+    } else {
+        unread(alloc, own)
     }
+}
+
+/// Standard input as a file, which messages show with a path.
+fn input_file(
+    alloc: Global,
+    path: &str,
+    input: ReadOutcome,
+) -> Result<Option<FileInput>, AllocError>
+    ensures { IfOk result (λ file. option_map file_view file
+        ≡ Some (record { path = path.now; outcome = outcome_view input })) }
+{
+    let path = ConfigPath::new(alloc, path)?;
+    Ok(Some(FileInput {
+        path,
+        outcome: input,
+    }))
 }
 
 /// The repository's file that a user named.
@@ -139,14 +186,14 @@ fn named_file<R: FileReader>(
     config_file: ConfigFile<'_>,
     input: ReadOutcome,
     files: &R,
-) -> Result<Option<FileInput>, AllocError> {
+) -> Result<Option<FileInput>, AllocError>
+    ensures { IfOk result (λ file. IsNamedFile (R.MayGive files.now) config_file.entry
+        (outcome_view input) (option_map file_view file)) }
+{
     match config_file {
         ConfigFile::Discovered => Ok(None),
-        ConfigFile::Named(path) => Ok(Some(read_at(alloc, path, files)?)),
-        ConfigFile::Input(path) => Ok(Some(FileInput {
-            path: ConfigPath::new(alloc, path)?,
-            outcome: input,
-        })),
+        ConfigFile::Named(path) => file_at(alloc, path, files),
+        ConfigFile::Input(path) => input_file(alloc, path, input),
     }
 }
 
@@ -155,11 +202,29 @@ fn organisation_file<R: FileReader>(
     alloc: Global,
     path: Option<&str>,
     files: &R,
-) -> Result<Option<FileInput>, AllocError> {
+) -> Result<Option<FileInput>, AllocError>
+    ensures { IfOk result (λ file. IsFileIn (R.MayGive files.now) path.entry
+        (option_map file_view file)) }
+{
     match path {
-        Some(path) => Ok(Some(read_at(alloc, path, files)?)),
+        Some(path) => file_at(alloc, path, files),
         None => Ok(None),
     }
+}
+
+/// The file of a tool.
+fn tool_file<R: FileReader>(
+    alloc: Global,
+    named: &ToolFile<'_>,
+    files: &R,
+) -> Result<ToolConfigFile, AllocError>
+    ensures { IfOk result (λ file. IsToolFile (R.MayGive files.now) named.now
+        (tool_file_view file)) }
+{
+    Ok(ToolConfigFile {
+        tool: named.tool.clone()?,
+        config_file: read_at(alloc, named.path, files)?,
+    })
 }
 
 /// The files of tools, in the order of their options.
@@ -167,13 +232,13 @@ fn tool_files<R: FileReader>(
     alloc: Global,
     tools: &[ToolFile<'_>],
     files: &R,
-) -> Result<Vec<ToolConfigFile>, AllocError> {
+) -> Result<Vec<ToolConfigFile>, AllocError>
+    ensures { IfOk result (λ read. AllZip (IsToolFile (R.MayGive files.now)) tools.now
+        (map tool_file_view read.items)) }
+{
     let mut read = Vec::new(alloc);
     for named in tools {
-        read.push(ToolConfigFile {
-            tool: named.tool.clone()?,
-            config_file: read_at(alloc, named.path, files)?,
-        })?;
+        read.push(tool_file(alloc, named, files)?)?;
     }
     Ok(read)
 }
@@ -184,7 +249,9 @@ fn text_of(
     path: &str,
     option: FileOption,
     outcome: ReadOutcome,
-) -> Result<String, GatherFault> {
+) -> Result<String, GatherFault>
+    ensures { IfOk result (λ read. IsText (outcome_view outcome) (string_bytes read)) }
+{
     let reason = match outcome {
         ReadOutcome::Text(text) => return Ok(text),
         ReadOutcome::NotFound => String::from_str(alloc, "no such file")?,
@@ -201,12 +268,62 @@ fn text_at<R: FileReader>(
     path: Option<&str>,
     option: FileOption,
     files: &R,
-) -> Result<Option<String>, GatherFault> {
+) -> Result<Option<String>, GatherFault>
+    ensures { IfOk result (λ read. IsTextAt (R.MayGive files.now) path.entry
+        (option_map string_bytes read)) }
+{
     let Some(path) = path else {
         return Ok(None);
     };
     let outcome = files.read(alloc, path)?;
-    Ok(Some(text_of(alloc, path, option, outcome)?))
+    let text = text_of(alloc, path, option, outcome)?;
+    Ok(Some(text))
+}
+
+/// The text of the list of tests at a path, and standard input, of which it leaves all.
+fn named_list<R: FileReader>(
+    alloc: Global,
+    path: &str,
+    input: ReadOutcome,
+    files: &R,
+) -> Result<(Option<String>, ReadOutcome), GatherFault>
+    ensures text { IfOk result (λ read. MatchOption (option_map string_bytes read.0) ⊥
+        (λ bytes. R.MayGive files.now path.now (text bytes))) }
+    ensures left { IfOk result (λ read. outcome_view read.1 ≡ outcome_view input) }
+{
+    let read = text_at(alloc, Some(path), FileOption::List, files)?;
+    Ok((read, input))
+}
+
+/// The text of standard input, which is the list of tests, and what is left of it.
+fn input_list(
+    alloc: Global,
+    input: ReadOutcome,
+) -> Result<(Option<String>, ReadOutcome), GatherFault>
+    ensures text { IfOk result (λ read. MatchOption (option_map string_bytes read.0) ⊥
+        (IsText (outcome_view input))) }
+    ensures left { IfOk result (λ read. outcome_view read.1 ≡ not_found) }
+{
+    let read = text_of(alloc, ListFile::Input.path(), FileOption::List, input)?;
+    Ok((Some(read), ReadOutcome::NotFound))
+}
+
+/// The text of the list of tests, and what is left of standard input.
+fn text_of_list<R: FileReader>(
+    alloc: Global,
+    list: ListFile<'_>,
+    input: ReadOutcome,
+    files: &R,
+) -> Result<(Option<String>, ReadOutcome), GatherFault>
+    ensures text { IfOk result (λ read. IsListText (R.MayGive files.now) (Some list.entry)
+        (outcome_view input) (option_map string_bytes read.0)) }
+    ensures left { IfOk result (λ read. outcome_view read.1
+        ≡ input_left (Some list.entry) (outcome_view input)) }
+{
+    match list {
+        ListFile::Named(path) => named_list(alloc, path, input, files),
+        ListFile::Input => input_list(alloc, input),
+    }
 }
 
 /// The text of the list of tests, if a request is about one, and what is left of standard input.
@@ -215,14 +332,14 @@ fn list_text<R: FileReader>(
     list: Option<ListFile<'_>>,
     input: ReadOutcome,
     files: &R,
-) -> Result<(Option<String>, ReadOutcome), GatherFault> {
-    let option = FileOption::List;
+) -> Result<(Option<String>, ReadOutcome), GatherFault>
+    ensures text { IfOk result (λ read. IsListText (R.MayGive files.now) list.entry
+        (outcome_view input) (option_map string_bytes read.0)) }
+    ensures left { IfOk result (λ read. outcome_view read.1
+        ≡ input_left list.entry (outcome_view input)) }
+{
     match list {
-        Some(ListFile::Named(path)) => Ok((text_at(alloc, Some(path), option, files)?, input)),
-        Some(ListFile::Input) => {
-            let text = text_of(alloc, ListFile::Input.path(), option, input)?;
-            Ok((Some(text), ReadOutcome::NotFound))
-        }
+        Some(named) => text_of_list(alloc, named, input, files),
         None => Ok((None, input)),
     }
 }
@@ -237,29 +354,39 @@ pub fn gather<R: FileReader>(
 ) -> Result<Gathered, GatherFault>
     ensures root { IfOk result (λ gathered. ForSome request.now.files.root
         (λ named. string_bytes gathered.paths.workspace_root ≡ named.now)) }
+    ensures files { IfOk result
+        (AreFilesFor (R.MayGive files.now) request.now (outcome_view input)) }
 {
     let options = &request.files;
     let engines = &request.engines;
     let root = root_of(alloc, options, environment, files)?;
     let shared = shared_file(alloc, root.as_str(), options.config_file, files)?;
-    let (list, input) = list_text(alloc, request.list(), input, files)?;
+    let named = request.list();
+    let (list, left) = list_text(alloc, named, input, files)?;
+    let config_file = named_file(alloc, options.config_file, left, files)?;
+    let organisation_file = organisation_file(alloc, options.organisation_config_file, files)?;
+    let tools = tool_files(alloc, &options.tools, files)?;
+    let rustc_version = text_at(
+        alloc,
+        engines.rustc_version,
+        FileOption::RustcVersion,
+        files,
+    )?;
+    let host_cfg = text_at(alloc, engines.host_cfg, FileOption::HostCfg, files)?;
+    let target_cfg = text_at(alloc, engines.target_cfg, FileOption::TargetCfg, files)?;
+    let metadata = text_at(alloc, engines.metadata, FileOption::Metadata, files)?;
     Ok(Gathered {
         paths: ConfigPaths {
             workspace_root: root,
             shared,
         },
-        config_file: named_file(alloc, options.config_file, input, files)?,
-        organisation_file: organisation_file(alloc, options.organisation_config_file, files)?,
-        tools: tool_files(alloc, &options.tools, files)?,
-        rustc_version: text_at(
-            alloc,
-            engines.rustc_version,
-            FileOption::RustcVersion,
-            files,
-        )?,
-        host_cfg: text_at(alloc, engines.host_cfg, FileOption::HostCfg, files)?,
-        target_cfg: text_at(alloc, engines.target_cfg, FileOption::TargetCfg, files)?,
-        metadata: text_at(alloc, engines.metadata, FileOption::Metadata, files)?,
+        config_file,
+        organisation_file,
+        tools,
+        rustc_version,
+        host_cfg,
+        target_cfg,
+        metadata,
         list,
     })
 }
