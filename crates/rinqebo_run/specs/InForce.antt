@@ -1,11 +1,14 @@
 -- The default filter that counts, among the entries of a configuration.
-use Rattle.std.specs.Prelude.{◌≡◌, ◌⊎◌, ◌==◌, ℕ, List, ◌∷◌, Bool, true, false, ◌||◌, not, Option, None, Some, length, map, filter, codes, string_bytes}
+use Rattle.std.specs.Prelude.{◌≡◌, ◌⊎◌, ◌==◌, ℕ, List, [], ◌∷◌, Bool, true, false, ◌||◌, not, Option, None, Some, length, map, filter, codes, string_bytes, unwrap_or}
 use Rattle.std.specs.List.{list_any}
 use Rattle.std.specs.Str.{bytes_eq}
+use Rattle.nextest_tree.specs.Node.{text}
 use Rattle.rinqebo_request.specs.declared.files.layers.Layer.{Layer}
 use Rattle.rinqebo_report.specs.declared.report.Entry.{Entry}
+use Rattle.rinqebo_rules.specs.LeafValue.{value_node}
 use Rattle.rinqebo_rules.specs.Origins.{IsOriginOf, key_steps}
 use Rattle.rinqebo_rules.specs.RulePlaces.{Place}
+use Rattle.rinqebo_run.specs.ConditionTexts.{default_text}
 
 -- whether an entry is a default filter of a profile
 abbrev pub is_default : Entry → Bool
@@ -31,10 +34,11 @@ abbrev pub overridden : Bool → List Entry → List Entry
 overridden true entries = map hide entries
 overridden false entries = filter (λ entry. not (is_default entry)) entries
 
--- An entry is the default filter of the override at a place.
+-- An entry is the default filter of the override at a place, with the text that its file has.
 pub record IsDefaultEntry (layers : List Layer) (place : Place) (entry : Entry) : Type 0 where
   pub key : string_bytes entry.key ≡ codes "default-filter"
   pub origin : IsOriginOf layers place (key_steps None (codes "default-filter")) entry.origin
+  pub value : value_node entry.value ≡ text (unwrap_or (default_text layers entry.origin) [])
   pub shown : entry.is_hidden ≡ false
 
 -- Entries are the default filter of the override at a place, and then others, whose default filters

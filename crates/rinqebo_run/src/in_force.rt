@@ -1,14 +1,18 @@
 //! The default filter that counts, in place of those that it overrides: that of an override whose
 //! platforms hold.
-ghost use Rattle.std.specs.Prelude.{◌≡◌, ◌==◌, ◌||◌, IfOk, codes, filter, length, map, not, option_map};
+ghost use Rattle.std.specs.Prelude.{◌≡◌, ◌==◌, ◌||◌, [], IfOk, codes, filter, length, map, not, option_map, unwrap_or};
 ghost use Rattle.std.specs.List.{list_any};
+ghost use Rattle.std.specs.Option.{option_copied};
 ghost use Rattle.std.specs.Str.{bytes_eq};
 ghost use Rattle.nextest_documents.specs.Layers.{keys_view};
+ghost use Rattle.nextest_tree.specs.Node.{text};
+ghost use Rattle.rinqebo_rules.specs.LeafValue.{value_node};
 ghost use Rattle.rinqebo_rules.specs.RulePlaces.{place_view};
 ghost use Rattle.rinqebo_run.specs.InForce.{IsDefaultEntry, IsInForce, hide, is_default, overridden};
 
+use crate::condition_texts::default_text;
 use rinqebo_report::{Entry, Scalar, Value};
-use rinqebo_request::{Layer, text_at};
+use rinqebo_request::Layer;
 use rinqebo_rules::{RulePlace, default_filter_key};
 use std::alloc::{AllocError, Global};
 
@@ -90,17 +94,25 @@ fn overridden(
     }
 }
 
+/// A text as a value: an empty one where there is none.
+fn text_value(alloc: Global, written: Option<&str>) -> Result<Value, AllocError>
+    ensures { IfOk result (λ value. value_node value
+        ≡ text (unwrap_or (option_copied written.entry) [])) }
+{
+    let text = String::from_str(alloc, written.unwrap_or(""))?;
+    Ok(Value::Scalar(Scalar::Text(text)))
+}
+
 /// The default filter of the override at a place.
 fn default_entry(alloc: Global, layers: &[Layer], place: RulePlace<'_>) -> Result<Entry, AllocError>
     ensures { IfOk result (IsDefaultEntry layers.now (place_view place.entry)) }
 {
-    let text = text_at(place.table(layers), DEFAULT_FILTER).unwrap_or("");
-    let value = String::from_str(alloc, text)?;
     let key = String::from_str(alloc, DEFAULT_FILTER)?;
     let origin = place.origin_at_key(alloc, layers, default_filter_key())?;
+    let value = text_value(alloc, default_text(layers, &origin))?;
     Ok(Entry {
         key,
-        value: Value::Scalar(Scalar::Text(value)),
+        value,
         origin,
         is_hidden: false,
     })
