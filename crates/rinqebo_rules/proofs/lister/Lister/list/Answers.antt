@@ -17,7 +17,9 @@ loop-test-preserved g c =
     let self = c.args.self.now in
     let profile = profile_meaning F.meaning self.profile.now in
     let before = c.loop-test.invariant in
+    let next = λ (P : _ → Type 0). subst P before.lister in
     record {
+      lister = c.next_test.ensures.lister ∙ before.lister;
       same = c.next_test.ensures.same ∙ before.same;
       told = zip_more_by (λ basis test. IsTestReported basis (query_in F.holds profile (list_test_view test).test) self.mode profile
           self.asked.now (list_test_view test)) c.args.origins.now c.loop-test.origins before.same c.args.listed.now
