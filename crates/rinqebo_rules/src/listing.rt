@@ -26,7 +26,8 @@ use std::alloc::{AllocError, Global};
 /// once for the tests of the binary that follow one another.
 #[derive(Drop)]
 pub struct Listing<'l, 'c, F: Filters, S: Specs> {
-    pub(crate) lister: Lister<'l, 'c, F, S>,
+    /// Which settings of tests are listed, and by which profile.
+    pub lister: Lister<'l, 'c, F, S>,
     /// What the binary of the last test decides, after the first test.
     answers: Option<BinaryAnswers>,
     /// It is so of the rules of the profile.
