@@ -17,15 +17,17 @@ wider n count row h = (omega (arith, h.0), omega (arith, h.1))
 rows_within : {R : Type 0} (tests : List (R → Bool)) (n : ℕ) (rules : List R) (i : ℕ) (d : Row)
     → i < length (rows_of tests n rules) → Within n (length rules) (get_or (rows_of tests n rules) i d)
 rows_within tests n [] i d below = absurd (omega (arith, below))
-rows_within tests n (r ∷ rules) i d below = by_list (list_any (λ t. t r) tests) i below where
-  by_list : (b : Bool) (i : ℕ)
-      → i < length (if b then row_of tests n r rules ∷ rows_of tests (n + 1) rules else rows_of tests (n + 1) rules)
-      → Within n (suc (length rules))
-      (get_or (if b then row_of tests n r rules ∷ rows_of tests (n + 1) rules else rows_of tests (n + 1) rules) i d)
-  by_list true zero below = (omega arith, omega arith)
-  by_list true (suc i) below =
-      wider n (length rules) _ (rows_within tests (n + 1) rules i d (omega (arith, below)))
-  by_list false i below = wider n (length rules) _ (rows_within tests (n + 1) rules i d below)
+rows_within tests n (r ∷ rules) i d below =
+    by_list (list_any (λ t. t r) tests) i below (λ k. rows_within tests (n + 1) rules k d) where
+      by_list : (b : Bool) (i : ℕ)
+          → i < length (if b then row_of tests n r rules ∷ rows_of tests (n + 1) rules else rows_of tests (n + 1) rules)
+          → ((k : ℕ) → k < length (rows_of tests (n + 1) rules)
+          → Within (n + 1) (length rules) (get_or (rows_of tests (n + 1) rules) k d))
+          → Within n (suc (length rules))
+          (get_or (if b then row_of tests n r rules ∷ rows_of tests (n + 1) rules else rows_of tests (n + 1) rules) i d)
+      by_list true zero below more = (omega arith, omega arith)
+      by_list true (suc i) below more = wider n (length rules) _ (more i (omega (arith, below)))
+      by_list false i below more = wider n (length rules) _ (more i below)
 
 pub row_within : {R : Type 0} (tests : List (R → Bool)) (n : ℕ) (rules : List R) (rows : List Row) (i : ℕ) (d : Row)
     → rows ≡ rows_of tests n rules → i < length rows → Within n (length rules) (get_or rows i d)

@@ -1,6 +1,6 @@
 use Rattle.std.proofs.Common.{◌∙◌, [], append-nil, arith, false, refl, sym}
 use Rattle.std.proofs.lemmas.List.Elements.{All-nil}
-use Rattle.rule_lists.specs.Lists.{IsOpen}
+use Rattle.rule_lists.specs.Lists.{AreKnown, IsOpen}
 use Rattle.rule_lists.proofs.Open.{more_open, row_within}
 use Rattle.rule_lists.proofs.Walked.{next-known, next-shut, stands-at, stands-end, stands-met, stands-start, stands-unmet, stands-unwanted}
 use Rattle.rule_lists.proofs.open_walk.walk_open_rows.Goals as goal
@@ -46,7 +46,8 @@ loop-row-preserved g c =
     let known = c.args.known.now in
     let start = Q.numbers c.args.tally.now in
     let old = Q.numbers c.loop-row.tally in
-    let next = λ are. stands-at (λ r. false) (Q.met q) (Q.tests q) first rules rows c.loop-row.row-index _
+    let next = λ (are : AreKnown (Q.tests q) (Q.met q) rules known). stands-at (λ r. false) (Q.met q) (Q.tests q) first
+    rules rows c.loop-row.row-index _
     c.loop-row.found c.loop-row.open [] [] (omega (arith, c.loop-row-test.true)) (c.loop-row.invariant.stands are) in
     elim c.if-wanted-ne0.branch [
       | then-wanted-ne0+then-is_met_or_known w ↦ record {
