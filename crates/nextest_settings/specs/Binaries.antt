@@ -41,13 +41,14 @@ answered_binary answers = record {
 }
 
 -- Answers are those of rules at their binary.
-pub record AreAnswers {M : Type 0} (matches : BinaryMatch M) (default : M)
-    (overrides : List (EvaluatedRule M (OverrideUse M)))
-    (script_rules : List (EvaluatedRule M ScriptRuleUse)) (answers : BinaryAnswers) : Type 0 where
-  pub of_overrides : answers.overrides.items
-      ≡ map (binary_answer matches default (answered_binary answers)) overrides
-  pub of_script_rules : answers.script_rules.items
-      ≡ map (binary_answer matches default (answered_binary answers)) script_rules
+abbrev pub AreAnswers : {M : Type 0} → BinaryMatch M → (default : M)
+    → List (EvaluatedRule M (OverrideUse M)) → List (EvaluatedRule M ScriptRuleUse) → BinaryAnswers
+    → Type 0
+AreAnswers matches default overrides script_rules answers =
+    (answers.overrides.items
+    ≡ map (binary_answer matches default (answered_binary answers)) overrides)
+    × (answers.script_rules.items
+    ≡ map (binary_answer matches default (answered_binary answers)) script_rules)
 
 -- Answers are those of the rules of a profile at their binary.
 abbrev pub AreAnswersOf : {M : Type 0} → BinaryMatch M → EvaluatableModel M → BinaryAnswers

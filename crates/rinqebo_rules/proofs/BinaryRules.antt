@@ -46,7 +46,7 @@ module _ {M : Type 0} (holds : M → Test → M → Bool) (matches : BinaryMatch
       (known_overrides (option_map (λ known. known.now) answers))
   overrides_known None are = none_known (query_in holds profile test) profile.overrides
   overrides_known (Some known) are =
-      so_for_test profile.overrides (answered_binary known.now) known.now.overrides.items are.1 are.0.of_overrides
+      so_for_test profile.overrides (answered_binary known.now) known.now.overrides.items are.1 are.0.0
 
   pub script_rules_known : (answers : Option (Bor BinaryAnswers))
       → IfSome answers (λ known. AreAnswersAt matches profile test.binary known.now)
@@ -54,5 +54,4 @@ module _ {M : Type 0} (holds : M → Test → M → Bool) (matches : BinaryMatch
       (known_script_rules (option_map (λ known. known.now) answers))
   script_rules_known None are = none_known (query_in holds profile test) profile.script_rules
   script_rules_known (Some known) are =
-      so_for_test profile.script_rules (answered_binary known.now) known.now.script_rules.items are.1
-      are.0.of_script_rules
+      so_for_test profile.script_rules (answered_binary known.now) known.now.script_rules.items are.1 are.0.1

@@ -1,5 +1,5 @@
 //! Lists what a profile gives to tests in turn, by what their binaries decide.
-ghost use Rattle.std.specs.Prelude.{◌≡◌, ◌++◌, ◌∷◌, [], IfOk, IfSome, List};
+ghost use Rattle.std.specs.Prelude.{◌≡◌, ◌++◌, ◌∷◌, [], ForSome, IfOk, IfSome, List};
 ghost use Rattle.nextest_engines.specs.Engines.{binary_view, test_view};
 ghost use Rattle.filter_inputs.specs.Lists.ListView.{list_test_view};
 ghost use Rattle.nextest_settings.specs.Binaries.{AreAnswersOf};
@@ -31,7 +31,7 @@ pub struct Listing<'l, 'c, F: Filters, S: Specs> {
     /// What the binary of the last test decides, after the first test.
     answers: Option<BinaryAnswers>,
     /// It is so of the rules of the profile.
-    ghost are_answers: { IfSome answers
+    ghost are_answers: { ForSome answers
         (AreAnswersOf F.holds_binary (profile_meaning F.meaning lister.profile.now)) },
 }
 

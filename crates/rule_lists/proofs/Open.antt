@@ -26,14 +26,20 @@ rows_within tests n (r ∷ rules) i d below =
           → Within n (suc (length rules))
           (get_or (if b then row_of tests n r rules ∷ rows_of tests (n + 1) rules else rows_of tests (n + 1) rules) i d)
       by_list true zero below more = (omega arith, omega arith)
-      by_list true (suc i) below more = wider n (length rules) _ (more i (omega (arith, below)))
-      by_list false i below more = wider n (length rules) _ (more i below)
+      by_list true (suc i) below more =
+          wider n (length rules) (get_or (rows_of tests (n + 1) rules) i d) (more i (omega (arith, below)))
+      by_list false i below more = wider n (length rules) (get_or (rows_of tests (n + 1) rules) i d) (more i below)
 
 pub row_within : {R : Type 0} (tests : List (R → Bool)) (n : ℕ) (rules : List R) (rows : List Row) (i : ℕ) (d : Row)
     → rows ≡ rows_of tests n rules → i < length rows → Within n (length rules) (get_or rows i d)
 row_within tests n rules rows i d are =
     subst (λ (all : List Row). i < length all → Within n (length rules) (get_or all i d)) (sym are)
     (rows_within tests n rules i d)
+
+-- so is its place
+pub place_within : (n count : ℕ) (row : Row) → Within n count row
+    → (n ≤ row.number) × (row.number - n < count) × (row.number - n ≤ count)
+place_within n count row h = (h.0, omega (arith, h.0, h.1), omega (arith, h.0, h.1))
 
 -- numbers of open rules were added
 abbrev pub AddsOpen : ℕ → List (Option Bool) → List ℕ → List ℕ → Type 0

@@ -1,7 +1,7 @@
 use Rattle.std.proofs.Common.{◌∙◌, [], append-nil, arith, false, refl, sym}
 use Rattle.std.proofs.lemmas.List.Elements.{All-nil}
 use Rattle.rule_lists.specs.Lists.{AreKnown, IsOpen}
-use Rattle.rule_lists.proofs.Open.{more_open, row_within}
+use Rattle.rule_lists.proofs.Open.{more_open, place_within, row_within}
 use Rattle.rule_lists.proofs.Walked.{next-known, next-shut, stands-at, stands-end, stands-met, stands-start, stands-unmet, stands-unwanted}
 use Rattle.rule_lists.proofs.open_walk.walk_open_rows.Goals as goal
 use Rattle.rule_lists.proofs.open_walk.walk_open_rows.Goals.{then-wanted-ne0+then-is_met_or_known, then-wanted-ne0+else-is_met_or_known, else-wanted-ne0}
@@ -18,20 +18,21 @@ loop-row-init g c =
 
 pub overflow_sub-place : goal.overflow_sub-place
 overflow_sub-place g c =
+    (place_within c.args.first _ _
     (row_within (g.Q.Query.tests c.args.query.now) c.args.first c.args.rules.now c.args.rows.now c.loop-row.row-index _
-    c.requires.rows (omega (arith, c.loop-row-test.true))).0
+    c.requires.rows (omega (arith, c.loop-row-test.true)))).0
 
 pub offset_bounds-rules-place : goal.offset_bounds-rules-place
 offset_bounds-rules-place g c =
-    let within = row_within (g.Q.Query.tests c.args.query.now) c.args.first c.args.rules.now c.args.rows.now
-    c.loop-row.row-index _ c.requires.rows (omega (arith, c.loop-row-test.true)) in
-    omega (arith, within.0, within.1)
+    (place_within c.args.first _ _
+    (row_within (g.Q.Query.tests c.args.query.now) c.args.first c.args.rules.now c.args.rows.now c.loop-row.row-index _
+    c.requires.rows (omega (arith, c.loop-row-test.true)))).2
 
 pub bounds-rules-place : goal.bounds-rules-place
 bounds-rules-place g c =
-    let within = row_within (g.Q.Query.tests c.args.query.now) c.args.first c.args.rules.now c.args.rows.now
-    c.loop-row.row-index _ c.requires.rows (omega (arith, c.loop-row-test.true)) in
-    omega (arith, within.0, within.1)
+    (place_within c.args.first _ _
+    (row_within (g.Q.Query.tests c.args.query.now) c.args.first c.args.rules.now c.args.rows.now c.loop-row.row-index _
+    c.requires.rows (omega (arith, c.loop-row-test.true)))).1
 
 pub is_met_or_known-requires : goal.is_met_or_known-requires
 is_met_or_known-requires g c = c.requires.answers _

@@ -25,15 +25,15 @@ returns-clause-answers g c =
       binary_name = c.in_ok-from_str-4.ensures.ok i;
       platform = c.args.query.now.platform;
     } in
-    record {
-      of_overrides = c.in_ok-overrides.ensures
+    (
+      c.in_ok-overrides.ensures
           ∙ ap (λ os. map (binary_answer F.holds_binary default (binary_view c.args.query.now)) (map (meant_override F.meaning) os))
           c.deref.ensures.value
           ∙ ap (λ (b : Binary). map (binary_answer F.holds_binary default b) (map (meant_override F.meaning) rules.overrides.items))
-          (sym same);
-      of_script_rules = c.in_ok-script_rules.ensures
+          (sym same),
+      c.in_ok-script_rules.ensures
           ∙ ap (λ rs. map (binary_answer F.holds_binary default (binary_view c.args.query.now)) (map (meant_script_rule F.meaning) rs))
           c.deref-2.ensures.value
           ∙ ap (λ (b : Binary). map (binary_answer F.holds_binary default b) (map (meant_script_rule F.meaning) rules.script_rules.items))
-          (sym same);
-    }
+          (sym same),
+    )

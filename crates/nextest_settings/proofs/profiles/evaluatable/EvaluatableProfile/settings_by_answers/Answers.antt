@@ -36,7 +36,7 @@ returns-clause-settings g c = λ are of.
     let default = profile.default_filter.filter in
     let known : AreKnownFor (query_in F.holds profile test) profile.overrides answers.overrides.items =
     subst (AreKnownFor (query_in F.holds profile test) profile.overrides)
-    (sym (are.of_overrides ∙ ap (λ b. map (binary_answer F.holds_binary default b) profile.overrides) of))
+    (sym (are.0 ∙ ap (λ b. map (binary_answer F.holds_binary default b) profile.overrides) of))
     (rules_known F.holds F.holds_binary g.met.F.Filters.binaries_speak default test profile.overrides) in
     let here = subst (λ p. AreKnownFor (query_in F.holds p test) p.overrides c.overrides.result.now) same
     (subst (AreKnownFor (query_in F.holds profile test) profile.overrides) (sym c.overrides.ensures) known) in
