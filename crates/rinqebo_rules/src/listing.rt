@@ -1,5 +1,6 @@
 //! Lists what a profile gives to tests in turn, by what their binaries decide.
-ghost use Rattle.std.specs.Prelude.{◌≡◌, ◌++◌, ◌∷◌, [], ForSome, IfOk, IfSome, List};
+ghost use Rattle.std.specs.Prelude.{◌≡◌, ◌++◌, ◌∷◌, [], IfOk, IfSome, List};
+ghost use Rattle.std.specs.Option.{ForSome};
 ghost use Rattle.nextest_engines.specs.Engines.{binary_view, test_view};
 ghost use Rattle.filter_inputs.specs.Lists.ListView.{list_test_view};
 ghost use Rattle.nextest_settings.specs.Binaries.{AreAnswersOf};

@@ -4,7 +4,7 @@ use Rattle.nextest_settings.specs.Deciding.{asked_from}
 use Rattle.nextest_settings.specs.Engines.{test_query_by}
 use Rattle.nextest_settings.specs.View.{meant_override, meant_script_rule}
 use Rattle.nextest_settings.proofs.ValueBy.{values_shown, origins_shown, overrides_shown}
-use Rattle.nextest_settings.proofs.open_settings.EvaluatedRules.open_settings_for.Goals as goal
+use Rattle.nextest_settings.proofs.evaluated.EvaluatedRules.open_settings_for.Goals as goal
 
 pub returns-clause-values : goal.returns-clause-values
 returns-clause-values g c = λ known fields values s.
