@@ -37,9 +37,8 @@ row_within tests n rules rows i d are =
     (rows_within tests n rules i d)
 
 -- so is its place
-pub place_within : (n count : ℕ) (row : Row) → Within n count row
-    → (n ≤ row.number) × (row.number - n < count) × (row.number - n ≤ count)
-place_within n count row h = (h.0, omega (arith, h.0, h.1), omega (arith, h.0, h.1))
+pub place_within : (n count k : ℕ) → (n ≤ k) × (k < n + count) → (n ≤ k) × (k - n < count) × (k - n ≤ count)
+place_within n count k h = (h.0, omega (arith, h.0, h.1), omega (arith, h.0, h.1))
 
 -- numbers of open rules were added
 abbrev pub AddsOpen : ℕ → List (Option Bool) → List ℕ → List ℕ → Type 0
