@@ -24,8 +24,7 @@ returns-clause-answers g c =
       kind = c.in_ok-from_str-3.ensures.ok i;
       binary_name = c.in_ok-from_str-4.ensures.ok i;
       platform = c.args.query.now.platform;
-    } in
-    (
+    } in (
       c.in_ok-overrides.ensures
           ∙ ap (λ os. map (binary_answer F.holds_binary default (binary_view c.args.query.now)) (map (meant_override F.meaning) os))
           c.deref.ensures.value
