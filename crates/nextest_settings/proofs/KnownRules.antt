@@ -1,8 +1,8 @@
 -- Rules that are known at a binary.
-use Rattle.std.proofs.Common.{◌≡◌, ◌∙◌, ◌&&◌, ◌||◌, ℕ, zero, suc, List, [], ◌∷◌, Bool, true, false, IsTrue, Option, None, Some, if◌then◌else◌, map, option_map, refl, slice_get, subst, sym, ap}
+use Rattle.std.proofs.Common.{◌≡◌, ◌∙◌, ◌&&◌, ℕ, zero, suc, List, [], ◌∷◌, Bool, true, false, IsTrue, Option, None, Some, if◌then◌else◌, map, option_map, refl, slice_get, subst, sym, ap}
 use Rattle.std.proofs.lemmas.Option.{slice_get-map}
 use Rattle.std.specs.List.{list_any}
-use Rattle.nextest_engines.specs.Engines.{Binary, Test}
+use Rattle.nextest_engines.specs.Engines.{Test}
 use Rattle.nextest_load.specs.Closed.{BinaryMatch}
 use Rattle.nextest_settings.specs.Binaries.{AreKnownFor, IsKnownFor, SpeakForTests, binary_answer, filter_answer}
 use Rattle.nextest_settings.specs.Deciding.{QueryContext, filter_holds, rule_holds}
