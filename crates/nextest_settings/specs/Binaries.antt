@@ -8,6 +8,7 @@ use Rattle.nextest_settings.specs.Deciding.{QueryContext, rule_holds}
 use Rattle.nextest_settings.specs.Platforms.{EvaluatedRule, is_on}
 use Rattle.nextest_settings.specs.Profile.{EvaluatableModel}
 use Rattle.nextest_settings.specs.declared.binary_answers.BinaryAnswers.{BinaryAnswers}
+use Rattle.nextest_settings.specs.declared.binary_answers.KeptBinary.{KeptBinary}
 use Rattle.rule_lists.specs.Lists.{IsOpen}
 
 -- what a filter matches of a binary: all, if there is none; none is known where it depends on the
@@ -30,15 +31,19 @@ abbrev pub SpeakForTests : {M : Type 0} → (M → Test → M → Bool) → Bina
 SpeakForTests {M} holds matches = (m : M) (test : Test) (default : M) (b : Bool)
     → matches m test.binary default ≡ Some b → holds m test default ≡ b
 
+-- a binary that is kept
+abbrev pub kept_binary : KeptBinary → Binary
+kept_binary binary = record {
+  package_id = string_bytes binary.package_id;
+  binary_id = string_bytes binary.binary_id;
+  kind = string_bytes binary.kind;
+  binary_name = string_bytes binary.binary_name;
+  platform = binary.platform;
+}
+
 -- the binary of which rules are known
 abbrev pub answered_binary : BinaryAnswers → Binary
-answered_binary answers = record {
-  package_id = string_bytes answers.package_id;
-  binary_id = string_bytes answers.binary_id;
-  kind = string_bytes answers.kind;
-  binary_name = string_bytes answers.binary_name;
-  platform = answers.platform;
-}
+answered_binary answers = kept_binary answers.binary
 
 -- Answers are those of rules at their binary.
 abbrev pub AreAnswers : {M : Type 0} → BinaryMatch M → (default : M)

@@ -1,7 +1,7 @@
 //! What a binary decides of rules, whichever of its tests is looked at.
 ghost use Rattle.std.specs.Prelude.{◌≡◌, ◌+◌, ◌<◌, ◌^◌, ◌↔◌, IfOk, IsTrue, length, map, option_map};
 ghost use Rattle.nextest_engines.specs.Engines.{binary_view};
-ghost use Rattle.nextest_settings.specs.Binaries.{AreAnswers, answered_binary, binary_answer, filter_answer};
+ghost use Rattle.nextest_settings.specs.Binaries.{AreAnswers, answered_binary, binary_answer, filter_answer, kept_binary};
 ghost use Rattle.nextest_settings.specs.View.{meant_override, meant_script_rule};
 
 use crate::evaluated::EvaluatedRules;
@@ -9,15 +9,45 @@ use crate::platforms::{EvaluatedOverride, EvaluatedScriptRule};
 use nextest_engines::{BinaryQuery, BuildPlatform, EvalContext, Filters, Specs};
 use std::alloc::{AllocError, Global};
 
-/// Whether the rules of a profile hold for each test of a binary, where the binary alone decides
-/// that.
+/// A binary that is kept beside what it decides.
 #[derive(Drop)]
-pub struct BinaryAnswers {
+struct KeptBinary {
     package_id: String,
     binary_id: String,
     kind: String,
     binary_name: String,
     platform: BuildPlatform,
+}
+
+impl KeptBinary {
+    fn of(alloc: Global, query: &BinaryQuery<'_>) -> Result<KeptBinary, AllocError>
+        ensures { IfOk result (λ binary. kept_binary binary ≡ binary_view query.now) }
+    {
+        Ok(KeptBinary {
+            package_id: String::from_str(alloc, query.package_id)?,
+            binary_id: String::from_str(alloc, query.binary_id)?,
+            kind: String::from_str(alloc, query.kind)?,
+            binary_name: String::from_str(alloc, query.binary_name)?,
+            platform: query.platform,
+        })
+    }
+
+    fn is(&self, query: &BinaryQuery<'_>) -> bool
+        ensures { IsTrue result ↔ (kept_binary self.now ≡ binary_view query.now) }
+    {
+        self.platform == query.platform
+            && self.binary_id.as_str() == query.binary_id
+            && self.package_id.as_str() == query.package_id
+            && self.kind.as_str() == query.kind
+            && self.binary_name.as_str() == query.binary_name
+    }
+}
+
+/// Whether the rules of a profile hold for each test of a binary, where the binary alone decides
+/// that.
+#[derive(Drop)]
+pub struct BinaryAnswers {
+    binary: KeptBinary,
     overrides: Vec<Option<bool>>,
     script_rules: Vec<Option<bool>>,
 }
@@ -145,12 +175,9 @@ impl BinaryAnswers {
             &cx,
             tally,
         )?;
+        let binary = KeptBinary::of(alloc, query)?;
         Ok(BinaryAnswers {
-            package_id: String::from_str(alloc, query.package_id)?,
-            binary_id: String::from_str(alloc, query.binary_id)?,
-            kind: String::from_str(alloc, query.kind)?,
-            binary_name: String::from_str(alloc, query.binary_name)?,
-            platform: query.platform,
+            binary,
             overrides,
             script_rules,
         })
@@ -160,11 +187,7 @@ impl BinaryAnswers {
     pub fn is_of(&self, query: &BinaryQuery<'_>) -> bool
         ensures { IsTrue result ↔ (answered_binary self.now ≡ binary_view query.now) }
     {
-        self.platform == query.platform
-            && self.binary_id.as_str() == query.binary_id
-            && self.package_id.as_str() == query.package_id
-            && self.kind.as_str() == query.kind
-            && self.binary_name.as_str() == query.binary_name
+        self.binary.is(query)
     }
 
     /// Of each override, whether it holds for each test of the binary, or `None` where that depends
