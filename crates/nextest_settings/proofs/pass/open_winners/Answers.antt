@@ -20,3 +20,6 @@ returns-clause-winners g c = λ known.
     c.args.overrides.now c.args.known.now known))
     ∙ winners-seen (meant_override F.meaning) (λ s w. is_set w.settings c.args.mode s) query settings
     c.args.overrides.now
+
+pub returns-clause-tally : goal.returns-clause-tally
+returns-clause-tally g c = c.walk_open_rows.ensures.tally

@@ -1,4 +1,4 @@
-use Rattle.std.proofs.Common.{◌≡◌, ◌∙◌, ◌∷◌, [], ap, is_some, length, map, option_map, subst, sym}
+use Rattle.std.proofs.Common.{◌≡◌, ◌∙◌, ◌∷◌, [], ap, is_some, length, lit<, map, option_map, subst, sym}
 use Rattle.nextest_engines.specs.Engines.{test_view}
 use Rattle.nextest_rules.specs.Accepted.{IfWritten}
 use Rattle.nextest_rules.specs.Rules.{at_name}
@@ -20,9 +20,11 @@ pub open_settings_for-requires : goal.open_settings_for-requires
 open_settings_for-requires g c =
     let there = each_before (λ named. IfWritten named.run_wrapper
     (IsIn (names_in c.self.inside.facts.scripts.wrapper))) evaluated_use
-    c.self.inside.rules.script_rules.items c.self.invariant.0.run_wrappers in
-    subst (λ scripts. KnowsRunWrappers scripts c.self.inside.rules.script_rules.items)
-    (sym c.scripts.ensures) there
+    c.self.inside.rules.script_rules.items c.self.invariant.0.run_wrappers in (
+      lit< tt,
+      subst (λ scripts. KnowsRunWrappers scripts c.self.inside.rules.script_rules.items)
+          (sym c.scripts.ensures) there,
+    )
 
 pub returns-clause-settings : goal.returns-clause-settings
 returns-clause-settings g c = λ are of.
