@@ -1,54 +1,64 @@
 -- What it leaves of a branch to add an expression.
-use Rattle.std.proofs.Common.{◌≡◌, ℕ, suc, ◌+◌, ◌<◌, ◌≤◌, Bool, true, false, cond, List, [], ◌∷◌, ◌++◌, length, get_or, drop, String, Global, Option, Some, None, refl, sym, ap, ◌∙◌, inl, inr, add-one, append_assoc, bytes_eq}
+use Rattle.std.proofs.Common.{◌≡◌, ℕ, suc, ◌+◌, ◌<◌, ◌≤◌, Bool, true, false, cond, List, [], ◌∷◌, ◌++◌, length, get_or, drop, String, Global, Option, Some, nat_cmp, refl, sym, ap, ◌∙◌, inl, inr, arith, add-one, append_assoc, bytes_eq, string_bytes}
 use Rattle.std.proofs.lemmas.Bool.{cases_Bool}
 use Rattle.std.proofs.lemmas.List.{append-nil, drop_all, drop_more}
 use Rattle.std.proofs.lemmas.Slice.Eq.{bytes_eq-Decides}
-use Rattle.std.specs.BTreeMap.{BTreeMap, get_by_text}
-use Rattle.std.specs.Map.{update}
+use Rattle.std.specs.BTreeMap.{BTreeMap, get_by_text, is_at}
+use Rattle.std.specs.Cmp.Lexicographic.{slice_cmp}
+use Rattle.std.specs.Map.{lookup, update}
 use Rattle.std.specs.Option.{option_map_or}
-use Rattle.nextest_places.specs.Branches.{Role, through, pairs, elements, is_entry_in, is_in, numbers_at, numbers_in, numbers_where}
+use Rattle.nextest_places.specs.Branches.{Role, through, pairs, elements, ends_in, is_in, numbers_at, numbers_where}
 use Rattle.nextest_places.specs.declared.branch.Branch.{Branch, out-Branch}
-use Rattle.nextest_places.specs.declared.branch.Numbers.{Numbers}
 use Rattle.nextest_places.specs.declared.entry.Entry.{Entry}
 use Rattle.nextest_places.specs.declared.entry.Kind.{Kind}
 use Rattle.nextest_places.proofs.IdAims.{apart}
+
+no_entries : (es : List (String Global × Branch)) → length es ≡ 0 → es ≡ []
+no_entries [] none = refl
+no_entries (e ∷ es) none = absurd (omega (arith, none))
 
 -- what is added to some numbers
 abbrev pub IsAdded : Bool → ℕ → List ℕ → List ℕ → Type 0
 IsAdded b number old new = new ≡ old ++ cond b (number ∷ []) []
 
--- the numbers of a branch itself
-pub own_added : (kind : Kind) (parts : List (List ℕ)) (number : ℕ) (old new : Numbers)
-    → new.all.items ≡ old.all.items ++ number ∷ []
-    → IsAdded (is_in pairs kind [] parts) number old.pairs.items new.pairs.items
-    → IsAdded (is_in elements kind [] parts) number old.elements.items new.elements.items
-    → (role : Role) → IsAdded (is_in role kind [] parts) number (numbers_in role old) (numbers_in role new)
-own_added kind [] number old new all pair element through = all
-own_added kind (part ∷ parts) number old new all pair element through = all
-own_added kind parts number old new all pair element pairs = pair
-own_added kind parts number old new all pair element elements = element
+-- nothing is in a branch with no numbers and none behind it
+pub none_there : (branch : Branch) → (out-Branch branch).all.items ≡ [] → (out-Branch branch).ends.pairs.items ≡ []
+    → (out-Branch branch).ends.elements.items ≡ [] → length (out-Branch branch).longer.entries ≡ 0
+    → (role : Role) (keys : List (List ℕ)) → numbers_at role keys branch ≡ []
+none_there branch all pair element none through [] = all
+none_there branch all pair element none pairs [] = pair
+none_there branch all pair element none elements [] = element
+none_there branch all pair element none role (k ∷ keys) =
+    ap (λ es. option_map_or (numbers_at role keys) (lookup (is_at (λ x. slice_cmp nat_cmp k (string_bytes x))) es) [])
+    (no_entries (out-Branch branch).longer.entries none)
 
--- those of a branch and of what is behind it
-pub added_longer : (kind : Kind) (part : List ℕ) (parts : List (List ℕ)) (number : ℕ) (old new : Branch)
-    → ((role : Role) → IsAdded (is_in role kind [] (part ∷ parts)) number (numbers_in role (out-Branch old).numbers)
-    (numbers_in role (out-Branch new).numbers))
-    → ((role : Role) (k : List ℕ) (keys : List (List ℕ)) → IsAdded (is_in role kind (k ∷ keys) (part ∷ parts)) number
-    (option_map_or (numbers_at role keys) (get_by_text (out-Branch old).longer k) [])
-    (option_map_or (numbers_at role keys) (get_by_text (out-Branch new).longer k) []))
-    → (role : Role) (keys : List (List ℕ))
-    → IsAdded (is_in role kind keys (part ∷ parts)) number (numbers_at role keys old) (numbers_at role keys new)
-added_longer kind part parts number old new own longer role [] = own role
-added_longer kind part parts number old new own longer role (k ∷ keys) = longer role k keys
+-- the numbers of a branch behind which an expression is added, and of one where its key ends
+module _ (kind : Kind) (number : ℕ) (old new : Branch)
+    (all : (out-Branch new).all.items ≡ (out-Branch old).all.items ++ number ∷ []) where
+  pub added_longer : (part : List ℕ) (parts : List (List ℕ)) → (out-Branch new).ends ≡ (out-Branch old).ends
+      → ((role : Role) (k : List ℕ) (keys : List (List ℕ)) → IsAdded (is_in role kind (k ∷ keys) (part ∷ parts)) number
+      (option_map_or (numbers_at role keys) (get_by_text (out-Branch old).longer k) [])
+      (option_map_or (numbers_at role keys) (get_by_text (out-Branch new).longer k) []))
+      → (role : Role) (keys : List (List ℕ))
+      → IsAdded (is_in role kind keys (part ∷ parts)) number (numbers_at role keys old) (numbers_at role keys new)
+  added_longer part parts same longer through [] = all
+  added_longer part parts same longer pairs [] =
+      ap (λ ends. ends.pairs.items) same ∙ sym (append-nil (out-Branch old).ends.pairs.items)
+  added_longer part parts same longer elements [] =
+      ap (λ ends. ends.elements.items) same ∙ sym (append-nil (out-Branch old).ends.elements.items)
+  added_longer part parts same longer role (k ∷ keys) = longer role k keys
 
-pub added_here : (kind : Kind) (number : ℕ) (old new : Branch)
-    → ((role : Role) → IsAdded (is_in role kind [] []) number (numbers_in role (out-Branch old).numbers)
-    (numbers_in role (out-Branch new).numbers))
-    → (out-Branch new).longer ≡ (out-Branch old).longer → (role : Role) (keys : List (List ℕ))
-    → IsAdded (is_in role kind keys []) number (numbers_at role keys old) (numbers_at role keys new)
-added_here kind number old new own same role [] = own role
-added_here kind number old new own same role (k ∷ keys) =
-    ap (λ m. option_map_or (numbers_at role keys) (get_by_text m k) []) same
-    ∙ sym (append-nil (option_map_or (numbers_at role keys) (get_by_text (out-Branch old).longer k) []))
+  pub added_here : IsAdded (ends_in pairs kind) number (out-Branch old).ends.pairs.items (out-Branch new).ends.pairs.items
+      → IsAdded (ends_in elements kind) number (out-Branch old).ends.elements.items
+      (out-Branch new).ends.elements.items
+      → (out-Branch new).longer ≡ (out-Branch old).longer → (role : Role) (keys : List (List ℕ))
+      → IsAdded (is_in role kind keys []) number (numbers_at role keys old) (numbers_at role keys new)
+  added_here pair element same through [] = all
+  added_here pair element same pairs [] = pair
+  added_here pair element same elements [] = element
+  added_here pair element same role (k ∷ keys) =
+      ap (λ m. option_map_or (numbers_at role keys) (get_by_text m k) []) same
+      ∙ sym (append-nil (option_map_or (numbers_at role keys) (get_by_text (out-Branch old).longer k) []))
 
 -- those of a map, of which one branch is another one now
 module _ (kind : Kind) (part : List ℕ) (rest : List (List ℕ)) (number : ℕ)
@@ -84,18 +94,15 @@ pushed : (b : Bool) (n : ℕ) (front rest : List ℕ)
 pushed true n front rest = append_assoc front (n ∷ []) rest
 pushed false n front rest = ap (λ xs. xs ++ rest) (append-nil front)
 
-pub next_added : (test : Entry → Bool) (entries : List Entry) (n : ℕ) (e : Entry) (old new : List ℕ)
-    → n < length entries → e ≡ get_or entries n e → IsAdded (test e) n old new
+pub next_added : (test : Entry → Bool) (entries : List Entry) (n : ℕ) (d : Entry) (old new : List ℕ)
+    → n < length entries → IsAdded (test (get_or entries n d)) n old new
     → new ++ numbers_where test (n + 1) (drop (n + 1) entries) ≡ old ++ numbers_where test n (drop n entries)
-next_added test entries n e old new within is added =
-    let this : get_or entries n e ≡ e = sym is in
+next_added test entries n d old new within added =
     let next : n + 1 ≡ suc n = add-one n in
     let rest = numbers_where test (suc n) (drop (n + 1) entries) in
-    let left : drop n entries ≡ e ∷ drop (n + 1) entries =
-    drop_more entries n e within ∙ ap (λ x. x ∷ drop (n + 1) entries) this in
     ap (λ m. new ++ numbers_where test m (drop (n + 1) entries)) next
-    ∙ ap (λ xs. xs ++ rest) added ∙ pushed (test e) n old rest
-    ∙ ap (λ es. old ++ numbers_where test n es) (sym left)
+    ∙ ap (λ xs. xs ++ rest) added ∙ pushed (test (get_or entries n d)) n old rest
+    ∙ ap (λ es. old ++ numbers_where test n es) (sym (drop_more entries n d within))
 
 pub all_added : (test : Entry → Bool) (entries : List Entry) (n : ℕ) (numbers all : List ℕ) → length entries ≤ n
     → numbers ++ numbers_where test n (drop n entries) ≡ all → numbers ≡ all

@@ -50,27 +50,27 @@ position_elsewhere kind [] i path = refl
 position_elsewhere kind (part ∷ parts) i path = refl
 
 module _ (kind : Kind) (parts : List (String Global)) (at : ℕ) (path : List Step) (d : Step) (more : at < length path)
-    where
-  pub at_part : (k : Bor (List ℕ)) (s : String Global) → get_or path at d ≡ Key k → at < length parts
-      → s ≡ get_or parts at s → bytes_eq k.now (string_bytes s) ≡ true
-      → aim_along kind (path_view (drop (at + 1) parts)) (drop (at + 1) path)
-      ≡ aim_along kind (path_view (drop at parts)) (drop at path)
-  at_part k s is there part same =
-      let this : get_or parts at s ≡ s = sym part in
-      rw (drop_more path at d more, is, drop_more parts at s there, this, same) refl
+  where
+    pub at_part : (k : Bor (List ℕ)) (s : String Global) → get_or path at d ≡ Key k → at < length parts
+        → s ≡ get_or parts at s → bytes_eq k.now (string_bytes s) ≡ true
+        → aim_along kind (path_view (drop (at + 1) parts)) (drop (at + 1) path)
+        ≡ aim_along kind (path_view (drop at parts)) (drop at path)
+    at_part k s is there part same =
+        let this : get_or parts at s ≡ s = sym part in
+        rw (drop_more path at d more, is, drop_more parts at s there, this, same) refl
 
-  pub at_other : (k : Bor (List ℕ)) (s : String Global) → get_or path at d ≡ Key k → at < length parts
-      → s ≡ get_or parts at s → bytes_eq k.now (string_bytes s) ≡ false
-      → aim_along kind (path_view (drop at parts)) (drop at path) ≡ Elsewhere
-  at_other k s is there part other =
-      let this : get_or parts at s ≡ s = sym part in
-      rw (drop_more path at d more, is, drop_more parts at s there, this, other) refl
+    pub at_other : (k : Bor (List ℕ)) (s : String Global) → get_or path at d ≡ Key k → at < length parts
+        → s ≡ get_or parts at s → bytes_eq k.now (string_bytes s) ≡ false
+        → aim_along kind (path_view (drop at parts)) (drop at path) ≡ Elsewhere
+    at_other k s is there part other =
+        let this : get_or parts at s ≡ s = sym part in
+        rw (drop_more path at d more, is, drop_more parts at s there, this, other) refl
 
-  pub at_no_part : (k : Bor (List ℕ)) → get_or path at d ≡ Key k → length parts ≤ at
-      → aim_along kind (path_view (drop at parts)) (drop at path) ≡ aim_at_key kind
-  at_no_part k is none = rw (drop_more path at d more, is, drop_all at parts none) refl
+    pub at_no_part : (k : Bor (List ℕ)) → get_or path at d ≡ Key k → length parts ≤ at
+        → aim_along kind (path_view (drop at parts)) (drop at path) ≡ aim_at_key kind
+    at_no_part k is none = rw (drop_more path at d more, is, drop_all at parts none) refl
 
-  pub at_position : (i : ℕ) → get_or path at d ≡ Position i
-      → aim_along kind (path_view (drop at parts)) (drop at path) ≡ Elsewhere
-  at_position i is =
-      rw (drop_more path at d more, is) (position_elsewhere kind (path_view (drop at parts)) i (drop (at + 1) path))
+    pub at_position : (i : ℕ) → get_or path at d ≡ Position i
+        → aim_along kind (path_view (drop at parts)) (drop at path) ≡ Elsewhere
+    at_position i is =
+        rw (drop_more path at d more, is) (position_elsewhere kind (path_view (drop at parts)) i (drop (at + 1) path))

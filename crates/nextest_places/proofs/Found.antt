@@ -3,7 +3,7 @@ use Rattle.std.proofs.Common.{◌≡◌, ℕ, zero, suc, ◌<◌, ◌≤◌, Boo
 use Rattle.std.proofs.lemmas.Bool.{cases_Bool, true≢false}
 use Rattle.std.specs.List.{AllByRecursion}
 use Rattle.toml_parser.specs.Reading.{path_view}
-use Rattle.nextest_places.specs.Branches.{Tells, comes_before, numbers_where}
+use Rattle.nextest_places.specs.Branches.{comes_before, lines_by_number, numbers_where}
 use Rattle.nextest_places.specs.Entries.{Outcome, IsWaiting, found, waits, outcome_of, scan}
 use Rattle.nextest_places.specs.Marks.{Mark, State, into, seen, missing, next_element, turn}
 use Rattle.nextest_places.specs.declared.entry.Entry.{Entry}
@@ -15,6 +15,17 @@ use Rattle.nextest_places.proofs.Passed.{passed, passed_by, passed_missing, pass
 -- the state of a path behind an entry
 abbrev pub turn_by : Entry → List Mark → State
 turn_by entry ms = turn entry.kind (path_view entry.parts.items) ms
+
+-- the number of the entry whose lines are found, if some are
+abbrev pub HasNumber : List Entry → Outcome → Option ℕ → Type 0
+HasNumber entries outcome number =
+    MatchOption number (IsWaiting outcome)
+    (λ n. (e : Entry) × (slice_get entries n ≡ Some e) × (outcome ≡ found e.lines))
+
+pub lines_are : (entries : List Entry) (outcome : Outcome) (number : Option ℕ) → HasNumber entries outcome number
+    → MatchOption (lines_by_number entries number) (IsWaiting outcome) (λ lines. outcome ≡ found lines)
+lines_are entries outcome None waiting = waiting
+lines_are entries outcome (Some n) (e, is, brings) = rw is brings
 
 pub scan_stays : (entries : List Entry) (lines : Lines) → scan entries (found lines) ≡ found lines
 scan_stays [] lines = refl
@@ -35,15 +46,15 @@ drop_next [] (suc n) e rest is = absurd (cc)
 drop_next (x ∷ xs) zero e rest is = (cc, cc)
 drop_next (x ∷ xs) (suc n) e rest is = drop_next xs n e rest is
 
-tells_same : (entries : List Entry) (o p : Outcome) (m n : Option ℕ) → o ≡ p → m ≡ n → Tells entries p n
-    → Tells entries o m
+tells_same : (entries : List Entry) (o p : Outcome) (m n : Option ℕ) → o ≡ p → m ≡ n → HasNumber entries p n
+    → HasNumber entries o m
 tells_same entries o p m n outcomes numbers tells = rw (outcomes, numbers) tells
 
 -- the first of the entries that pass a test ends a scan that else stays as it is
 pub first_found : (test : Entry → Bool) (ms : List Mark) (entries : List Entry) (n : ℕ) (rest : List Entry)
     → rest ≡ drop n entries
     → AllByRecursion (λ e. turn_by e ms ≡ cond (test e) seen (missing ms)) rest
-    → Tells entries (scan rest (waits ms)) (slice_get (numbers_where test n rest) 0)
+    → HasNumber entries (scan rest (waits ms)) (slice_get (numbers_where test n rest) 0)
 first_found test ms entries n [] is turns = tt
 first_found test ms entries n (e ∷ rest) is (here, turns) =
     let next = drop_next entries n e rest is in
@@ -74,8 +85,8 @@ pub record Enters (entries : List Entry) (steps : List Step) (tail : List Mark) 
 -- by the number of the element's header, if there is one
 abbrev pub Meets : List Entry → List Step → List Mark → (Entry → Bool) → Outcome → Option ℕ → Option ℕ → Type 0
 Meets entries steps tail stop outcome pair number =
-    MatchOption number (Tells entries outcome pair)
-    (λ n. (comes_before pair n ≡ true → Tells entries outcome pair)
+    MatchOption number (HasNumber entries outcome pair)
+    (λ n. (comes_before pair n ≡ true → HasNumber entries outcome pair)
     × (comes_before pair n ≡ false → Enters entries steps tail stop outcome pair n))
 
 meets_same : (entries : List Entry) (steps : List Step) (tail : List Mark) (stop : Entry → Bool)
@@ -92,7 +103,7 @@ module _ (entries : List Entry) (steps : List Step) (tail : List Mark) (stop ele
   waiting j = passed steps (into (suc j) ∷ tail)
 
   -- a pair comes first
-  stopped : (outcome : Outcome) (n : ℕ) (number : Option ℕ) → Tells entries outcome (Some n)
+  stopped : (outcome : Outcome) (n : ℕ) (number : Option ℕ) → HasNumber entries outcome (Some n)
       → ((m : ℕ) → number ≡ Some m → comes_before (Some n) m ≡ true) → Meets entries steps tail stop outcome (Some n) number
   stopped outcome n None tells before = tells
   stopped outcome n (Some m) tells before = (
@@ -117,16 +128,16 @@ module _ (entries : List Entry) (steps : List Step) (tail : List Mark) (stop ele
       (slice_get (n ∷ numbers_where element (suc n) rest) j)
   begun n e rest is next turned later zero = (
     λ first. absurd (true≢false (sym first
-    ∙ none_before (slice_get (numbers_where stop (suc n) rest) 0) n
-    (λ m h. let least = at_least stop (suc n) rest 0 m h in omega (arith, least)))),
+        ∙ none_before (slice_get (numbers_where stop (suc n) rest) 0) n
+        (λ m h. let least = at_least stop (suc n) rest 0 m h in omega (arith, least)))),
     λ first. record {
       header = e;
       is = is;
       last = λ none. scan_seen e rest (waiting zero)
-      (turned zero ∙ ap (passed_by steps) (empty tail none) ∙ passed_seen steps);
+          (turned zero ∙ ap (passed_by steps) (empty tail none) ∙ passed_seen steps);
       on = λ some. scan_missing e rest (waiting zero) (passed steps (into zero ∷ tail))
-      (turned zero ∙ ap (passed_by steps) (nonempty tail some) ∙ passed_missing steps (into zero ∷ tail))
-      ∙ ap (λ es. scan es (waits (passed steps (into zero ∷ tail)))) next;
+          (turned zero ∙ ap (passed_by steps) (nonempty tail some) ∙ passed_missing steps (into zero ∷ tail))
+          ∙ ap (λ es. scan es (waits (passed steps (into zero ∷ tail)))) next;
       same = ap (λ es. slice_get (numbers_where stop (suc n) es) 0) next;
     },
   )

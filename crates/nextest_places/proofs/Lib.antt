@@ -1,5 +1,6 @@
 pub mod Adding
 pub mod Aiming
+pub mod Along
 pub mod Among
 pub mod Branched
 pub mod Documents

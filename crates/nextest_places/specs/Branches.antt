@@ -1,15 +1,14 @@
 -- The numbers of a text's expressions, by the keys that theirs begin with.
-use Rattle.std.specs.Prelude.{◌≡◌, ℕ, suc, nat_lt, Bool, true, false, if◌then◌else◌, List, [], ◌∷◌, Option, Some, None, MatchOption, slice_get}
+use Rattle.std.specs.Prelude.{◌≡◌, ℕ, suc, nat_lt, Bool, true, false, if◌then◌else◌, List, [], ◌∷◌, Option, Some, None, option_and_then, option_map, slice_get}
 use Rattle.std.specs.BTreeMap.{get_by_text}
 use Rattle.std.specs.Option.{option_map_or}
 use Rattle.std.specs.Str.{bytes_eq}
 use Rattle.toml_parser.specs.Reading.{path_view}
-use Rattle.nextest_places.specs.Entries.{Outcome, IsWaiting, found}
 use Rattle.nextest_places.specs.declared.branch.Branch.{Branch, out-Branch}
-use Rattle.nextest_places.specs.declared.branch.Numbers.{Numbers}
 use Rattle.nextest_places.specs.declared.entry.Entry.{Entry}
 use Rattle.nextest_places.specs.declared.entry.Kind.{Kind}
 use Rattle.nextest_places.specs.declared.entry.Kind.TheVariants.{Pair, Table, Element}
+use Rattle.nextest_places.specs.declared.place.Lines.{Lines}
 
 -- The lists of a branch: the expressions whose keys begin with the branch's keys, and of those whose
 -- keys are these the pairs, and the headers in double brackets.
@@ -18,14 +17,14 @@ pub data Role : Type 0 where
   pairs : Role
   elements : Role
 
-abbrev pub numbers_in : Role → Numbers → List ℕ
-numbers_in through numbers = numbers.all.items
-numbers_in pairs numbers = numbers.pairs.items
-numbers_in elements numbers = numbers.elements.items
+abbrev pub numbers_in : Role → Branch → List ℕ
+numbers_in through branch = (out-Branch branch).all.items
+numbers_in pairs branch = (out-Branch branch).ends.pairs.items
+numbers_in elements branch = (out-Branch branch).ends.elements.items
 
 -- the numbers in a list of what a branch has behind it at some keys
 abbrev pub numbers_at : Role → List (List ℕ) → Branch → List ℕ
-numbers_at role [] branch = numbers_in role (out-Branch branch).numbers
+numbers_at role [] branch = numbers_in role branch
 numbers_at role (k ∷ keys) branch =
     option_map_or (numbers_at role keys) (get_by_text (out-Branch branch).longer k) []
 
@@ -76,9 +75,7 @@ IsBranchOf entries branch =
     (role : Role) (keys : List (List ℕ))
     → numbers_at role keys branch ≡ numbers_where (is_entry_in role keys) 0 entries
 
--- A number tells an outcome of some entries: it is that of the entry whose lines are found, or there
--- is none, and nothing is found.
-abbrev pub Tells : List Entry → Outcome → Option ℕ → Type 0
-Tells entries outcome number =
-    MatchOption number (IsWaiting outcome)
-    (λ n. (e : Entry) × (slice_get entries n ≡ Some e) × (outcome ≡ found e.lines))
+-- the lines of an entry by its number, if there is one
+abbrev pub lines_by_number : List Entry → Option ℕ → Option Lines
+lines_by_number entries number =
+    option_map (λ e. e.lines) (option_and_then (slice_get entries) number)

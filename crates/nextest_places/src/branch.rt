@@ -3,60 +3,88 @@ ghost use Rattle.std.specs.Prelude.{◌≡◌, ◌++◌, ◌∷◌, [], ℕ, Lis
 ghost use Rattle.std.specs.BTreeMap.{get_by_text};
 ghost use Rattle.std.specs.Option.{option_map_or};
 ghost use Rattle.toml_parser.specs.Reading.{path_view};
-ghost use Rattle.nextest_places.specs.Branches.{IsBranchOf, Role, is_in, numbers_at, numbers_in};
+ghost use Rattle.nextest_places.specs.Branches.{IsBranchOf, Role, elements, ends_in, is_in, numbers_at, pairs};
 
 use crate::entry::{Entry, Kind};
 use std::alloc::{AllocError, Global};
 use std::collections::BTreeMap;
 
-/// The numbers of expressions whose keys begin with the same parts. Each list ascends.
+/// The expressions whose keys begin with the same parts, by their numbers. Each list ascends.
 #[derive(Drop)]
-pub(crate) struct Numbers {
-    /// Those of all of them.
+pub(crate) struct Branch {
+    /// All of them.
     pub(crate) all: Vec<usize>,
-    /// Those of pairs whose keys have no more parts.
+    /// Those whose keys have no more parts.
+    pub(crate) ends: Ends,
+    /// Those whose keys go on, by the next part.
+    pub(crate) longer: BTreeMap<String, Branch>,
+}
+
+/// The expressions with the same key, by their numbers.
+#[derive(Drop)]
+pub(crate) struct Ends {
+    /// The pairs among them.
     pub(crate) pairs: Vec<usize>,
-    /// Those of headers in double brackets whose keys have no more parts.
+    /// The headers in double brackets.
     pub(crate) elements: Vec<usize>,
 }
 
-impl Numbers {
-    /// Adds the number of an expression, by its kind and the rest of its key.
-    fn add(&mut self, kind: Kind, rest: &[String], number: usize) -> Result<(), AllocError>
-        ensures { OnOk result ((role : Role) → numbers_in role self.new ≡ numbers_in role self.old
-            ++ (if is_in role kind [] (path_view rest.now) then number ∷ [] else [])) }
+impl Ends {
+    /// Adds an expression by its kind.
+    fn add(&mut self, kind: Kind, number: usize) -> Result<(), AllocError>
+        ensures pairs { OnOk result (self.new.pairs.items ≡ self.old.pairs.items
+            ++ (if ends_in pairs kind then number ∷ [] else [])) }
+        ensures elements { OnOk result (self.new.elements.items ≡ self.old.elements.items
+            ++ (if ends_in elements kind then number ∷ [] else [])) }
     {
-        self.all.push(number)?;
-        if rest.is_empty() {
-            match kind {
-                Kind::Pair => self.pairs.push(number)?,
-                Kind::Element => self.elements.push(number)?,
-                Kind::Table => {}
-            }
-        }
+        push_if(&mut self.pairs, is_pair(kind), number)?;
+        push_if(&mut self.elements, is_element(kind), number)?;
         Ok(())
     }
 }
 
-/// The expressions whose keys begin with the same parts.
-#[derive(Drop)]
-pub(crate) struct Branch {
-    pub(crate) numbers: Numbers,
-    /// Those whose keys go on, by the next part.
-    pub(crate) longer: BTreeMap<String, Branch>,
+fn is_pair(kind: Kind) -> bool
+    ensures { result ≡ ends_in pairs kind }
+{
+    match kind {
+        Kind::Pair => true,
+        Kind::Table | Kind::Element => false,
+    }
+}
+
+fn is_element(kind: Kind) -> bool
+    ensures { result ≡ ends_in elements kind }
+{
+    match kind {
+        Kind::Element => true,
+        Kind::Pair | Kind::Table => false,
+    }
+}
+
+/// Adds a number if a condition holds.
+fn push_if(numbers: &mut Vec<usize>, holds: bool, number: usize) -> Result<(), AllocError>
+    ensures { OnOk result (numbers.new.items ≡ numbers.old.items
+        ++ (if holds then number ∷ [] else [])) }
+{
+    if !holds {
+        return Ok(());
+    }
+    numbers.push(number)?;
+    Ok(())
 }
 
 /// A branch with no expressions.
 fn empty(alloc: Global) -> Branch
     ensures { (role : Role) (keys : List (List ℕ)) → numbers_at role keys result ≡ [] }
 {
-    let numbers = Numbers {
+    Branch {
         all: Vec::new(alloc),
-        pairs: Vec::new(alloc),
-        elements: Vec::new(alloc),
-    };
-    let longer = BTreeMap::new(alloc);
-    Branch { numbers, longer }
+        ends: Ends {
+            pairs: Vec::new(alloc),
+            elements: Vec::new(alloc),
+        },
+        longer: BTreeMap::new(alloc),
+    }
 }
 
 /// Adds an expression to a branch, by its kind and the rest of its key.
@@ -72,10 +100,10 @@ fn add(
         ≡ numbers_at role keys branch.old
         ++ (if is_in role kind keys (path_view parts.now) then number ∷ [] else [])) }
 {
-    branch.numbers.add(kind, parts, number)?;
+    branch.all.push(number)?;
     match parts.split_first() {
         Some((part, rest)) => add_longer(&mut branch.longer, alloc, kind, part, rest, number),
-        None => Ok(()),
+        None => branch.ends.add(kind, number),
     }
 }
 

@@ -1,6 +1,12 @@
 //! The expressions of a text, which are found by their keys.
 ghost use Rattle.std.specs.Prelude.{◌≡◌, List, ℕ, Bool, IfOk, MatchOption, drop, slice_get};
-ghost use Rattle.nextest_places.specs.Branches.{IsBranchOf, Tells, comes_before, earlier, numbers_where};
+ghost use Rattle.nextest_places.specs.Branches.{
+  IsBranchOf,
+  comes_before,
+  earlier,
+  lines_by_number,
+  numbers_where,
+};
 ghost use Rattle.nextest_places.specs.Entries.{IsWaiting, found, scan, waits};
 ghost use Rattle.nextest_places.specs.Marks.{fresh};
 ghost use Rattle.nextest_places.specs.declared.entry.Entry.{Entry as Expression};
@@ -41,47 +47,56 @@ impl Entries {
         ensures { let outcome = scan self.now (waits (fresh path.now)) in
             MatchOption result (IsWaiting outcome) (λ lines. outcome ≡ found lines) }
     {
-        let number = number_at(&self.by_key, path)?;
-        Some(self.all.get(number)?.lines)
+        lines_along(&self.all, &self.by_key, path)
     }
 }
 
-/// The number of the expression that defines the value at a path, if one does.
+/// The lines of the expression that defines the value at a path, if one does.
 ///
-/// The walk keeps the first pair behind which the rest of the path lies: its key is a front of the
-/// path's. An element of an array is there once its header is, and what is before that header is
-/// passed.
-fn number_at(root: &Branch, path: &[Step]) -> Option<usize>
-    ensures { (entries : List Expression) → IsBranchOf entries root.now
-        → Tells entries (scan entries (waits (fresh path.now))) result }
+/// Of the expressions that are not passed, the path keeps the first pair whose key it begins with:
+/// all of the rest lies in its value. An element of an array is there once its header is, and what
+/// is before that header is passed.
+fn lines_along(entries: &[Entry], root: &Branch, path: &[Step]) -> Option<Lines>
+    requires { IsBranchOf entries.now root.now }
+    ensures { let outcome = scan entries.now (waits (fresh path.now)) in
+        MatchOption result (IsWaiting outcome) (λ lines. outcome ≡ found lines) }
 {
     let mut branch = root;
     let mut from = 0;
-    let mut pair = number_from(&branch.numbers.pairs, from, 0);
+    let mut pair = number_from(&branch.ends.pairs, from, 0);
     for (at, step) in path.iter().enumerate() {
         match step {
-            Step::Key(key) => {
-                let Some(next) = branch.longer.get(*key) else {
-                    return pair;
-                };
-                branch = next;
-                pair = earlier(number_from(&branch.numbers.pairs, from, 0), pair);
-            }
+            Step::Key(key) => match branch.longer.get(*key) {
+                Some(next) => {
+                    branch = next;
+                    pair = earlier(number_from(&branch.ends.pairs, from, 0), pair);
+                }
+                None => return lines_of(entries, pair),
+            },
             Step::Position(position) => {
-                let Some(element) = number_from(&branch.numbers.elements, from, *position) else {
-                    return pair;
-                };
-                if is_before(pair, element) {
-                    return pair;
+                match number_from(&branch.ends.elements, from, *position) {
+                    Some(element) => {
+                        if is_before(pair, element) {
+                            return lines_of(entries, pair);
+                        }
+                        if at + 1 == path.len() {
+                            return lines_of(entries, Some(element));
+                        }
+                        from = element + 1;
+                    }
+                    None => return lines_of(entries, pair),
                 }
-                if at + 1 == path.len() {
-                    return Some(element);
-                }
-                from = element + 1;
             }
         }
     }
-    earlier(number_from(&branch.numbers.all, from, 0), pair)
+    lines_of(entries, earlier(number_from(&branch.all, from, 0), pair))
+}
+
+/// The lines of an expression by its number, if there is one.
+fn lines_of(entries: &[Entry], number: Option<usize>) -> Option<Lines>
+    ensures { result ≡ lines_by_number entries.now number }
+{
+    Some(entries.get(number?)?.lines)
 }
 
 /// The number at a place among those of ascending numbers that are at least `from`.
@@ -91,7 +106,8 @@ fn number_from(numbers: &[usize], from: usize, place: usize) -> Option<usize>
         → result ≡ slice_get (numbers_where test from (drop from entries)) place }
 {
     let first = numbers.partition_point(|number| *number < from);
-    numbers[first..].get(place).copied()
+    let left = &numbers[first..];
+    left.get(place).copied()
 }
 
 /// The earlier of two numbers, where each may not be there.
