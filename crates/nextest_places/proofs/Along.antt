@@ -1,23 +1,19 @@
 -- The walk of a path along the branches of its keys, a step at a time, as the code takes it.
-use Rattle.std.proofs.Common.{◌≡◌, ℕ, suc, ◌+◌, ◌-◌, ◌<◌, ◌≤◌, true, false, List, [], ◌∷◌, ◌++◌, Bor, length, get_or, drop, take, Option, Some, None, MatchOption, refl, sym, ap, ◌∙◌, subst, arith, add-one}
+use Rattle.std.proofs.Common.{◌≡◌, ℕ, suc, ◌+◌, ◌-◌, ◌<◌, ◌≤◌, true, false, List, [], ◌∷◌, ◌++◌, Bor, length, get_or, drop, take, Option, Some, None, sym, ap, ◌∙◌, subst, arith, add-one}
 use Rattle.std.proofs.lemmas.List.{drop_all, drop_more, length-drop, take_more}
 use Rattle.std.specs.BTreeMap.{get_by_text}
-use Rattle.nextest_places.specs.Branches.{IsBranchOf, comes_before, earlier, lines_by_number}
-use Rattle.nextest_places.specs.Entries.{IsWaiting, found, scan, waits}
+use Rattle.nextest_places.specs.Branches.{HasNumber, comes_before, earlier}
+use Rattle.nextest_places.specs.Entries.{scan, waits}
 use Rattle.nextest_places.specs.Marks.{fresh}
 use Rattle.nextest_places.specs.declared.branch.Branch.{Branch, out-Branch}
 use Rattle.nextest_places.specs.declared.entry.Entry.{Entry}
-use Rattle.nextest_places.specs.declared.place.Lines.{Lines}
 use Rattle.nextest_places.specs.declared.step.Step.{Step}
 use Rattle.nextest_places.specs.declared.step.Step.TheVariants.{Key, Position}
 use Rattle.nextest_places.proofs.Branched.{IsFrom, IsPassed, at_end, element_entered, element_last, element_within, longer_at, no_element, no_longer, pair_first}
-use Rattle.nextest_places.proofs.Found.{HasNumber, lines_are}
 
--- what is told of a path
-abbrev pub AreItsLines : List Entry → List Step → Option Lines → Type 0
-AreItsLines entries path result =
-    let outcome = scan entries (waits (fresh path)) in
-    MatchOption result (IsWaiting outcome) (λ lines. outcome ≡ found lines)
+-- the number of the entry that defines the value at a path
+abbrev pub IsItsNumber : List Entry → List Step → Option ℕ → Type 0
+IsItsNumber entries path number = HasNumber entries (scan entries (waits (fresh path))) number
 
 some_left : (path : List Step) (n : ℕ) → n < length path → drop n path ≡ [] → ⊥
 some_left path n more none =
@@ -26,15 +22,13 @@ some_left path n more none =
     omega (arith, more, size, empty)
 
 -- the path's end
-pub all_passed : (entries : List Entry) (path : List Step) (i : ℕ) (branch : Branch) (from : ℕ)
-    (pair any : Option ℕ) (result : Option Lines) → length path ≤ i
-    → IsPassed entries path (take i path) (drop i path) branch from pair → IsFrom (out-Branch branch).all.items from 0 any
-    → result ≡ lines_by_number entries (earlier any pair) → AreItsLines entries path result
-all_passed entries path i branch from pair any result over now is are =
+pub all_passed : (entries : List Entry) (path : List Step) (i : ℕ) (branch : Branch) (from : ℕ) (pair any : Option ℕ)
+    → length path ≤ i → IsPassed entries path (take i path) (drop i path) branch from pair
+    → IsFrom (out-Branch branch).all.items from 0 any → IsItsNumber entries path (earlier any pair)
+all_passed entries path i branch from pair any over now is =
     let ended : IsPassed entries path (take i path) [] branch from pair =
     subst (λ rest. IsPassed entries path (take i path) rest branch from pair) (drop_all i path over) now in
-    rw are (lines_are entries (scan entries (waits (fresh path))) (earlier any pair)
-    (at_end entries path (take i path) branch from pair ended any is))
+    at_end entries path (take i path) branch from pair ended any is
 
 module _ (entries : List Entry) (path : List Step) (i : ℕ) (d : Step) (branch : Branch) (from : ℕ) (pair : Option ℕ)
     (within : i < length path) (now : IsPassed entries path (take i path) (drop i path) branch from pair) where
@@ -51,12 +45,10 @@ module _ (entries : List Entry) (path : List Step) (i : ℕ) (d : Step) (branch 
       subst (λ steps. IsPassed entries path steps (drop (i + 1) path) next low first)
       (sym (take_more path i d within ∙ ap (λ s. take i path ++ s ∷ []) is)) passed
 
-  pub key_missing : (k : Bor (List ℕ)) (result : Option Lines) → get_or path i d ≡ Key k
-      → get_by_text (out-Branch branch).longer k.now ≡ None → result ≡ lines_by_number entries pair
-      → AreItsLines entries path result
-  key_missing k result is none are =
-      rw are (lines_are entries (scan entries (waits (fresh path))) pair
-      (no_longer entries path (take i path) branch from pair k (drop (i + 1) path) (here (Key k) is) none))
+  pub key_missing : (k : Bor (List ℕ)) → get_or path i d ≡ Key k
+      → get_by_text (out-Branch branch).longer k.now ≡ None → IsItsNumber entries path pair
+  key_missing k is none =
+      no_longer entries path (take i path) branch from pair k (drop (i + 1) path) (here (Key k) is) none
 
   pub key_there : (k : Bor (List ℕ)) (next : Branch) (more : Option ℕ) → get_or path i d ≡ Key k
       → get_by_text (out-Branch branch).longer k.now ≡ Some next → IsFrom (out-Branch next).ends.pairs.items from 0 more
@@ -66,32 +58,25 @@ module _ (entries : List Entry) (path : List Step) (i : ℕ) (d : Step) (branch 
       (longer_at entries path (take i path) branch from pair k (drop (i + 1) path) (here (Key k) is) next some more
       from_next)
 
-  pub element_missing : (j : ℕ) (number : Option ℕ) (result : Option Lines) → get_or path i d ≡ Position j
-      → IsFrom (out-Branch branch).ends.elements.items from j number → number ≡ None
-      → result ≡ lines_by_number entries pair → AreItsLines entries path result
-  element_missing j number result is from_here none are =
-      rw are (lines_are entries (scan entries (waits (fresh path))) pair
-      (no_element entries path (take i path) branch from pair j (drop (i + 1) path) (here (Position j) is)
-      (subst (IsFrom (out-Branch branch).ends.elements.items from j) none from_here)))
+  pub element_missing : (j : ℕ) (number : Option ℕ) → get_or path i d ≡ Position j
+      → IsFrom (out-Branch branch).ends.elements.items from j number → number ≡ None → IsItsNumber entries path pair
+  element_missing j number is from_here none =
+      no_element entries path (take i path) branch from pair j (drop (i + 1) path) (here (Position j) is)
+      (subst (IsFrom (out-Branch branch).ends.elements.items from j) none from_here)
 
   module _ (j : ℕ) (number : Option ℕ) (n : ℕ) (is : get_or path i d ≡ Position j)
       (from_here : IsFrom (out-Branch branch).ends.elements.items from j number) (some : number ≡ Some n) where
     there : IsFrom (out-Branch branch).ends.elements.items from j (Some n)
     there = subst (IsFrom (out-Branch branch).ends.elements.items from j) some from_here
 
-    pub pair_there : (result : Option Lines) → comes_before pair n ≡ true → result ≡ lines_by_number entries pair
-        → AreItsLines entries path result
-    pair_there result first are =
-        rw are (lines_are entries (scan entries (waits (fresh path))) pair
-        (pair_first entries path (take i path) branch from pair j (drop (i + 1) path) (here (Position j) is) n there
-        first))
+    pub pair_there : comes_before pair n ≡ true → IsItsNumber entries path pair
+    pair_there first =
+        pair_first entries path (take i path) branch from pair j (drop (i + 1) path) (here (Position j) is) n there first
 
-    pub header_there : (result : Option Lines) → comes_before pair n ≡ false → i + 1 ≡ length path
-        → result ≡ lines_by_number entries (Some n) → AreItsLines entries path result
-    header_there result first last are =
-        rw are (lines_are entries (scan entries (waits (fresh path))) (Some n)
-        (element_last entries path (take i path) branch from pair j (drop (i + 1) path) (here (Position j) is) n there
-        first (drop_all (i + 1) path (omega (arith, last)))))
+    pub header_there : comes_before pair n ≡ false → i + 1 ≡ length path → IsItsNumber entries path (Some n)
+    header_there first last =
+        element_last entries path (take i path) branch from pair j (drop (i + 1) path) (here (Position j) is) n there
+        first (drop_all (i + 1) path (omega (arith, last)))
 
     pub header_passed : comes_before pair n ≡ false → (i + 1 ≡ length path → ⊥)
         → IsPassed entries path (take (i + 1) path) (drop (i + 1) path) branch (n + 1) pair

@@ -6,14 +6,14 @@ use Rattle.std.specs.BTreeMap.{get_by_text}
 use Rattle.std.specs.List.{AllByRecursion}
 use Rattle.std.specs.Option.{option_map_or}
 use Rattle.toml_parser.specs.Reading.{path_view}
-use Rattle.nextest_places.specs.Branches.{IsBranchOf, Role, through, pairs, elements, comes_before, earlier, is_entry_in, is_in, numbers_in, numbers_at, numbers_where}
+use Rattle.nextest_places.specs.Branches.{HasNumber, IsBranchOf, Role, through, pairs, elements, comes_before, earlier, is_entry_in, is_in, numbers_in, numbers_at, numbers_where}
 use Rattle.nextest_places.specs.Entries.{Outcome, found, waits, scan}
 use Rattle.nextest_places.specs.Marks.{Mark, by_key, into, seen, missing, fresh}
 use Rattle.nextest_places.specs.declared.branch.Branch.{Branch, out-Branch}
 use Rattle.nextest_places.specs.declared.entry.Entry.{Entry}
 use Rattle.nextest_places.specs.declared.step.Step.{Step}
 use Rattle.nextest_places.specs.declared.step.Step.TheVariants.{Key, Position}
-use Rattle.nextest_places.proofs.Found.{Enters, HasNumber, Meets, element_found, first_found, turn_by}
+use Rattle.nextest_places.proofs.Found.{Enters, Meets, element_found, first_found, turn_by}
 use Rattle.nextest_places.proofs.Numbers.{all_drop, first_of_both, none_pass, same_numbers}
 use Rattle.nextest_places.proofs.Passed.{is_upto, key_in, key_passed, keys_in, passed, position_in, position_passed, turn_at_end, turn_at_key, turn_at_position, upto_apart, upto_more, upto_none}
 

@@ -3,7 +3,7 @@ use Rattle.std.proofs.Common.{◌≡◌, ℕ, zero, suc, ◌<◌, ◌≤◌, Boo
 use Rattle.std.proofs.lemmas.Bool.{cases_Bool, true≢false}
 use Rattle.std.specs.List.{AllByRecursion}
 use Rattle.toml_parser.specs.Reading.{path_view}
-use Rattle.nextest_places.specs.Branches.{comes_before, lines_by_number, numbers_where}
+use Rattle.nextest_places.specs.Branches.{HasNumber, comes_before, lines_by_number, numbers_where}
 use Rattle.nextest_places.specs.Entries.{Outcome, IsWaiting, found, waits, outcome_of, scan}
 use Rattle.nextest_places.specs.Marks.{Mark, State, into, seen, missing, next_element, turn}
 use Rattle.nextest_places.specs.declared.entry.Entry.{Entry}
@@ -15,12 +15,6 @@ use Rattle.nextest_places.proofs.Passed.{passed, passed_by, passed_missing, pass
 -- the state of a path behind an entry
 abbrev pub turn_by : Entry → List Mark → State
 turn_by entry ms = turn entry.kind (path_view entry.parts.items) ms
-
--- the number of the entry whose lines are found, if some are
-abbrev pub HasNumber : List Entry → Outcome → Option ℕ → Type 0
-HasNumber entries outcome number =
-    MatchOption number (IsWaiting outcome)
-    (λ n. (e : Entry) × (slice_get entries n ≡ Some e) × (outcome ≡ found e.lines))
 
 pub lines_are : (entries : List Entry) (outcome : Outcome) (number : Option ℕ) → HasNumber entries outcome number
     → MatchOption (lines_by_number entries number) (IsWaiting outcome) (λ lines. outcome ≡ found lines)

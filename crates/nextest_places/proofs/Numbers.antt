@@ -1,11 +1,12 @@
 -- The numbers of the entries that pass a test.
-use Rattle.std.proofs.Common.{◌≡◌, ℕ, zero, suc, ◌-◌, ◌<◌, ◌≤◌, Bool, true, false, cond, ◌||◌, nat_lt, ltb, List, [], ◌∷◌, length, get_or, drop, slice_get, Option, Some, None, refl, sym, ap, ◌∙◌, inl, inr, arith}
+use Rattle.std.proofs.Common.{◌≡◌, ℕ, zero, suc, ◌-◌, ◌<◌, ◌≤◌, Bool, true, false, cond, ◌||◌, nat_lt, ltb, List, [], ◌∷◌, length, get_or, drop, slice_get, Bor, Option, Some, None, option_map, refl, sym, ap, ◌∙◌, inl, inr, arith}
 use Rattle.std.proofs.lemmas.Bool.{cases_Bool, cases_lt, ltb-true}
 use Rattle.std.proofs.lemmas.Bool.Decides.{nat_tests}
 use Rattle.std.proofs.lemmas.List.{drop_all}
 use Rattle.std.proofs.lemmas.List.Sorted.{IsPartitionedBy-ltb}
-use Rattle.std.proofs.lemmas.Option.{none-some, same_Some, slice_get-get_or}
+use Rattle.std.proofs.lemmas.Option.{none-some, same_Some, slice_get-get_or, slice_get_past, slice_get_read}
 use Rattle.std.specs.List.{AllByRecursion}
+use Rattle.std.specs.Slice.{IsItemAt}
 use Rattle.std.specs.List.Sorted.{IsNonDecreasingBy, IsPartitionPoint, IsPartitionedBy}
 use Rattle.nextest_places.specs.Branches.{comes_before, earlier, numbers_where}
 use Rattle.nextest_places.specs.declared.entry.Entry.{Entry}
@@ -194,3 +195,8 @@ all_drop P (suc n) (e ∷ es) (here, all) = all_drop P n es all
 pub none_before : (o : Option ℕ) (n : ℕ) → ((m : ℕ) → o ≡ Some m → n ≤ m) → comes_before o n ≡ false
 none_before None n least = refl
 none_before (Some m) n least = not_below m n (least m refl)
+
+-- the number that a slice lends
+pub item_is : (xs : List ℕ) (i : ℕ) (r : Option (Bor ℕ)) → IsItemAt xs i r → option_map (λ x. x.now) r ≡ slice_get xs i
+item_is xs i None is = sym (slice_get_past xs i is.3)
+item_is xs i (Some x) is = sym (slice_get_read xs (length xs) i x.now refl is.3.0 is.1)

@@ -1,5 +1,5 @@
 -- The numbers of a text's expressions, by the keys that theirs begin with.
-use Rattle.std.specs.Prelude.{◌≡◌, ℕ, suc, nat_lt, Bool, true, false, if◌then◌else◌, List, [], ◌∷◌, Option, Some, None, option_and_then, option_map, slice_get}
+use Rattle.std.specs.Prelude.{◌≡◌, ℕ, suc, nat_lt, Bool, true, false, if◌then◌else◌, List, [], ◌∷◌, Option, Some, None, MatchOption, option_and_then, option_map, slice_get}
 use Rattle.std.specs.BTreeMap.{get_by_text}
 use Rattle.std.specs.Option.{option_map_or}
 use Rattle.std.specs.Str.{bytes_eq}
@@ -9,6 +9,7 @@ use Rattle.nextest_places.specs.declared.entry.Entry.{Entry}
 use Rattle.nextest_places.specs.declared.entry.Kind.{Kind}
 use Rattle.nextest_places.specs.declared.entry.Kind.TheVariants.{Pair, Table, Element}
 use Rattle.nextest_places.specs.declared.place.Lines.{Lines}
+use Rattle.nextest_places.specs.Entries.{Outcome, IsWaiting, found}
 
 -- The lists of a branch: the expressions whose keys begin with the branch's keys, and of those whose
 -- keys are these the pairs, and the headers in double brackets.
@@ -79,3 +80,9 @@ IsBranchOf entries branch =
 abbrev pub lines_by_number : List Entry → Option ℕ → Option Lines
 lines_by_number entries number =
     option_map (λ e. e.lines) (option_and_then (slice_get entries) number)
+
+-- The number of the entry whose lines are found, if some are.
+abbrev pub HasNumber : List Entry → Outcome → Option ℕ → Type 0
+HasNumber entries outcome number =
+    MatchOption number (IsWaiting outcome)
+    (λ n. (e : Entry) × (slice_get entries n ≡ Some e) × (outcome ≡ found e.lines))

@@ -47,56 +47,63 @@ impl Entries {
         ensures { let outcome = scan self.now (waits (fresh path.now)) in
             MatchOption result (IsWaiting outcome) (λ lines. outcome ≡ found lines) }
     {
-        lines_along(&self.all, &self.by_key, path)
+        lines_of(&self.all, self.number_at(path))
     }
-}
 
-/// The lines of the expression that defines the value at a path, if one does.
-///
-/// Of the expressions that are not passed, the path keeps the first pair whose key it begins with:
-/// all of the rest lies in its value. An element of an array is there once its header is, and what
-/// is before that header is passed.
-fn lines_along(entries: &[Entry], root: &Branch, path: &[Step]) -> Option<Lines>
-    requires { IsBranchOf entries.now root.now }
-    ensures { let outcome = scan entries.now (waits (fresh path.now)) in
-        MatchOption result (IsWaiting outcome) (λ lines. outcome ≡ found lines) }
-{
-    let mut branch = root;
-    let mut from = 0;
-    let mut pair = number_from(&branch.ends.pairs, from, 0);
-    for (at, step) in path.iter().enumerate() {
-        match step {
-            Step::Key(key) => match branch.longer.get(*key) {
-                Some(next) => {
-                    branch = next;
-                    pair = earlier(number_from(&branch.ends.pairs, from, 0), pair);
-                }
-                None => return lines_of(entries, pair),
-            },
-            Step::Position(position) => {
-                match number_from(&branch.ends.elements, from, *position) {
-                    Some(element) => {
-                        if is_before(pair, element) {
-                            return lines_of(entries, pair);
-                        }
-                        if at + 1 == path.len() {
-                            return lines_of(entries, Some(element));
-                        }
-                        from = element + 1;
+    /// The number of the expression that defines the value at a path, if one does.
+    ///
+    /// Of the expressions that are not passed, the path keeps the first pair whose key it begins
+    /// with: all of the rest lies in its value. An element of an array is there once its header is,
+    /// and what is before that header is passed.
+    fn number_at(&self, path: &[Step]) -> Option<usize>
+        ensures { HasNumber self.now (scan self.now (waits (fresh path.now))) result }
+    {
+        let mut branch = &self.by_key;
+        let mut from = 0;
+        let mut pair = number_from(&branch.ends.pairs, from, 0);
+        for (at, step) in path.iter().enumerate() {
+            match step {
+                Step::Key(key) => match branch.longer.get(*key) {
+                    Some(next) => {
+                        let first = number_from(&next.ends.pairs, from, 0);
+                        pair = earlier(first, pair);
+                        branch = next;
                     }
-                    None => return lines_of(entries, pair),
+                    None => return pair,
+                },
+                Step::Position(position) => {
+                    let header = number_from(&branch.ends.elements, from, *position);
+                    match header {
+                        Some(element) => {
+                            if is_before(pair, element) {
+                                return pair;
+                            }
+                            if at + 1 == path.len() {
+                                return Some(element);
+                            }
+                            from = element + 1;
+                        }
+                        None => return pair,
+                    }
                 }
             }
         }
+        let any = number_from(&branch.all, from, 0);
+        earlier(any, pair)
     }
-    lines_of(entries, earlier(number_from(&branch.all, from, 0), pair))
 }
 
 /// The lines of an expression by its number, if there is one.
 fn lines_of(entries: &[Entry], number: Option<usize>) -> Option<Lines>
     ensures { result ≡ lines_by_number entries.now number }
 {
-    Some(entries.get(number?)?.lines)
+    match number {
+        Some(number) => match entries.get(number) {
+            Some(entry) => Some(entry.lines),
+            None => None,
+        },
+        None => None,
+    }
 }
 
 /// The number at a place among those of ascending numbers that are at least `from`.
@@ -106,8 +113,7 @@ fn number_from(numbers: &[usize], from: usize, place: usize) -> Option<usize>
         → result ≡ slice_get (numbers_where test from (drop from entries)) place }
 {
     let first = numbers.partition_point(|number| *number < from);
-    let left = &numbers[first..];
-    left.get(place).copied()
+    numbers.split_at(first).1.get(place).copied()
 }
 
 /// The earlier of two numbers, where each may not be there.

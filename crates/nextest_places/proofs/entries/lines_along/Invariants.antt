@@ -1,6 +1,0 @@
-use Rattle.std.proofs.Common.{drop, take}
-use Rattle.nextest_places.proofs.Branched.{IsPassed}
-use Rattle.nextest_places.proofs.entries.lines_along.Given as goal
-
-abbrev pub invariant-loop-at : goal.invariant-loop-at
-invariant-loop-at l = IsPassed l.entries l.path (take l.at l.path) (drop l.at l.path) l.branch l.from l.pair
