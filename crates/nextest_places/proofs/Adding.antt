@@ -1,7 +1,7 @@
 -- What it leaves of a branch to add an expression.
-use Rattle.std.proofs.Common.{◌≡◌, ℕ, suc, ◌+◌, ◌<◌, ◌≤◌, Bool, true, false, cond, List, [], ◌∷◌, ◌++◌, length, get_or, drop, String, Global, Option, Some, nat_cmp, refl, sym, ap, ◌∙◌, inl, inr, arith, add-one, append_assoc, bytes_eq, string_bytes}
+use Rattle.std.proofs.Common.{◌≡◌, ℕ, suc, ◌+◌, ◌<◌, ◌≤◌, Bool, true, false, cond, List, [], ◌∷◌, ◌++◌, length, get_or, drop, String, Global, Option, Some, nat_cmp, refl, sym, ap, ◌∙◌, inl, inr, add-one, append_assoc, bytes_eq, string_bytes}
 use Rattle.std.proofs.lemmas.Bool.{cases_Bool}
-use Rattle.std.proofs.lemmas.List.{append-nil, drop_all, drop_more}
+use Rattle.std.proofs.lemmas.List.{append-nil, drop_all, drop_more, nil_from_length}
 use Rattle.std.proofs.lemmas.Slice.Eq.{bytes_eq-Decides}
 use Rattle.std.specs.BTreeMap.{BTreeMap, get_by_text, is_at}
 use Rattle.std.specs.Cmp.Lexicographic.{slice_cmp}
@@ -12,10 +12,6 @@ use Rattle.nextest_places.specs.declared.branch.Branch.{Branch, out-Branch}
 use Rattle.nextest_places.specs.declared.entry.Entry.{Entry}
 use Rattle.nextest_places.specs.declared.entry.Kind.{Kind}
 use Rattle.nextest_places.proofs.IdAims.{apart}
-
-no_entries : (es : List (String Global × Branch)) → length es ≡ 0 → es ≡ []
-no_entries [] none = refl
-no_entries (e ∷ es) none = absurd (omega (arith, none))
 
 -- what is added to some numbers
 abbrev pub IsAdded : Bool → ℕ → List ℕ → List ℕ → Type 0
@@ -30,7 +26,7 @@ none_there branch all pair element none pairs [] = pair
 none_there branch all pair element none elements [] = element
 none_there branch all pair element none role (k ∷ keys) =
     ap (λ es. option_map_or (numbers_at role keys) (lookup (is_at (λ x. slice_cmp nat_cmp k (string_bytes x))) es) [])
-    (no_entries (out-Branch branch).longer.entries none)
+    (nil_from_length (out-Branch branch).longer.entries none)
 
 -- the numbers of a branch behind which an expression is added, and of one where its key ends
 module _ (kind : Kind) (number : ℕ) (old new : Branch)

@@ -1,4 +1,5 @@
 use Rattle.std.proofs.Common.{◌≡◌, ◌++◌, ◌∷◌, [], ◌∙◌, Some, None, cond, refl, sym, ap, rules, string_bytes}
+use Rattle.std.proofs.lemmas.List.{nil_from_length}
 use Rattle.std.proofs.lemmas.Map.Text.{btree_map_updates_text}
 use Rattle.std.proofs.lemmas.Result.{on_ok_weaker}
 use Rattle.std.specs.BTreeMap.{get_by_text}
@@ -20,7 +21,7 @@ add-returns-in-Some t c =
 
 pub add-returns-in-None : goal.add-returns-in-None
 add-returns-in-None t c =
-    let none : c.args.parts.now ≡ [] = search rules in
+    let none : c.args.parts.now ≡ [] = nil_from_length c.args.parts.now c.in-None.ensures.cases in
     on_ok_weaker c.add-in-None.result
     (λ ends. rw none (added_here c.args.kind c.args.number c.args.branch.now _ c.in_ok-push.ensures.items ends.pairs
     ends.elements refl))
