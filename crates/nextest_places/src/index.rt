@@ -29,10 +29,11 @@ impl Index {
         requires { IsDocument text.now (line_count text.now) }
         ensures { IfOk result (IsIndex text.now) }
     {
-        let (entries, low) = entries_of(alloc, text, &mut Wanted::All)?;
+        let (expressions, low) = entries_of(alloc, text, &mut Wanted::All)?;
         let (fronts, rest) = fronts_behind(alloc, &Fronts::of(alloc, text)?, low)?;
+        let entries = Entries::of(alloc, expressions)?;
         Ok(Index {
-            entries: Entries::of(alloc, entries)?,
+            entries,
             fronts,
             rest,
         })
