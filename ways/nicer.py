@@ -1,6 +1,6 @@
 import os,time,re
-CHAIN=set('nextest_engines nextest_tree nextest_texts nextest_inheritance rule_lists nextest_documents nextest_places nextest_elements nextest_scripts nextest_tables nextest_sources nextest_rules nextest_load nextest_settings nextest_profiles nextest_config rinqebo_request rinqebo_files rinqebo_load rinqebo_rules rinqebo_findings rinqebo_run rinqebo_resolve rinqebo rinqebo_c test_runs'.split())
-NEAR=set('filter_matchers json_fields rinqebo_report rinqebo_codes platform_table toy_engines filter_language filter_packages filter_engine platform_language nextest_lists rinqebo_forms nextest_files nextest_grounds nextest_spans nextest_shape rinqebo_features'.split())
+CHAIN=set('nextest_engines nextest_tree nextest_inheritance rule_lists nextest_documents nextest_places nextest_elements nextest_scripts nextest_tables nextest_sources nextest_rules nextest_load nextest_settings nextest_config rinqebo_request rinqebo_load rinqebo_rules rinqebo_findings rinqebo_run rinqebo_resolve rinqebo_diff rinqebo rinqebo_c test_runs'.split())
+NEAR=set('rinqebo_report toy_engines filter_language filter_inputs filter_engine platform_language rinqebo_forms nextest_shape rinqebo_objects rinqebo_changes'.split())
 def conf():
     d={}
     try:

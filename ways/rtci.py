@@ -11,8 +11,8 @@ if not hasattr(rt, 'Crate'): rt.load()
 rt.free = lambda: 26e9
 if not os.environ.get('EDITS'): rt.edits_of = lambda c: ([], [])
 jobs = os.environ.get('JOBS')
-SIDE = set('filter_matchers filter_language filter_packages platform_language platform_table test_cases toy_engines nextest_shape nextest_spans nextest_files nextest_grounds rinqebo_codes json_fields nextest_lists filter_engine test_reports test_codes nextest_faults rinqebo_changes rinqebo_sides rinqebo_objects nextest_explain config_explain'.split())
-CHAIN = set('nextest_documents nextest_places nextest_elements nextest_scripts nextest_tables nextest_sources nextest_rules nextest_load nextest_settings nextest_profiles nextest_config rinqebo_request rinqebo_files rinqebo_load rinqebo_rules rinqebo_findings rinqebo_run rinqebo_resolve rinqebo_diff rinqebo test_runs'.split())
+SIDE = set('test_cases toy_engines nextest_explain config_explain'.split())
+CHAIN = set('filter_engine rinqebo_forms rinqebo_objects rinqebo_changes nextest_shape rinqebo_c rinqebo_laws nextest_documents nextest_places nextest_elements nextest_scripts nextest_tables nextest_sources nextest_rules nextest_load nextest_settings nextest_config rinqebo_request rinqebo_load rinqebo_rules rinqebo_findings rinqebo_run rinqebo_resolve rinqebo_diff rinqebo test_runs'.split())
 if jobs:
     made = rt.Crate.ci
     def ci(self, flags, tests):
