@@ -6,7 +6,7 @@ ghost use Rattle.nextest_engines.specs.Engines.{refusal_message, IfFilterRefused
 ghost use Rattle.filter_engine.specs.Compiling.{names_of};
 ghost use Rattle.filter_engine.specs.Open.{asks_for_packages, is_open, leaves_open};
 ghost use Rattle.filter_engine.specs.declared.engine.Packages.TheVariants.{Known, Unknown, Open};
-ghost use Rattle.filter_engine.specs.Decided.{default_filter_answers};
+ghost use Rattle.filter_engine.specs.Decided.{default_filter_answers, filters_speak};
 ghost use Rattle.filter_engine.specs.Engine.{Filter, read_filter, everything, filter_holds, filter_holds_binary};
 ghost use Rattle.filter_engine.specs.Refusals.{IsSpanOf, Says, SaysFirstFault};
 
@@ -241,6 +241,8 @@ impl Filters for NextestFilters {
     ghost match_all_matches = { λ _ _. refl };
 
     ghost match_all_matches_binaries = { λ _ _. refl };
+
+    ghost binaries_speak = { filters_speak };
 
     ghost default_filters_answer = { default_filter_answers };
 }

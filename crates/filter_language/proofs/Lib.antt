@@ -7,6 +7,7 @@ pub mod Skipping
 pub mod Depths
 pub mod DefaultFilters
 pub mod Readings
+pub mod Binaries
 pub mod Truths
 pub mod Shapes
 pub mod Bans

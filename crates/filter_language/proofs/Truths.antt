@@ -1,5 +1,5 @@
 -- Values are the truth, and a known value at a binary is the value at its tests.
-use Rattle.std.proofs.Common.{◌≡◌, ℕ, Bool, true, false, ◌⊎◌, inl, inr, not, List, Option, None, Some, IsSome, option_map, refl, ◌∙◌, ap}
+use Rattle.std.proofs.Common.{◌≡◌, ℕ, Bool, true, false, ◌⊎◌, inl, inr, not, List, Option, None, Some, IsSome, option_map, refl, ap}
 use Rattle.nextest_engines.specs.Engines.{Test, Binary}
 use Rattle.nextest_engines.specs.declared.queries.BuildPlatform.{BuildPlatform}
 use Rattle.nextest_engines.specs.declared.queries.BuildPlatform.TheVariants.{Host, Target}
@@ -7,7 +7,9 @@ use Rattle.filter_language.specs.declared.words.Field.{Field}
 use Rattle.filter_language.specs.declared.words.Field.TheVariants.{TestName, Package, Deps, Rdeps, BinaryId, BinaryName, Kind, Group}
 use Rattle.filter_language.specs.Formula.{Question, Always, Never, TheDefault, OfPlatform, OfName, Formula, Asks, Negated, Both, Either, Without, Grouped}
 use Rattle.filter_language.specs.Values.{known_and, known_or, same_platform, field_answer, answer, value, of_test, of_binary}
+use Rattle.filter_language.specs.Binaries.{Below}
 use Rattle.filter_language.specs.Truth.{NameHas, Answers, Holds, Tells, Needs, a_test, the_default, under, within, both_left, both_right, either_left, either_right, without_left, without_right, ValuesAreTrue, BinariesSpeakForTests, OnlyTestsAreUnknown, OppositesChangePlaces}
+use Rattle.filter_language.proofs.Binaries.{not_below, and_below, or_below, answer_below}
 
 -- A test of names tells whether the name of a field passes.
 bool_tells : (b : Bool) → Tells (Some b) (b ≡ true)
@@ -77,57 +79,6 @@ pub values_are_true : {L : Type 0} (accepts : L → List ℕ → Bool) → Value
 values_are_true accepts f default test =
     let outer = value_tells accepts (Some true) (Unit {0}) (true, refl, λ _. tt, λ _. refl) default test in
     value_tells accepts _ _ outer f test
-
--- One value knows no more than another.
-abbrev Below : Option Bool → Option Bool → Type 0
-Below x y = (b : Bool) → x ≡ Some b → y ≡ Some b
-
-not_below : (x y : Option Bool) → Below x y → Below (option_map not x) (option_map not y)
-not_below None y h b e = absurd (cc)
-not_below (Some c) y h b e = ap (option_map not) (h c refl) ∙ e
-
-and_below : (x y u v : Option Bool) → Below x u → Below y v → Below (known_and x y) (known_and u v)
-and_below (Some false) y u v h k b e = rw (h false refl) e
-and_below (Some true) y u v h k b e = rw (h true refl) (k b e)
-and_below None (Some false) u v h k b e = rw (k false refl) (and_false u b e)
-  where
-    and_false : (u : Option Bool) (b : Bool) → Some false ≡ Some b → known_and u (Some false) ≡ Some b
-    and_false (Some false) b e = e
-    and_false (Some true) b e = e
-    and_false None b e = e
-and_below None (Some true) u v h k b e = absurd (cc)
-and_below None None u v h k b e = absurd (cc)
-
-or_below : (x y u v : Option Bool) → Below x u → Below y v → Below (known_or x y) (known_or u v)
-or_below (Some true) y u v h k b e = rw (h true refl) e
-or_below (Some false) y u v h k b e = rw (h false refl) (k b e)
-or_below None (Some true) u v h k b e = rw (k true refl) (or_true u b e)
-  where
-    or_true : (u : Option Bool) (b : Bool) → Some true ≡ Some b → known_or u (Some true) ≡ Some b
-    or_true (Some false) b e = e
-    or_true (Some true) b e = e
-    or_true None b e = e
-or_below None (Some false) u v h k b e = absurd (cc)
-or_below None None u v h k b e = absurd (cc)
-
-field_below : (accepts : List ℕ → Bool) (field : Field) (test : Test) (d e : Option Bool)
-    → Below (field_answer accepts (of_binary test.binary d) field) (field_answer accepts (of_test test e) field)
-field_below accepts TestName test d e b is = absurd (cc)
-field_below accepts Package test d e b is = is
-field_below accepts Deps test d e b is = is
-field_below accepts Rdeps test d e b is = is
-field_below accepts BinaryId test d e b is = is
-field_below accepts BinaryName test d e b is = is
-field_below accepts Kind test d e b is = is
-field_below accepts Group test d e b is = is
-
-answer_below : {L : Type 0} (accepts : L → List ℕ → Bool) (q : Question L) (test : Test) (d e : Option Bool) → Below d e
-    → Below (answer accepts (of_binary test.binary d) q) (answer accepts (of_test test e) q)
-answer_below accepts Always test d e h b is = is
-answer_below accepts Never test d e h b is = is
-answer_below accepts TheDefault test d e h b is = h b is
-answer_below accepts (OfPlatform p) test d e h b is = is
-answer_below accepts (OfName p) test d e h b is = field_below (accepts p.meaning) p.field test d e b is
 
 value_below : {L : Type 0} (accepts : L → List ℕ → Bool) (f : Formula L) (test : Test) (d e : Option Bool) → Below d e
     → Below (value accepts (of_binary test.binary d) f) (value accepts (of_test test e) f)

@@ -22,3 +22,4 @@ pub mod Messages
 pub mod Writing
 pub mod FirstFault
 pub mod Decided
+pub mod Binaries

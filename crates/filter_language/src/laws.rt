@@ -11,6 +11,7 @@ ghost use Rattle.filter_language.specs.FirstFault.{ReadsTo, IsFirstFault, IsWell
 ghost use Rattle.filter_language.specs.Writing.{Writes, WritesFilter, IsFilter};
 ghost use Rattle.filter_language.specs.Reading.{read};
 ghost use Rattle.filter_language.specs.Values.{value, Subject, answer};
+ghost use Rattle.filter_language.specs.Binaries.{MarksSpeakForTests};
 ghost use Rattle.filter_language.specs.Evaluation.{marks_value};
 ghost use Rattle.filter_language.specs.Truth.{ValuesAreTrue, BinariesSpeakForTests, OnlyTestsAreUnknown, OppositesChangePlaces};
 
@@ -70,6 +71,11 @@ pub fn law_values<E: Matchers>()
 /// The known value of a filter at a binary is its value at each test of the binary.
 pub fn law_binaries<E: Matchers>()
     ensures { BinariesSpeakForTests E.accepts }
+{}
+
+/// What marks say of a binary, they say of each test of the binary, whether they spell a filter or not.
+pub fn law_marks_of_binaries<E: Matchers>()
+    ensures { MarksSpeakForTests E.accepts }
 {}
 
 /// A filter that needs neither a test nor the default filter has a value for each binary.

@@ -115,6 +115,10 @@ pub trait Filters {
     ghost match_all_matches_binaries: { (binary : Binary) (default : Meaning)
         → holds_binary match_all binary default ≡ Some true };
 
+    /// What a filter matches of a binary, it matches of each test of the binary.
+    ghost binaries_speak: { (m : Meaning) (test : Test) (default : Meaning) (b : Bool)
+        → holds_binary m test.binary default ≡ Some b → holds m test default ≡ b };
+
     /// A default filter with no part that only a test can decide has a known value for each binary.
     ghost default_filters_answer: { (self : Self) (text : List ℕ) (m : Meaning)
         → read self DefaultFilter text ≡ Ok m → leaves m ≡ []

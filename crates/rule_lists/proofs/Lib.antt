@@ -5,3 +5,4 @@ pub mod Built
 pub mod Columns
 pub mod Seen
 pub mod Walked
+pub mod Open

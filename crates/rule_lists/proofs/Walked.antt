@@ -1,4 +1,4 @@
-use Rattle.std.proofs.Common.{◌≡◌, ℕ, ◌+◌, ◌-◌, ◌*◌, ◌%◌, ◌^◌, ◌≤◌, ◌<◌, ◌≢◌, suc, Bool, true, false, Option, Some, None, is_none, List, [], ◌∷◌, ◌++◌, length, map, refl, ap, sym, ◌∙◌, ◌&&◌, ◌||◌, if◌then◌else◌, arith, append_assoc, append-nil, length-append, add-zero, get_or, drop, subst, slice_get, IsTrue}
+use Rattle.std.proofs.Common.{◌≡◌, ℕ, ◌+◌, ◌-◌, ◌*◌, ◌%◌, ◌^◌, ◌≤◌, ◌<◌, ◌≢◌, suc, Bool, true, false, Option, Some, None, is_none, option_and_then, IfSome, List, [], ◌∷◌, ◌++◌, length, map, refl, ap, sym, ◌∙◌, ◌&&◌, ◌||◌, if◌then◌else◌, arith, append_assoc, append-nil, length-append, add-zero, get_or, drop, subst, slice_get, IsTrue}
 use Rattle.std.specs.Prelude.{bit_and, bit_xor}
 use Rattle.std.specs.List.{list_any}
 use Rattle.std.specs.Option.{option_or}
@@ -8,7 +8,7 @@ use Rattle.std.proofs.lemmas.Grind.{common_steps}
 use Rattle.std.proofs.Math.Pow.{pow-lt}
 use Rattle.std.proofs.lemmas.Nat.{xor_block}
 use Rattle.rule_lists.specs.declared.rows.Row.{Row}
-use Rattle.rule_lists.specs.Lists.{HaveAnswers, first_of, firsts, is_wanted, asked_from}
+use Rattle.rule_lists.specs.Lists.{AreKnown, HaveAnswers, first_of, firsts, is_wanted, asked_from}
 use Rattle.rule_lists.specs.Rows.{bits_of, lists_of, lists_in, row_of, rows_of, settled}
 use Rattle.rule_lists.proofs.Bits.{bit, bit-lt, halved, bits-and, zero-none, none-zero}
 
@@ -432,6 +432,28 @@ module _ {R : Type 0} (asks met : R → Bool) (tests : List (R → Bool)) where
           rw (← next.whole) (seam next.upto next.onward next.rule) in
           subst has_answer (sym (next-rule r is_r))
           (have (length next.upto) next.rule at (listed met next.upto next.rule tests is))
+
+      told-known : (found : Option (Option Bool)) (b : Bool) → Some b ≡ option_and_then (λ met. met) found
+          → found ≡ Some (Some b)
+      told-known None b e = absurd cc
+      told-known (Some None) b e = absurd cc
+      told-known (Some (Some c)) b e = ap Some (sym e)
+
+      -- what is known of it, where it is in an open list
+      pub next-known : (known : List (Option Bool)) → AreKnown tests met rules known → bit_and unset row.lists ≢ 0
+          → (r : R) → r ≡ get_or rules (row.number - first) r → (o : Option Bool)
+          → o ≡ option_and_then (λ met. met) (slice_get known (row.number - first)) → IfSome o (λ b. met r ≡ b)
+      next-known known are some r is_r None is_known = tt
+      next-known known are some r is_r (Some b) is_known =
+          let number : row.number ≡ first + length next.upto = ap (λ (r : Row). r.number) next.row_is in
+          let place : row.number - first ≡ length next.upto = omega (arith, number) in
+          let is = wanted met next.upto next.rule tests (λ e. some (in-lists ∙ e)) in
+          let at : slice_get rules (length next.upto) ≡ Some next.rule =
+          rw (← next.whole) (seam next.upto next.onward next.rule) in
+          ap met (next-rule r is_r)
+          ∙ are (length next.upto) next.rule b at (listed met next.upto next.rule tests is)
+          (told-known (slice_get known (length next.upto)) b
+          (is_known ∙ ap (λ (k : ℕ). option_and_then (λ met. met) (slice_get known k)) place))
 
       -- the walk after the rule
       stands-after : (found' : List (Option R)) (unset' : ℕ) (told' : List ℕ)

@@ -1,5 +1,5 @@
 -- Lists of rules by their numbers, and what is found in them.
-use Rattle.std.specs.Prelude.{◌≡◌, ◌<◌, ◌≤◌, ◌↔◌, ◌+◌, ◌&&◌, ℕ, Bool, true, Contains, IsTrue, Option, Some, is_none, slice_get, List, [], ◌∷◌, ◌++◌, map, find, if◌then◌else◌}
+use Rattle.std.specs.Prelude.{◌≡◌, ◌<◌, ◌≤◌, ◌↔◌, ◌+◌, ◌-◌, ◌&&◌, ℕ, Bool, true, Contains, IsTrue, Option, None, Some, is_none, option_and_then, slice_get, List, [], ◌∷◌, ◌++◌, map, find, if◌then◌else◌}
 use Rattle.std.specs.List.{list_any}
 
 -- a rule that passes a test is at a number, where rules are counted on from the first number
@@ -23,6 +23,16 @@ pub record IsListOf {R : Type 0} (test : R → Bool) (first : ℕ) (rules : List
 abbrev pub HaveAnswers : {R : Type 0} → List (R → Bool) → (R → Type 0) → List R → Type 0
 HaveAnswers {R} tests has_answer rules = (k : ℕ) (r : R) → slice_get rules k ≡ Some r
     → IsTrue (list_any (λ test. test r) tests) → has_answer r
+
+-- what is known of the rules in lists, by their places: whether each is met
+abbrev pub AreKnown : {R : Type 0} → List (R → Bool) → (R → Bool) → List R → List (Option Bool)
+    → Type 0
+AreKnown {R} tests met rules known = (k : ℕ) (r : R) (b : Bool) → slice_get rules k ≡ Some r
+    → IsTrue (list_any (λ test. test r) tests) → slice_get known k ≡ Some (Some b) → met r ≡ b
+
+-- it is not known whether the rule of a number is met
+abbrev pub IsOpen : (first : ℕ) → List (Option Bool) → ℕ → Type 0
+IsOpen first known n = option_and_then (λ met. met) (slice_get known (n - first)) ≡ None
 
 -- the first rule that is met and passes a test
 abbrev pub first_of : {R : Type 0} → (R → Bool) → (R → Bool) → List R → Option R

@@ -34,7 +34,7 @@ pub trait Query<R> {
 }
 
 /// A rule becomes the one that was found in some lists, a bit for each.
-fn settle<R: Copy>(found: &mut [Option<R>], mut lists: u32, rule: R)
+pub(crate) fn settle<R: Copy>(found: &mut [Option<R>], mut lists: u32, rule: R)
     ensures { found.new ≡ settled rule lists found.old }
 {
     for k in 0..found.len() {

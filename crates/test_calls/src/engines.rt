@@ -1,6 +1,6 @@
 //! An engine whose tally counts.
-ghost use Rattle.std.specs.Prelude.{◌≡◌, ◌==◌, ◌++◌, ◌∷◌, [], List, ℕ, Bool, true, Option, None, Some, Result, Ok, Err, option_map, string_bytes, length, refl, if◌then◌else◌};
-ghost use Rattle.std.proofs.Common.{rules};
+ghost use Rattle.std.specs.Prelude.{◌≡◌, ◌==◌, ◌++◌, ◌∷◌, [], List, ℕ, Bool, true, Option, None, Some, Result, Ok, Err, option_map, string_bytes, length, unwrap_or, refl, if◌then◌else◌};
+ghost use Rattle.std.proofs.Common.{ap, rules};
 ghost use Rattle.std.specs.List.{list_any};
 ghost use Rattle.std.specs.Option.{option_map_or};
 ghost use Rattle.std.specs.Str.{bytes_eq};
@@ -13,8 +13,8 @@ use nextest_engines::{
 use std::alloc::{AllocError, Global};
 use std::cell::Cell;
 
-/// Filters by name: a text matches the tests of that name and the binaries of that id, and the
-/// empty text all. A text with `!` is refused. It has memory for so many readings.
+/// Filters by name: a text matches the binary of that id and its tests, and the empty text all. A
+/// text with `!` is refused. It has memory for so many readings.
 #[derive(Drop)]
 pub struct Names {
     room: Cell<usize>,
@@ -112,7 +112,8 @@ impl Filters for Names {
 
     ghost match_all = { None };
 
-    ghost holds = { λ filter test _. option_map_or (λ name. bytes_eq name test.name) filter true };
+    ghost holds = { λ filter test _.
+        option_map_or (λ name. bytes_eq name test.binary.binary_id) filter true };
 
     ghost holds_binary = { λ filter binary _.
         Some (option_map_or (λ name. bytes_eq name binary.binary_id) filter true) };
@@ -154,7 +155,7 @@ impl Filters for Names {
         tally.record(rule, expr);
         match &expr.0 {
             None => true,
-            Some(name) => name.as_str() == query.test_name,
+            Some(name) => name.as_str() == query.binary_query.binary_id,
         }
     }
 
@@ -181,6 +182,8 @@ impl Filters for Names {
     ghost match_all_matches = { λ _ _. refl };
 
     ghost match_all_matches_binaries = { λ _ _. refl };
+
+    ghost binaries_speak = { λ filter test default b is. ap (λ known. unwrap_or known true) is };
 
     ghost default_filters_answer = { λ _ text filter read none binary default. Prim.search rules };
 }

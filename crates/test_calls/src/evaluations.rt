@@ -2,7 +2,7 @@
 //! an engine that counts.
 use crate::engines::{Anywhere, Counted, Counts, Names, RULES};
 use crate::loads::load_text;
-use crate::queries::{binary_of, test_of};
+use crate::queries::{binary_of, test_in};
 use crate::texts::add_number;
 use nextest_config::{
     BuildPlatforms, DefaultConfigWarnings, EvaluatableProfile, NextestConfig, NextestRunMode,
@@ -90,8 +90,7 @@ fn is_counted(counts: &Counts, first: usize, is_matched: bool) -> bool {
     counts.is_numbered
 }
 
-/// The name of a test or of a binary, how often the test is tried again, and whether a wrapper
-/// wraps it.
+/// The id of a binary, how often its tests are tried again, and whether a wrapper wraps them.
 type Asked = (&'static str, u32, bool);
 
 static ASKED: [Asked; 4] = [
@@ -113,7 +112,7 @@ fn is_wrapper(wrapper: Option<&WrapperScriptConfig>, is_wrapped: bool) -> bool {
 fn is_decided(profile: &CountedProfile<'_>, asked: &Asked) -> bool {
     let (name, retries, is_wrapped) = *asked;
     let mut tally = Counted::new();
-    let settings = profile.settings_for(NextestRunMode::Test, &test_of(name), &mut tally);
+    let settings = profile.settings_for(NextestRunMode::Test, &test_in(name), &mut tally);
     settings.retries().count() == retries
         && is_wrapper(settings.run_wrapper(), is_wrapped)
         && is_counted(&tally.counts, 0, name != "none")
@@ -125,7 +124,7 @@ fn is_traced(profile: &CountedProfile<'_>, asked: &Asked) -> bool {
     let (name, retries, is_wrapped) = *asked;
     let mut tally = Counted::new();
     let mode = NextestRunMode::Benchmark;
-    let settings = profile.settings_with_source_for(mode, &test_of(name), &mut tally);
+    let settings = profile.settings_with_source_for(mode, &test_in(name), &mut tally);
     let source = settings.source_of(Setting::RunWrapper);
     settings.retries().count() == retries
         && matches!(source, Some(SettingSource::Script(_))) == is_wrapped

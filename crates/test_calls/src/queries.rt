@@ -12,6 +12,11 @@ pub fn binary_of(binary_id: &str) -> BinaryQuery<'_> {
     }
 }
 
+/// The query for the test `t` of a binary of this id.
+pub fn test_in(binary_id: &str) -> TestQuery<'_> {
+    TestQuery::of(binary_id, "t")
+}
+
 /// The query for a test of this name, of the binary `b`.
 pub fn test_of(test_name: &str) -> TestQuery<'_> {
     TestQuery::of("b", test_name)

@@ -5,7 +5,7 @@ ghost use Rattle.nextest_engines.specs.Engines.{refusal_message, IfFilterRefused
 ghost use Rattle.toy_engines.specs.FilterValues.{Filter, match_all as nothing_asked, term_of, lists_of, filter_of, subject_of};
 ghost use Rattle.toy_engines.specs.Filters as messages;
 ghost use Rattle.toy_engines.specs.Filters.{filter_read, read_for, filter_matches, filter_holds_binary, filter_leaves, term_leaves, value_beside as value_beside_default, asks_default, is_default_term as asks_for_default};
-ghost use Rattle.toy_engines.specs.Decided.{default_filter_decides};
+ghost use Rattle.toy_engines.specs.Decided.{default_filter_decides, filters_speak};
 
 use crate::expr::{Leaf, Subject, Term, ToyExpr};
 use crate::parse::{Reading, read_filter};
@@ -243,6 +243,8 @@ impl Filters for ToyFilters {
     ghost match_all_matches = { λ _ _. refl };
 
     ghost match_all_matches_binaries = { λ _ _. refl };
+
+    ghost binaries_speak = { filters_speak };
 
     ghost default_filters_answer = { λ _. default_filter_decides };
 }
