@@ -27,7 +27,7 @@ fn lower<'l>(
 }
 
 /// The path of the file of a layer, if it is one.
-fn file_at<'l>(layers: &'l [Layer<'_>], place: usize) -> Option<&'l str> {
+pub fn file_at<'l>(layers: &'l [Layer<'_>], place: usize) -> Option<&'l str> {
     match &layers.get(place)?.source.path {
         Some(path) => Some(path.as_str()),
         None => None,

@@ -210,11 +210,14 @@ fn value_finding(
 {
     let alloc = refused.alloc;
     let wrong = wrong_element(alloc, refused.source, cause, path)?;
+    let expected = wanted(alloc, refused.source, cause, path)?;
+    let help = advice(alloc, refused.source, cause, path)?;
+    let notes = element_notes(alloc, cause, path)?;
     let code = element_code(cause);
     let mut found = refused.part_at(code, path, wrong_part(cause), wrong.as_str())?;
-    found.expected = wanted(alloc, refused.source, cause, path)?;
-    found.help = advice(alloc, refused.source, cause, path)?;
-    found.notes = element_notes(alloc, cause, path)?;
+    found.expected = expected;
+    found.help = help;
+    found.notes = notes;
     Ok(found)
 }
 
@@ -290,10 +293,11 @@ fn lack_finding(
     let wrong = lack_text(refused.alloc, key, table, stray)?;
     let (help, help_place) = lack_help(refused, key, table, stray.is_some())?;
     let note = keys_note(refused.alloc, table)?;
+    let notes = below_notes(refused.alloc, refused.source, table)?;
     let mut found = refused.part_at(Code::MissingKey, at, part, wrong.as_str())?;
     found.help = help;
     found.help_place = help_place;
-    found.notes = below_notes(refused.alloc, refused.source, table)?;
+    found.notes = notes;
     Ok(with_note(found, note)?)
 }
 

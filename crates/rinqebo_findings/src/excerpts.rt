@@ -69,7 +69,7 @@ fn character_at(column: u64) -> usize {
 }
 
 /// Returns how many characters of a line are before the first that is not white space.
-fn indent_of(line: &str) -> usize {
+pub fn indent_of(line: &str) -> usize {
     line.chars().take_while(|c| c.is_whitespace()).count()
 }
 

@@ -12,7 +12,7 @@ use nextest_places::{Step, offsets_of};
 use rinqebo_report::{
     CharSpan, Code, FilePlace, Finding, Position, Range as ReportRange, RefusedExpression,
 };
-use rinqebo_request::{host_text, profile_table, rule_table, target_text, text_at};
+use rinqebo_request::{SpanPart, host_text, profile_table, rule_table, target_text, text_at};
 use std::alloc::{AllocError, Global};
 use std::ops::Range;
 
@@ -190,10 +190,11 @@ fn labelled_finding(
     path: &[Step<'_>],
     stopped: Stopped<'_>,
 ) -> Result<Finding, AllocError> {
+    let help = owned(refused.alloc, filter_help(stopped.label))?;
     let span = char_span(stopped.text, stopped.start, stopped.end);
     let found = refused.at(code, path, stopped.label)?;
     let mut found = with_part(refused, found, path, Some(span))?;
-    found.help = owned(refused.alloc, filter_help(stopped.label))?;
+    found.help = help;
     Ok(found)
 }
 
@@ -207,7 +208,8 @@ fn add_text(
 ) -> Result<(), AllocError> {
     let alloc = refused.alloc;
     let Some(span) = &refusal.span else {
-        return refused.add_at(code, path, refusal.message.as_str(), None);
+        let wrong = refusal.message.as_str();
+        return refused.add_fault(code, path, SpanPart::Value, wrong, None, None);
     };
     let stopped = Stopped {
         text,
@@ -215,11 +217,13 @@ fn add_text(
         end: span.bytes.end,
         label: span.label.as_str(),
     };
-    let mut found = match text_words(alloc, code, stopped)? {
-        Some(worded) => worded_finding(refused, code, path, text, worded)?,
-        None => labelled_finding(refused, code, path, stopped)?,
+    let shown = expression(alloc, text, &span.bytes)?;
+    let found = match text_words(alloc, code, stopped)? {
+        Some(worded) => worded_finding(refused, code, path, text, worded),
+        None => labelled_finding(refused, code, path, stopped),
     };
-    found.expression = Some(expression(alloc, text, &span.bytes)?);
+    let mut found = found?;
+    found.expression = Some(shown);
     refused.add_finding(found)
 }
 

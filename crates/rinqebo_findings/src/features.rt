@@ -3,6 +3,7 @@ use crate::refused::Refused;
 use nextest_config::{ConfigExperimental, Tree};
 use nextest_places::Step;
 use rinqebo_report::Code;
+use rinqebo_request::SpanPart;
 use std::alloc::{AllocError, Global};
 
 /// The value at a key of a tree, if there is one.
@@ -81,6 +82,27 @@ fn feature_help(
     format!(in alloc; "write `experimental = [{list}]`, or pass `--experimental {feature}`")
 }
 
+/// Adds that a feature is not enabled, of several that are missing.
+fn add_feature(
+    refused: &mut Refused<'_, '_>,
+    name: &str,
+    missing: &[ConfigExperimental],
+) -> Result<(), AllocError> {
+    let alloc = refused.alloc;
+    let tree = refused.source.tree();
+    let path = feature_path(alloc, tree, name)?;
+    let help = feature_help(alloc, tree, name, missing)?;
+    let wrong = format!(in alloc; "the feature `{name}` is not enabled")?;
+    refused.add_fault(
+        Code::FeatureOff,
+        &path,
+        SpanPart::Key,
+        wrong.as_str(),
+        None,
+        Some(help),
+    )
+}
+
 /// Adds the features that are not enabled.
 pub fn add_features(
     refused: &mut Refused<'_, '_>,
@@ -89,12 +111,7 @@ pub fn add_features(
     let alloc = refused.alloc;
     for feature in features {
         let name = feature.to_string(alloc)?;
-        let name = name.as_str();
-        let tree = refused.source.tree();
-        let path = feature_path(alloc, tree, name)?;
-        let wrong = format!(in alloc; "the feature `{name}` is not enabled")?;
-        let help = feature_help(alloc, tree, name, features)?;
-        refused.add_key_at(Code::FeatureOff, &path, wrong.as_str(), Some(help))?;
+        add_feature(refused, name.as_str(), features)?;
     }
     Ok(())
 }

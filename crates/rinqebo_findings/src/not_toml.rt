@@ -1,9 +1,10 @@
 //! Findings of texts that are not TOML.
-use crate::excerpts::{Mark, lines_of};
+use crate::excerpts::{Mark, indent_of, lines_of};
+use crate::findings::with_note;
 use crate::meant::{BadLine, LineWords, first_definition, line_words};
 use crate::refused::Refused;
 use nextest_places::TextPosition;
-use rinqebo_report::{Code, FileLines, Finding, Position, Range, Sign};
+use rinqebo_report::{Code, FileLines, Finding, Position, Range, Sign, SourceLine};
 use std::alloc::{AllocError, Global};
 
 /// A text on one line.
@@ -39,32 +40,35 @@ fn range_from(start: Position, len: usize) -> Range {
     }
 }
 
+/// A position as users count it, of one that is counted from 0.
+fn start_of(position: TextPosition) -> Position {
+    Position {
+        line: from_one(position.line),
+        column: from_one(position.column),
+    }
+}
+
 /// The range of a line, from 0, without the blanks around it.
 fn line_range(line: &str, place: usize) -> Range {
-    let indent = line.chars().take_while(|c| c.is_whitespace()).count();
     let start = Position {
         line: from_one(place),
-        column: from_one(indent),
+        column: from_one(indent_of(line)),
     };
     range_from(start, line.trim().chars().count())
 }
 
-/// Returns a finding about a line that defines what an earlier one defines, with that one.
-fn with_first(
+/// The lines of a text that show a range and the line, from 0, that first defines what it does, if
+/// one does.
+fn lines_with_first(
     alloc: Global,
-    found: Finding,
     text: &str,
     fault: Range,
-    first: usize,
-) -> Result<Finding, AllocError> {
-    let Some(line) = line_at(Some(text), first) else {
-        return Ok(found);
+    first: Option<usize>,
+) -> Result<Vec<SourceLine>, AllocError> {
+    let Some(first) = first else {
+        return Ok(Vec::new(alloc));
     };
-    let mut found = found;
-    let number = from_one(first);
-    found
-        .notes
-        .push(format!(in alloc; "it is first defined in line {number}")?)?;
+    let line = line_at(Some(text), first).unwrap_or("");
     let marks = [
         Mark {
             sign: Sign::Related,
@@ -75,80 +79,107 @@ fn with_first(
             range: fault,
         },
     ];
-    found.lines = lines_of(alloc, text, &marks)?;
-    Ok(found)
+    lines_of(alloc, text, &marks)
 }
 
-/// Returns a finding about a line of a text with what is wrong there, in words.
-fn with_line(
-    alloc: Global,
-    found: Finding,
+/// The note that names the line, from 0, that first defines what another one does.
+fn first_note(alloc: Global, first: Option<usize>) -> Result<Option<String>, AllocError> {
+    match first {
+        Some(first) => {
+            let number = from_one(first);
+            Ok(Some(format!(in alloc; "it is first defined in line {number}")?))
+        }
+        None => Ok(None),
+    }
+}
+
+/// The line, from 0, that first defines what the line of a text at a position defines, if one does.
+fn earlier_definition(text: &str, position: TextPosition, bad: BadLine<'_>) -> Option<usize> {
+    if !bad.is_second() {
+        return None;
+    }
+    first_definition(text, position.line, bad.defined())
+}
+
+/// Returns a finding about some characters from a position on, with their line, range and column.
+fn placed(found: Finding, start: Position, len: usize) -> Finding {
+    let mut found = found;
+    if let Some(place) = &mut found.place {
+        place.lines = Some(FileLines {
+            first: start.line,
+            last: start.line,
+        });
+        place.range = Some(range_from(start, len));
+        found.column = Some(start.column);
+    }
+    found
+}
+
+/// Adds that a line of a text is not TOML, with what is wrong there, in words.
+fn add_bad_line(
+    refused: &mut Refused<'_, '_>,
     text: &str,
     position: TextPosition,
-    reason: &str,
-) -> Result<Finding, AllocError> {
-    let Some(line) = line_at(Some(text), position.line) else {
-        return Ok(found);
-    };
-    let bad = BadLine {
-        line,
-        column: position.column,
-        reason,
-    };
+    bad: BadLine<'_>,
+) -> Result<(), AllocError> {
+    let alloc = refused.alloc;
     let LineWords {
         len,
         message,
         expected,
         help,
     } = line_words(alloc, bad)?;
-    let start = Position {
-        line: from_one(position.line),
-        column: from_one(position.column),
-    };
-    let range = range_from(start, len);
-    let mut found = found;
-    found.message = on_one_line(alloc, message.as_str())?;
+    let message = on_one_line(alloc, message.as_str())?;
+    let start = start_of(position);
+    let first = earlier_definition(text, position, bad);
+    let note = first_note(alloc, first)?;
+    let lines = lines_with_first(alloc, text, range_from(start, len), first)?;
+    let mut found = placed(refused.finding(Code::NotToml, message)?, start, len);
     found.expected = expected;
     found.help = help;
-    if let Some(place) = &mut found.place {
-        place.range = Some(range);
+    found.lines = lines;
+    let found = with_note(found, note)?;
+    refused.add_finding(found)
+}
+
+/// Adds that a text is not TOML, for a reason, and where, if that is known.
+fn add_reason(
+    refused: &mut Refused<'_, '_>,
+    position: Option<TextPosition>,
+    reason: &str,
+) -> Result<(), AllocError> {
+    let message = on_one_line(refused.alloc, reason)?;
+    let found = refused.finding(Code::NotToml, message)?;
+    match position {
+        Some(position) => refused.add_finding(placed(found, start_of(position), 1)),
+        None => refused.add_finding(found),
     }
-    if !bad.is_second() {
-        return Ok(found);
-    }
-    match first_definition(text, position.line, bad.defined()) {
-        Some(first) => with_first(alloc, found, text, range, first),
-        None => Ok(found),
-    }
+}
+
+/// Adds that a text is not TOML, for a reason, with what is wrong in its line, if that is known.
+fn add_at(
+    refused: &mut Refused<'_, '_>,
+    position: Option<TextPosition>,
+    reason: &str,
+) -> Result<(), AllocError> {
+    let (Some(text), Some(place)) = (refused.text, position) else {
+        return add_reason(refused, position, reason);
+    };
+    let Some(line) = line_at(Some(text), place.line) else {
+        return add_reason(refused, position, reason);
+    };
+    let bad = BadLine {
+        line,
+        column: place.column,
+        reason,
+    };
+    add_bad_line(refused, text, place, bad)
 }
 
 /// Adds that a text is not a document: where it is at fault, and why.
 pub fn add_no_document(refused: &mut Refused<'_, '_>, message: &str) -> Result<(), AllocError> {
-    let alloc = refused.alloc;
-    let Some(fault) = refused.source.fault() else {
-        let found = refused.finding(Code::NotToml, on_one_line(alloc, message)?)?;
-        return refused.add_finding(found);
-    };
-    let reason = fault.reason.as_str();
-    let mut found = refused.finding(Code::NotToml, on_one_line(alloc, reason)?)?;
-    let Some(position) = fault.position else {
-        return refused.add_finding(found);
-    };
-    let start = Position {
-        line: from_one(position.line),
-        column: from_one(position.column),
-    };
-    if let Some(place) = &mut found.place {
-        place.lines = Some(FileLines {
-            first: start.line,
-            last: start.line,
-        });
-        place.range = Some(range_from(start, 1));
-        found.column = Some(start.column);
+    match refused.source.fault() {
+        Some(fault) => add_at(refused, fault.position, fault.reason.as_str()),
+        None => add_reason(refused, None, message),
     }
-    let found = match refused.text {
-        Some(text) => with_line(alloc, found, text, position, reason)?,
-        None => found,
-    };
-    refused.add_finding(found)
 }

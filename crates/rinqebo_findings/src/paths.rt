@@ -54,6 +54,11 @@ pub fn path_with<'p>(
     Ok(path)
 }
 
+/// The path of a key of a profile.
+pub fn profile_path<'p>(profile: &'p str, key: &'p str) -> [Step<'p>; 3] {
+    [Step::Key("profile"), Step::Key(profile), Step::Key(key)]
+}
+
 /// The keys of a text that no file has: parted at its dots.
 fn parted<'s>(alloc: Global, text: &'s str) -> Result<Vec<Step<'s>>, AllocError> {
     let mut steps = Vec::new(alloc);

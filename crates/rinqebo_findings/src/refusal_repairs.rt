@@ -3,7 +3,7 @@ use crate::cycles::parent_path;
 use crate::edits::Edits;
 use crate::given::profiles_of;
 use crate::namings::naming_mark;
-use crate::paths::path_with;
+use crate::paths::{path_with, profile_path};
 use crate::refusals::section_path;
 use nextest_config::{
     ConfigCompileError, ConfigCompileErrorKind, ConfigCompileSection, CustomTestGroup,
@@ -231,12 +231,7 @@ pub fn leave_out_groups(
 
 /// Leaves out the script rules of a profile.
 fn leave_out_rules(edits: &mut Edits, place: usize, profile: &str) -> Result<(), AllocError> {
-    let path = [
-        Step::Key("profile"),
-        Step::Key(profile),
-        Step::Key("scripts"),
-    ];
-    edits.remove(place, &path)
+    edits.remove(place, &profile_path(profile, "scripts"))
 }
 
 /// Leaves out the script rules of the profiles in which a rule names a script that it may not.

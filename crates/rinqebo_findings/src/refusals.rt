@@ -17,7 +17,7 @@ use nextest_config::{
 use nextest_places::Step;
 use rinqebo_load::Session;
 use rinqebo_report::{Code, Finding};
-use rinqebo_request::{Layer, place_at};
+use rinqebo_request::{Layer, SpanPart, place_at};
 use std::alloc::{AllocError, Global};
 
 /// The result of reading a file.
@@ -39,21 +39,15 @@ pub fn section_path<'p>(
     profile: &'p str,
     section: ConfigCompileSection,
 ) -> Result<Vec<Step<'p>>, AllocError> {
-    let mut path = Vec::new(alloc);
-    path.push(Step::Key("profile"))?;
-    path.push(Step::Key(profile))?;
-    match section {
-        ConfigCompileSection::DefaultFilter => path.push(Step::Key("default-filter"))?,
-        ConfigCompileSection::Override(index) => {
-            path.push(Step::Key("overrides"))?;
-            path.push(Step::Position(index))?;
+    let (root, name) = (Step::Key("profile"), Step::Key(profile));
+    let (list, index) = match section {
+        ConfigCompileSection::DefaultFilter => {
+            return Vec::from_slice(alloc, &[root, name, Step::Key("default-filter")]);
         }
-        ConfigCompileSection::Script(index) => {
-            path.push(Step::Key("scripts"))?;
-            path.push(Step::Position(index))?;
-        }
-    }
-    Ok(path)
+        ConfigCompileSection::Override(index) => ("overrides", index),
+        ConfigCompileSection::Script(index) => ("scripts", index),
+    };
+    Vec::from_slice(alloc, &[root, name, Step::Key(list), Step::Position(index)])
 }
 
 /// The code of what is wrong with a whole section.
@@ -80,7 +74,8 @@ fn add_compile(
     }
     let path = section_path(alloc, profile, section)?;
     let wrong = error.kind.to_string(alloc)?;
-    refused.add_at(section_code(&error.kind), &path, wrong.as_str(), None)
+    let code = section_code(&error.kind);
+    refused.add_fault(code, &path, SpanPart::Value, wrong.as_str(), None, None)
 }
 
 /// A second file of a tool.
@@ -97,10 +92,14 @@ fn add_second_file(
 fn add_both_keys(refused: &mut Refused<'_, '_>) -> Result<(), AllocError> {
     let alloc = refused.alloc;
     let help = String::from_str(alloc, "move the scripts of `script` to `scripts.setup`")?;
-    refused.add_key_at(
+    let wrong = "there are `scripts` and its old form, `script`";
+    let path = [Step::Key("scripts")];
+    refused.add_fault(
         Code::TwoScriptTables,
-        &[Step::Key("scripts")],
-        "there are `scripts` and its old form, `script`",
+        &path,
+        SpanPart::Key,
+        wrong,
+        None,
         Some(help),
     )
 }

@@ -126,7 +126,10 @@ impl<'s, 'g> Search<'s, 'g> {
 
     /// Adds that a source does not reach the checks behind those that need no other source.
     fn add_unreached(&mut self, place: usize) -> Result<(), AllocError> {
-        let reached = self.tree_at(place).map(|_| Check::Elements);
+        let reached = match self.tree_at(place) {
+            Some(_) => Some(Check::Elements),
+            None => None,
+        };
         let checks = names_after(self.alloc, reached)?;
         self.unreached.push(Unreached {
             source: place,
