@@ -1,9 +1,8 @@
 //! What a lower file makes of a table that lacks a key.
 use crate::findings::SourceAt;
-use crate::given::{kind_words, tree_at};
-use crate::tables::called;
 use nextest_config::Tree;
 use nextest_places::Step;
+use rinqebo_faults::{called, kind_words, tree_at};
 use rinqebo_request::{Layer, SpanPart, part_place};
 use std::alloc::{AllocError, Global};
 

@@ -1,16 +1,9 @@
 //! The findings of profiles that inherit in a cycle.
 use crate::below::file_at;
-use crate::excerpts::{Mark, lines_of};
-use crate::paths::profile_path;
 use crate::refused::Refused;
-use nextest_places::Step;
+use rinqebo_faults::{Mark, lines_of, parent_path};
 use rinqebo_report::{Code, FileLines, FilePlace, Sign, SourceLine};
 use std::alloc::{AllocError, Global};
-
-/// The path of the parent that a profile names.
-pub fn parent_path<'p>(profile: &'p str) -> [Step<'p>; 3] {
-    profile_path(profile, "inherits")
-}
 
 /// The place at which a profile names its parent.
 fn parent_place(refused: &Refused<'_, '_>, profile: &str) -> Option<FilePlace> {

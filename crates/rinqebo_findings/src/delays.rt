@@ -4,12 +4,11 @@ ghost use Rattle.rinqebo_findings.specs.Placed.{file_and_lines};
 ghost use Rattle.rinqebo_findings.specs.Subjects.{IsDelaysFinding, IsErrorAt, subject};
 
 use crate::below::file_at;
-use crate::excerpts::{Mark, lines_of};
 use crate::findings::with_note;
 use crate::given::value_at;
-use crate::paths::path_with;
 use crate::refused::Refused;
 use nextest_places::Step;
+use rinqebo_faults::{Mark, lines_of, path_with};
 use rinqebo_report::{Code, FilePlace, Finding, Range, Sign, SourceLine};
 use rinqebo_request::{SpanPart, part_place};
 use std::alloc::{AllocError, Global};

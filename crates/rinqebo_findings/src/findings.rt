@@ -1,16 +1,17 @@
 //! Findings: how they are made, and those of warnings.
 ghost use Rattle.std.specs.Prelude.{◌≡◌, IfOk, Some, None};
 ghost use Rattle.rinqebo_report.specs.Codes.Codes.{code_word};
+ghost use Rattle.rinqebo_faults.specs.Paths.{shown_path};
 ghost use Rattle.rinqebo_findings.specs.Placed.{IsPlaceIn};
-ghost use Rattle.rinqebo_findings.specs.Subjects.{shown_path, subject};
+ghost use Rattle.rinqebo_findings.specs.Subjects.{subject};
 
 use crate::given::value_at;
-use crate::headers::header_text;
-use crate::paths::{path_text, profile_path, spelled_path};
-use crate::refused_values::Fault;
-use crate::tables::{keys_note, unknown_key_help, unknown_key_text};
+use crate::paths::spelled_path;
 use nextest_config::{ConfigSource, ConfigWarning, DefaultConfigWarnings, Tree};
 use nextest_places::{PathSpans, Step};
+use rinqebo_faults::{
+    Fault, header_text, keys_note, path_text, profile_path, unknown_key_help, unknown_key_text,
+};
 use rinqebo_report::{Code, FilePlace, Finding, Level};
 use rinqebo_request::{Layer, NoDocument, SpanPart, part_place, place_of};
 use std::alloc::{AllocError, Global};

@@ -1,7 +1,8 @@
 //! Findings of groups and scripts that a file may not define.
 use crate::refused::Refused;
-use nextest_config::{CustomTestGroup, ScriptId, Tree};
+use nextest_config::{CustomTestGroup, ScriptId};
 use nextest_places::Step;
+use rinqebo_faults::script_path;
 use rinqebo_report::{Code, SourceKind};
 use std::alloc::{AllocError, Global};
 use std::collections::BTreeSet;
@@ -80,43 +81,6 @@ pub fn add_groups(
         add_foreign(refused, Code::ForeignGroup, &path, "group", name)?;
     }
     Ok(())
-}
-
-/// Whether scripts of a kind have one of a name.
-fn has_script(tree: &Tree, kind: &str, name: &str) -> bool {
-    let Some(scripts) = tree.get("scripts") else {
-        return false;
-    };
-    match scripts.get(kind) {
-        Some(scripts) => scripts.get(name).is_some(),
-        None => false,
-    }
-}
-
-/// The kind of the scripts of a file among which one has a name, unless it is one of the old table.
-fn script_kind(tree: Option<&Tree>, name: &str) -> Option<&'static str> {
-    match tree {
-        Some(tree) if has_script(tree, "setup", name) => Some("setup"),
-        Some(tree) if has_script(tree, "wrapper", name) => Some("wrapper"),
-        _ => None,
-    }
-}
-
-/// The path of the script of a name in a file.
-fn script_path<'p>(
-    alloc: Global,
-    tree: Option<&Tree>,
-    name: &'p str,
-) -> Result<Vec<Step<'p>>, AllocError> {
-    match script_kind(tree, name) {
-        Some(kind) => {
-            Vec::from_slice(
-                alloc,
-                &[Step::Key("scripts"), Step::Key(kind), Step::Key(name)],
-            )
-        }
-        None => Vec::from_slice(alloc, &[Step::Key("script"), Step::Key(name)]),
-    }
 }
 
 /// Adds that scripts of both kinds have one name.

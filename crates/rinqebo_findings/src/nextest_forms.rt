@@ -1,15 +1,13 @@
 //! What nextest refuses and a load does not look at: the version that a file needs, the features
 //! that it switches on, archives, and how running tests are ended.
 use crate::findings::{SourceAt, UNKNOWN_KEY, key_warning};
-use crate::given::kind_words;
-use crate::hints::near_hint;
-use crate::left_out::LeftOut;
-use crate::paths::{path_with, profile_path};
 use crate::refused::Refused;
-use crate::tables::{called, known_note};
-use crate::words::{is_among, is_number, quoted};
 use nextest_config::Tree;
 use nextest_places::Step;
+use rinqebo_faults::{
+    LeftOut, called, is_among, is_number, kind_words, known_note, near_hint, path_with,
+    profile_path, quoted,
+};
 use rinqebo_report::{Code, Finding, HelpPlace};
 use rinqebo_request::{Layer, SpanPart};
 use std::alloc::{AllocError, Global};

@@ -1,10 +1,8 @@
 //! Findings of parents that profiles may not have.
-use crate::cycles::{add_cycle, parent_path};
-use crate::given::profiles_of;
-use crate::hints::near_hint;
+use crate::cycles::add_cycle;
 use crate::refused::Refused;
-use crate::words::quoted;
 use nextest_config::InheritsError;
+use rinqebo_faults::{near_hint, parent_path, profiles_of, quoted};
 use rinqebo_report::Code;
 use rinqebo_request::Layer;
 use std::alloc::{AllocError, Global};

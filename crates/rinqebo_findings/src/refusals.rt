@@ -5,7 +5,6 @@ use crate::expressions::add_refused_texts;
 use crate::features::add_features;
 use crate::findings::SourceAt;
 use crate::foreign::{ScriptFault, add_groups, add_scripts};
-use crate::left_out::LeftOut;
 use crate::not_toml::add_no_document;
 use crate::parents::add_parents;
 use crate::refused::Refused;
@@ -15,6 +14,7 @@ use nextest_config::{
     ConfigParseErrorKind, ConfigPath, IdentifierOwner, ReadOutcome, ToolName,
 };
 use nextest_places::Step;
+use rinqebo_faults::{LeftOut, section_path};
 use rinqebo_load::Session;
 use rinqebo_report::{Code, Finding};
 use rinqebo_request::{Layer, SpanPart, place_at};
@@ -31,23 +31,6 @@ fn add_outcome(refused: &mut Refused<'_, '_>, outcome: &ReadOutcome) -> Result<(
         ),
         ReadOutcome::Failed(message) => refused.add_whole(Code::UnreadableFile, message.as_str()),
     }
-}
-
-/// The path of a section of a profile.
-pub fn section_path<'p>(
-    alloc: Global,
-    profile: &'p str,
-    section: ConfigCompileSection,
-) -> Result<Vec<Step<'p>>, AllocError> {
-    let (root, name) = (Step::Key("profile"), Step::Key(profile));
-    let (list, index) = match section {
-        ConfigCompileSection::DefaultFilter => {
-            return Vec::from_slice(alloc, &[root, name, Step::Key("default-filter")]);
-        }
-        ConfigCompileSection::Override(index) => ("overrides", index),
-        ConfigCompileSection::Script(index) => ("scripts", index),
-    };
-    Vec::from_slice(alloc, &[root, name, Step::Key(list), Step::Position(index)])
 }
 
 /// The code of what is wrong with a whole section.

@@ -5,9 +5,8 @@ ghost use Rattle.rinqebo_findings.specs.Placed.{IsPlaceIn, IsPlacedAt};
 ghost use Rattle.rinqebo_findings.specs.Subjects.{error_at, subject};
 
 use crate::findings::{Label, SourceAt, finding, finding_at, with_note};
-use crate::left_out::LeftOut;
-use crate::words::owned;
 use nextest_places::Step;
+use rinqebo_faults::{LeftOut, owned};
 use rinqebo_report::{Code, FilePlace, Finding, Level};
 use rinqebo_request::{Layer, SpanPart, part_place};
 use std::alloc::{AllocError, Global};

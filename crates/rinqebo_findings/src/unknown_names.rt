@@ -1,12 +1,10 @@
 //! Findings of rules that name groups and scripts which they may not.
-use crate::hints::{names_of, near_hint};
-use crate::namings::Namings;
 use crate::refused::Refused;
-use crate::words::{is_among, quoted};
 use nextest_config::{
     ProfileScriptErrors, ProfileWrongConfigScriptTypeError, UnknownTestGroupError,
 };
 use nextest_places::Step;
+use rinqebo_faults::{Namings, is_among, names_of, near_hint, quoted};
 use rinqebo_report::Code;
 use std::alloc::{AllocError, Global};
 use std::collections::BTreeSet;

@@ -460,3 +460,13 @@ pub fn filter_words(alloc: Global, stopped: Stopped<'_>) -> Result<Option<Worded
     };
     Ok(Some(worded?))
 }
+
+/// What to do about a refused filter that needs more than its text.
+pub fn filter_help(label: &str) -> Option<&'static str> {
+    if label == FaultKind::NoPackageGraph.label() {
+        return Some(
+            "pass `--metadata F`, where F has the output of `cargo metadata --format-version 1`",
+        );
+    }
+    None
+}

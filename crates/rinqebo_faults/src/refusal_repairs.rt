@@ -1,10 +1,8 @@
 //! What files are read without where a later check refuses them.
-use crate::cycles::parent_path;
 use crate::edits::Edits;
 use crate::given::profiles_of;
 use crate::namings::naming_mark;
-use crate::paths::{path_with, profile_path};
-use crate::refusals::section_path;
+use crate::paths::{parent_path, path_with, profile_path, section_path};
 use nextest_config::{
     ConfigCompileError, ConfigCompileErrorKind, ConfigCompileSection, CustomTestGroup,
     InheritsError, ProfileScriptErrors, ScriptId, Tree, UnknownTestGroupError,
