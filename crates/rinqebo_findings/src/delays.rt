@@ -11,7 +11,7 @@ use nextest_places::Step;
 use rinqebo_faults::{Mark, lines_of, path_with};
 use rinqebo_report::{Code, FilePlace, Finding, Range, Sign, SourceLine};
 use rinqebo_request::{SpanPart, part_place};
-use std::alloc::{AllocError, Global};
+use std::alloc::AllocError;
 
 /// The range of a key and its value, in the source at a position.
 fn entry_range(refused: &Refused<'_, '_>, source: usize, path: &[Step<'_>]) -> Option<Range> {

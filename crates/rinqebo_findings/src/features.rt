@@ -4,7 +4,7 @@ use nextest_config::ConfigExperimental;
 use rinqebo_faults::{feature_help, feature_path};
 use rinqebo_report::Code;
 use rinqebo_request::SpanPart;
-use std::alloc::{AllocError, Global};
+use std::alloc::AllocError;
 
 /// Adds that a feature is not enabled, of several that are missing.
 fn add_feature(

@@ -7,7 +7,7 @@ use rinqebo_faults::{
     on_one_line, range_from, start_of,
 };
 use rinqebo_report::{Code, FileLines, Finding, Position};
-use std::alloc::{AllocError, Global};
+use std::alloc::AllocError;
 
 /// Returns a finding about some characters from a position on, with their line, range and column.
 fn placed(found: Finding, start: Position, len: usize) -> Finding {

@@ -10,8 +10,8 @@ use crate::parents::add_parents;
 use crate::refused::Refused;
 use crate::unknown_names::{add_script_errors, add_unknown_groups};
 use nextest_config::{
-    ConfigCompileError, ConfigCompileErrorKind, ConfigCompileSection, ConfigParseError,
-    ConfigParseErrorKind, ConfigPath, IdentifierOwner, ReadOutcome, ToolName,
+    ConfigCompileError, ConfigCompileErrorKind, ConfigParseError, ConfigParseErrorKind, ConfigPath,
+    IdentifierOwner, ReadOutcome, ToolName,
 };
 use nextest_places::Step;
 use rinqebo_faults::{LeftOut, section_path};
