@@ -14,7 +14,6 @@ mod element_repairs;
 mod element_words;
 mod expected;
 mod feature_words;
-mod filter_words;
 mod given;
 mod headers;
 mod hints;
@@ -24,9 +23,10 @@ mod meant;
 mod namings;
 mod order;
 mod paths;
-mod platform_words;
 mod positions;
 mod refusal_repairs;
+mod refused_filters;
+mod refused_platforms;
 mod refused_values;
 mod regex_words;
 mod shapes;
@@ -44,7 +44,6 @@ pub use edits::{Edits, mark_below, mark_of};
 pub use element_repairs::{leave_out_element, leave_out_setting};
 pub use element_words::{advice, element_notes, lack_text, wanted, wrong_element};
 pub use feature_words::{feature_help, feature_path};
-pub use filter_words::{filter_help, filter_words};
 pub use given::{kind_words, profiles_of, tree_at};
 pub use headers::header_text;
 pub use hints::{names_of, near_hint};
@@ -56,12 +55,13 @@ pub use order::in_order;
 pub use paths::{
     parent_path, parted, path_text, path_with, profile_path, script_path, section_path, spelled_in,
 };
-pub use platform_words::platform_words;
 pub use positions::{char_span, expression, range_in};
 pub use refusal_repairs::{
     leave_out_foreign_groups, leave_out_groups, leave_out_old_scripts, leave_out_parents,
     leave_out_script_rules, leave_out_scripts, leave_out_sections,
 };
+pub use refused_filters::{filter_help, filter_words};
+pub use refused_platforms::platform_words;
 pub use refused_values::Fault;
 pub use tables::{
     called, keys_note, known_note, script_header, stray_key, unknown_key_help, unknown_key_text,
