@@ -60,6 +60,16 @@ const KINDS: [FaultKind; 16] = [
     FaultKind::ExpectedEndOfExpression,
 ];
 
+/// What is wrong with a filter, by how a reader words it.
+fn kind_of(label: &str) -> Option<FaultKind> {
+    for kind in &KINDS {
+        if kind.label() == label {
+            return Some(*kind);
+        }
+    }
+    None
+}
+
 /// What follows the blanks of a filter: spaces and ends of lines.
 fn behind_blanks(text: &str) -> &str {
     for (at, c) in text.char_indices() {
@@ -124,6 +134,14 @@ fn predicate_meant(alloc: Global, name: &str) -> Result<Option<String>, AllocErr
     }
 }
 
+/// What to do about a name that is not a predicate: it may be that of a test.
+fn name_help(alloc: Global, name: &str, behind: &str) -> Result<Option<String>, AllocError> {
+    if behind_blanks(behind).starts_with('(') {
+        return predicate_meant(alloc, name);
+    }
+    Ok(Some(format!(in alloc; "write `test({name})`")?))
+}
+
 /// A name is not a predicate: it may be that of a test.
 fn no_predicate(
     alloc: Global,
@@ -131,12 +149,8 @@ fn no_predicate(
     behind: &str,
     place: (usize, usize),
 ) -> Result<Worded, AllocError> {
+    let help = name_help(alloc, name, behind)?;
     let message = format!(in alloc; "`{name}` is not a predicate")?;
-    let help = if behind_blanks(behind).starts_with('(') {
-        predicate_meant(alloc, name)?
-    } else {
-        Some(format!(in alloc; "write `test({name})`")?)
-    };
     Ok(Worded::of(alloc, place, message, A_PREDICATE)?.advised(help))
 }
 
@@ -206,33 +220,49 @@ fn compared(alloc: Global, predicate: &str, rest: &str) -> Result<Option<String>
     Ok(Some(format!(in alloc; "write `{predicate}(={name})`")?))
 }
 
+/// A predicate goes on as no predicate does.
+fn longer_name(
+    alloc: Global,
+    stopped: Stopped<'_>,
+    predicate: &str,
+    tail: &str,
+) -> Result<Worded, AllocError> {
+    let name = format!(in alloc; "{predicate}{tail}")?;
+    let start = stopped.start.saturating_sub(predicate.len());
+    let place = (start, stopped.start.saturating_add(tail.len()));
+    let behind = stopped.rest().get(tail.len()..).unwrap_or("");
+    no_predicate(alloc, name.as_str(), behind, place)
+}
+
+/// A predicate is followed by something else than a `(`.
+fn other_argument(
+    alloc: Global,
+    stopped: Stopped<'_>,
+    predicate: &str,
+    expected: &str,
+) -> Result<Worded, AllocError> {
+    let rest = behind_blanks(stopped.rest());
+    let next = word_at(rest);
+    let help = compared(alloc, predicate, rest)?;
+    let message = format!(in alloc; "`{predicate}` is followed by `{next}`")?;
+    let place = stopped.place_of(rest, next.len());
+    Ok(Worded::of(alloc, place, message, expected)?.advised(help))
+}
+
 /// A predicate has no `(` behind it.
 fn no_argument(alloc: Global, stopped: Stopped<'_>) -> Result<Worded, AllocError> {
     let predicate = last_name(stopped.before());
     let tail = name_at(stopped.rest());
     if !tail.is_empty() {
-        let name = format!(in alloc; "{predicate}{tail}")?;
-        let start = stopped.start.saturating_sub(predicate.len());
-        let place = (start, stopped.start.saturating_add(tail.len()));
-        let behind = stopped.rest().get(tail.len()..).unwrap_or("");
-        return no_predicate(alloc, name.as_str(), behind, place);
+        return longer_name(alloc, stopped, predicate, tail);
     }
-    let rest = behind_blanks(stopped.rest());
-    let next = word_at(rest);
     let expected = format!(in alloc; "`(` behind `{predicate}`")?;
-    if next.is_empty() {
-        let message = format!(in alloc; "`{predicate}` has no argument")?;
-        return Worded::of(
-            alloc,
-            (stopped.start, stopped.start),
-            message,
-            expected.as_str(),
-        );
+    if !word_at(behind_blanks(stopped.rest())).is_empty() {
+        return other_argument(alloc, stopped, predicate, expected.as_str());
     }
-    let message = format!(in alloc; "`{predicate}` is followed by `{next}`")?;
-    let place = stopped.place_of(rest, next.len());
-    let help = compared(alloc, predicate, rest)?;
-    Ok(Worded::of(alloc, place, message, expected.as_str())?.advised(help))
+    let message = format!(in alloc; "`{predicate}` has no argument")?;
+    let place = (stopped.start, stopped.start);
+    Worded::of(alloc, place, message, expected.as_str())
 }
 
 /// What follows an operand is a word: an operator without anything behind it, or no operator.
@@ -290,12 +320,18 @@ fn other_operator(
 fn bad_regex(alloc: Global, stopped: Stopped<'_>) -> Result<Worded, AllocError> {
     let place = (stopped.start, stopped.end);
     let pattern = stopped.part();
-    match regex_fault(alloc, pattern)? {
-        Some((message, expected)) => Worded::of(alloc, place, message, expected),
-        None => {
-            let message = format!(in alloc; "`{pattern}` is not a regular expression")?;
-            Worded::of(alloc, place, message, "a regular expression")
-        }
+    let (message, expected) = regex_fault(alloc, pattern)?;
+    Worded::of(alloc, place, message, expected)
+}
+
+/// What is wrong with an argument, in words behind it.
+fn argument_fault(kind: FaultKind) -> Option<&'static str> {
+    match kind {
+        FaultKind::InvalidEscapeCharacter => Some("is not an escape"),
+        FaultKind::InvalidGlob => Some("is not a glob"),
+        FaultKind::TooLarge => Some("is too large a pattern"),
+        FaultKind::InvalidPlatformArgument => Some("is not a platform of builds"),
+        _ => None,
     }
 }
 
@@ -305,17 +341,12 @@ fn argument_message(
     kind: FaultKind,
     part: &str,
 ) -> Result<Option<String>, AllocError> {
-    let message = match kind {
-        FaultKind::InvalidEscapeCharacter => format!(in alloc; "`{part}` is not an escape")?,
-        FaultKind::InvalidGlob => format!(in alloc; "`{part}` is not a glob")?,
-        FaultKind::TooLarge => format!(in alloc; "`{part}` is too large a pattern")?,
-        FaultKind::InvalidPlatformArgument => {
-            format!(in alloc; "`{part}` is not a platform of builds")?
-        }
-        FaultKind::InvalidString => String::from_str(alloc, "the argument is empty")?,
+    let message = match (kind, argument_fault(kind)) {
+        (_, Some(fault)) => format!(in alloc; "`{part}` {fault}"),
+        (FaultKind::InvalidString, None) => String::from_str(alloc, "the argument is empty"),
         _ => return Ok(None),
     };
-    Ok(Some(message))
+    Ok(Some(message?))
 }
 
 /// What is expected of an argument.
@@ -397,36 +428,45 @@ fn lacking(
 /// What is wrong with a filter of which a reader says so, in words. There are none for what the
 /// reader words well.
 pub fn filter_words(alloc: Global, stopped: Stopped<'_>) -> Result<Option<Worded>, AllocError> {
-    let label = stopped.label;
-    let Some(kind) = KINDS.iter().find(|kind| (**kind).label() == label).copied() else {
+    let Some(kind) = kind_of(stopped.label) else {
         return banned(alloc, stopped);
     };
     let worded = match kind {
-        FaultKind::ExpectedExpr => no_operand(alloc, stopped)?,
+        FaultKind::ExpectedExpr => no_operand(alloc, stopped),
         FaultKind::TooDeeplyNested => lacking(
             alloc,
             stopped,
             "the filter is nested too deep",
             "at most 128 levels of `not` and of parentheses",
-        )?,
-        FaultKind::ExpectedOpenParenthesis => no_argument(alloc, stopped)?,
+        ),
+        FaultKind::ExpectedOpenParenthesis => no_argument(alloc, stopped),
         FaultKind::ExpectedCloseRegex => lacking(
             alloc,
             stopped,
             "the regular expression is not closed",
             "a closing `/`",
-        )?,
-        FaultKind::ExpectedEndOfExpression => more_text(alloc, stopped)?,
+        ),
+        FaultKind::ExpectedEndOfExpression => more_text(alloc, stopped),
         FaultKind::InvalidOrOperator => {
-            other_operator(alloc, stopped, "`or`, `|` or `+`", "write `or` or `|`")?
+            other_operator(alloc, stopped, "`or`, `|` or `+`", "write `or` or `|`")
         }
         FaultKind::InvalidAndOperator => {
-            other_operator(alloc, stopped, "`and` or `&`", "write `and` or `&`")?
+            other_operator(alloc, stopped, "`and` or `&`", "write `and` or `&`")
         }
-        FaultKind::InvalidRegex => bad_regex(alloc, stopped)?,
-        FaultKind::UnexpectedComma => second_argument(alloc, stopped)?,
-        FaultKind::UnexpectedArgument => undue_argument(alloc, stopped)?,
+        FaultKind::InvalidRegex => bad_regex(alloc, stopped),
+        FaultKind::UnexpectedComma => second_argument(alloc, stopped),
+        FaultKind::UnexpectedArgument => undue_argument(alloc, stopped),
         kind => return bad_argument(alloc, stopped, kind),
     };
-    Ok(Some(worded))
+    Ok(Some(worded?))
+}
+
+/// What to do about a refused filter that needs more than its text.
+pub fn filter_help(label: &str) -> Option<&'static str> {
+    if label == FaultKind::NoPackageGraph.label() {
+        return Some(
+            "pass `--metadata F`, where F has the output of `cargo metadata --format-version 1`",
+        );
+    }
+    None
 }

@@ -1,7 +1,7 @@
 //! The order in which findings are reported.
 ghost use Rattle.std.specs.Prelude.{◌≡◌, IfOk, IsPermutation};
 ghost use Rattle.std.specs.List.Sorted.{IsSortedByKey};
-ghost use Rattle.rinqebo_findings.specs.Order.{spot_cmp, spot_in, spot_of};
+ghost use Rattle.rinqebo_faults.specs.Order.{spot_cmp, spot_in, spot_of};
 
 use rinqebo_report::{FileLines, FilePlace, Finding, Position, Range};
 use std::alloc::AllocError;

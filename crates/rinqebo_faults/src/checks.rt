@@ -3,7 +3,7 @@ use nextest_config::ConfigParseErrorKind;
 
 /// A check that a load makes of a source, in the order in which it makes them; the last one is of
 /// all sources together.
-#[derive(Clone, Copy, Debug, PartialEq, Eq, PartialOrd, Ord)]
+#[derive(Clone, Copy, PartialEq, Eq, PartialOrd, Ord)]
 pub enum Check {
     /// Values and keys.
     Elements,
@@ -52,7 +52,7 @@ impl Check {
 }
 
 /// The sources on which a refusal of a source depends.
-#[derive(Clone, Copy, Debug, PartialEq, Eq)]
+#[derive(Clone, Copy, PartialEq, Eq)]
 pub enum Scope {
     /// The source alone.
     Own,

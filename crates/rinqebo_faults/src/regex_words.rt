@@ -111,36 +111,39 @@ fn flaw_of(pattern: &str) -> Option<Flaw> {
     scan.end()
 }
 
+/// What is wrong with a regular expression that has a flaw, in words behind it.
+fn flaw_words(flaw: Option<Flaw>) -> &'static str {
+    match flaw {
+        Some(Flaw::OpenGroup) => "has a group that is not closed",
+        Some(Flaw::StrayClose) => "has a `)` that closes no group",
+        Some(Flaw::OpenClass) => "has a class that is not closed",
+        Some(Flaw::Range(_, _)) | None => "is not a regular expression",
+    }
+}
+
 /// A flaw of a regular expression, in words.
-fn flaw_message(alloc: Global, pattern: &str, flaw: Flaw) -> Result<String, AllocError> {
+fn flaw_message(alloc: Global, pattern: &str, flaw: Option<Flaw>) -> Result<String, AllocError> {
+    if let Some(Flaw::Range(from, to)) = flaw {
+        return format!(in alloc; "the range `{from}-{to}` ends before it starts");
+    }
+    let words = flaw_words(flaw);
+    format!(in alloc; "`{pattern}` {words}")
+}
+
+/// What is expected in place of a regular expression that is refused.
+fn flaw_expected(flaw: Option<Flaw>) -> &'static str {
     match flaw {
-        Flaw::OpenGroup => format!(in alloc; "`{pattern}` has a group that is not closed"),
-        Flaw::StrayClose => format!(in alloc; "`{pattern}` has a `)` that closes no group"),
-        Flaw::OpenClass => format!(in alloc; "`{pattern}` has a class that is not closed"),
-        Flaw::Range(from, to) => {
-            format!(in alloc; "the range `{from}-{to}` ends before it starts")
-        }
+        Some(Flaw::OpenGroup) => "a regular expression with a closing `)`",
+        Some(Flaw::StrayClose) => "a regular expression with a `(` for each `)`",
+        Some(Flaw::OpenClass) => "a regular expression with a closing `]`",
+        Some(Flaw::Range(_, _)) => "a regular expression whose ranges ascend",
+        None => "a regular expression",
     }
 }
 
-/// What is expected in place of a regular expression with a flaw.
-fn flaw_expected(flaw: Flaw) -> &'static str {
-    match flaw {
-        Flaw::OpenGroup => "a regular expression with a closing `)`",
-        Flaw::StrayClose => "a regular expression with a `(` for each `)`",
-        Flaw::OpenClass => "a regular expression with a closing `]`",
-        Flaw::Range(_, _) => "a regular expression whose ranges ascend",
-    }
-}
-
-/// What is wrong with a regular expression, and what is expected instead, where that is plain.
-pub fn regex_fault(
-    alloc: Global,
-    pattern: &str,
-) -> Result<Option<(String, &'static str)>, AllocError> {
-    let Some(flaw) = flaw_of(pattern) else {
-        return Ok(None);
-    };
+/// What is wrong with a regular expression that is refused, and what is expected instead.
+pub fn regex_fault(alloc: Global, pattern: &str) -> Result<(String, &'static str), AllocError> {
+    let flaw = flaw_of(pattern);
     let message = flaw_message(alloc, pattern, flaw)?;
-    Ok(Some((message, flaw_expected(flaw))))
+    Ok((message, flaw_expected(flaw)))
 }

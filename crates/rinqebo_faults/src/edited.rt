@@ -22,6 +22,32 @@ fn scalar_text(alloc: Global, tree: &Tree) -> Result<String, AllocError> {
     }
 }
 
+/// Adds an entry to a text, behind a separator if it has some.
+fn add_entry(
+    alloc: Global,
+    text: &mut String,
+    separator: &str,
+    key: &str,
+    value: &str,
+) -> Result<(), AllocError> {
+    let name = quoted(alloc, key)?;
+    let entry = format!(in alloc; "{name} = {value}")?;
+    if !text.is_empty() {
+        text.push_str(separator)?;
+    }
+    text.push_str(entry.as_str())
+}
+
+/// Returns a text with more, behind a separator if it has some.
+fn added(text: String, separator: &str, more: &str) -> Result<String, AllocError> {
+    let mut text = text;
+    if !text.is_empty() {
+        text.push_str(separator)?;
+    }
+    text.push_str(more)?;
+    Ok(text)
+}
+
 /// A value with the edits at its mark and below.
 #[cycle(edited)]
 fn edited(alloc: Global, tree: &Tree, edits: &Edits, mark: &str) -> Result<String, AllocError> {
@@ -75,25 +101,15 @@ fn edited_members(
     let mut text = String::new(alloc);
     for (key, tree) in members.iter() {
         let below = mark_below(alloc, mark, Step::Key(key.as_str()))?;
-        if edits.removes(below.as_str()) {
-            continue;
+        if !edits.removes(below.as_str()) {
+            let value = edited(alloc, tree, edits, below.as_str())?;
+            add_entry(alloc, &mut text, separator, key.as_str(), value.as_str())?;
         }
-        let name = quoted(alloc, key.as_str())?;
-        let value = edited(alloc, tree, edits, below.as_str())?;
-        if !text.is_empty() {
-            text.push_str(separator)?;
-        }
-        text.push_str(name.as_str())?;
-        text.push_str(" = ")?;
-        text.push_str(value.as_str())?;
     }
-    if let Some(more) = edits.additions(mark) {
-        if !text.is_empty() {
-            text.push_str(separator)?;
-        }
-        text.push_str(more)?;
+    match edits.additions(mark) {
+        Some(more) => added(text, separator, more),
+        None => Ok(text),
     }
-    Ok(text)
 }
 
 /// The document of the source at a place among the layers, with edits.

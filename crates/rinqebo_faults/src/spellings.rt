@@ -1,4 +1,5 @@
 //! How a value that is refused is meant to be spelled, where that is plain.
+use crate::words::is_number;
 use nextest_config::Tree;
 use nextest_shape::{Pattern, Shape, TextShape};
 use std::alloc::{AllocError, Global};
@@ -46,11 +47,6 @@ fn wants(shape: &Shape, wanted: Wanted) -> bool {
         Shape::Either(shapes) => shapes.iter().any(|one| wanted_of(one) == wanted),
         one => wanted_of(one) == wanted,
     }
-}
-
-/// Whether a text has digits alone.
-fn is_number(text: &str) -> bool {
-    !text.is_empty() && text.bytes().all(|byte| byte.is_ascii_digit())
 }
 
 /// The milliseconds of up to three digits behind a point.

@@ -1,5 +1,7 @@
 //! Where the rules of profiles name groups and scripts.
 use crate::given::profiles_of;
+use crate::paths::profile_path;
+use crate::tables::longer;
 use nextest_config::Tree;
 use nextest_places::Step;
 use std::alloc::{AllocError, Global};
@@ -14,6 +16,18 @@ struct Naming {
     rule: usize,
     /// The position of the name in the array at the key, if it is in one.
     item: Option<usize>,
+}
+
+impl Naming {
+    /// The path of the name in the list at a path.
+    fn path_below<'p>(self, alloc: Global, list: &[Step<'p>]) -> Result<Vec<Step<'p>>, AllocError> {
+        let rule = [Step::Position(self.rule), Step::Key(self.key)];
+        let path = longer(alloc, list, &rule)?;
+        match self.item {
+            Some(place) => longer(alloc, &path, &[Step::Position(place)]),
+            None => Ok(path),
+        }
+    }
 }
 
 /// Whether a rule comes before another one, if there is one.
@@ -164,18 +178,11 @@ impl Namings {
         keys: &[&str],
         name: &str,
     ) -> Result<Vec<Step<'p>>, AllocError> {
-        let mut path = Vec::new(self.alloc);
-        path.push(Step::Key("profile"))?;
-        path.push(Step::Key(profile))?;
-        path.push(Step::Key(self.list))?;
-        let Some(Naming { key, rule, item }) = self.first(profile, keys, name)? else {
-            return Ok(path);
-        };
-        path.push(Step::Position(rule))?;
-        path.push(Step::Key(key))?;
-        if let Some(place) = item {
-            path.push(Step::Position(place))?;
+        let alloc = self.alloc;
+        let list = profile_path(profile, self.list);
+        match self.first(profile, keys, name)? {
+            Some(naming) => naming.path_below(alloc, &list),
+            None => Vec::from_slice(alloc, &list),
         }
-        Ok(path)
     }
 }

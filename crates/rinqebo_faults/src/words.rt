@@ -34,6 +34,26 @@ pub fn quoted(alloc: Global, words: &[&str], last: &'static str) -> Result<Strin
     Ok(text)
 }
 
+/// Whether a word is one of some others.
+pub fn is_among(words: &[&str], word: &str) -> bool {
+    for other in words {
+        if *other == word {
+            return true;
+        }
+    }
+    false
+}
+
+/// Whether a text has digits alone.
+pub fn is_number(text: &str) -> bool {
+    for c in text.chars() {
+        if !c.is_ascii_digit() {
+            return false;
+        }
+    }
+    !text.is_empty()
+}
+
 /// A text of its own, if there is one.
 pub fn owned(alloc: Global, text: Option<&str>) -> Result<Option<String>, AllocError> {
     match text {

@@ -2,7 +2,7 @@
 use crate::headers::header_text;
 use crate::hints::{name_by_front, near_name};
 use crate::shapes::shape_at;
-use crate::words::quoted;
+use crate::words::{is_among, quoted};
 use nextest_config::Tree;
 use nextest_places::Step;
 use nextest_shape::{Shape, file_shape, keys_of};
@@ -74,6 +74,12 @@ pub fn known_keys(alloc: Global, path: &[Step<'_>]) -> Result<Vec<&'static str>,
     keys_at(alloc, &file_shape(alloc)?, path)
 }
 
+/// The note that lists the keys of a table.
+pub fn known_note(alloc: Global, table: &str, known: &[&str]) -> Result<String, AllocError> {
+    let keys = quoted(alloc, known, ", ")?;
+    format!(in alloc; "keys of {table}: {keys}")
+}
+
 /// The note that lists the keys which the table at a path knows, if it knows some.
 pub fn keys_note(alloc: Global, path: &[Step<'_>]) -> Result<Option<String>, AllocError> {
     let keys = known_keys(alloc, path)?;
@@ -81,8 +87,7 @@ pub fn keys_note(alloc: Global, path: &[Step<'_>]) -> Result<Option<String>, All
         return Ok(None);
     }
     let table = called(alloc, path)?;
-    let keys = quoted(alloc, &keys, ", ")?;
-    Ok(Some(format!(in alloc; "keys of {table}: {keys}")?))
+    Ok(Some(known_note(alloc, table.as_str(), &keys)?))
 }
 
 /// The key of a table that it does not know, and that is nearest to a key which it lacks, if one is
@@ -99,7 +104,7 @@ pub fn stray_key<'t>(
     let known = known_keys(alloc, path)?;
     let mut strays = Vec::new(alloc);
     for key in members.keys() {
-        if !known.iter().any(|other| *other == key.as_str()) {
+        if !is_among(&known, key.as_str()) {
             strays.push(key.as_str())?;
         }
     }
@@ -129,7 +134,7 @@ pub fn script_header(
 }
 
 /// A path with more steps.
-fn longer<'p>(
+pub fn longer<'p>(
     alloc: Global,
     path: &[Step<'p>],
     rest: &[Step<'p>],
@@ -144,7 +149,7 @@ fn longer<'p>(
 /// Whether the table at a path knows a key.
 fn knows(alloc: Global, path: &[Step<'_>], key: &str) -> Result<bool, AllocError> {
     let known = known_keys(alloc, path)?;
-    Ok(known.iter().any(|other| *other == key))
+    Ok(is_among(&known, key))
 }
 
 /// Where a key of a profile belongs that is one of overrides.
@@ -184,7 +189,7 @@ fn in_part(alloc: Global, table: &[Step<'_>], key: &str) -> Result<Option<String
     for part in keys_at(alloc, &file, table)? {
         let path = longer(alloc, table, &[Step::Key(part)])?;
         let keys = keys_at(alloc, &file, &path)?;
-        if keys.iter().any(|other| *other == key) {
+        if is_among(&keys, key) {
             let header = header_text(alloc, &path)?;
             let help = format!(in alloc; "`{key}` is a key of `{part}`: write `{header}.{key}`")?;
             return Ok(Some(help));

@@ -180,95 +180,76 @@ fn unexpected(alloc: Global, stopped: Stopped<'_>) -> Result<Option<Worded>, All
     Ok(Some(Worded::of(alloc, place, message, expected)?))
 }
 
-/// What is wrong with parentheses or quotes.
-fn unpaired(alloc: Global, stopped: Stopped<'_>) -> Result<Option<Worded>, AllocError> {
-    let place = first_byte(stopped);
+/// What is wrong with parentheses or quotes, and what is expected, by what a reader says.
+fn pair_words(stopped: Stopped<'_>) -> Option<(&'static str, &'static str)> {
     if stopped.text.starts_with("cfg(") && !stopped.text.ends_with(')') {
-        return Ok(Some(Worded::plain(alloc, place, "`(` is not closed", "a closing `)`")?));
+        return Some(("`(` is not closed", "a closing `)`"));
     }
-    let worded = match stopped.label {
-        "unclosed quotes" => Worded::plain(alloc, place, "`\"` is not closed", "a closing `\"`")?,
-        "unclosed parentheses" => Worded::plain(
-            alloc,
-            place,
-            "`(` is not closed",
-            "a closing `)`",
-        )?,
-        "unopened parentheses" => Worded::plain(
-            alloc,
-            place,
+    match stopped.label {
+        "unclosed quotes" => Some(("`\"` is not closed", "a closing `\"`")),
+        "unclosed parentheses" => Some(("`(` is not closed", "a closing `)`")),
+        "unopened parentheses" => Some((
             "`)` closes nothing",
             "the end of the platform, or a `(` before it",
-        )?,
-        _ => return Ok(None),
-    };
-    Ok(Some(worded))
+        )),
+        _ => None,
+    }
 }
 
-/// What is wrong with a key or a value.
-fn bad_leaf(alloc: Global, stopped: Stopped<'_>) -> Result<Option<Worded>, AllocError> {
-    let worded = match stopped.label {
-        "unknown key" => unknown_key(alloc, stopped)?,
-        "this key takes no value" => bad_value(alloc, stopped, "due here", "the key alone")?,
-        "expected a feature" => bad_value(alloc, stopped, "a feature", "the name of a feature")?,
-        "expected `big` or `little`" => {
-            bad_value(alloc, stopped, "a byte order", "`big` or `little`")?
-        }
-        "expected a number to 255" => {
-            bad_value(
-                alloc,
-                stopped,
-                "a width of pointers",
-                "an integer from 0 to 255",
-            )?
-        }
-        "expected `ptr` or a number to 65535" => bad_value(
-            alloc,
-            stopped,
+/// What a value is not, and what is expected, by what a reader says.
+fn value_words(label: &str) -> Option<(&'static str, &'static str)> {
+    match label {
+        "this key takes no value" => Some(("due here", "the key alone")),
+        "expected a feature" => Some(("a feature", "the name of a feature")),
+        "expected `big` or `little`" => Some(("a byte order", "`big` or `little`")),
+        "expected a number to 255" => Some(("a width of pointers", "an integer from 0 to 255")),
+        "expected `ptr` or a number to 65535" => Some((
             "a width of atomics",
             "`ptr`, or an integer from 0 to 65535",
-        )?,
-        "expected `= \"<value>\"` behind this key" => value_wanted(alloc, stopped)?,
-        "expected a `\"` here" | "expected a `\"<value>\"` here" => no_value(alloc, stopped)?,
-        _ => return Ok(None),
-    };
-    Ok(Some(worded))
+        )),
+        _ => None,
+    }
 }
 
-/// What is wrong with a platform as a whole, or with its characters.
-fn bad_whole(alloc: Global, stopped: Stopped<'_>) -> Result<Option<Worded>, AllocError> {
-    let place = (stopped.start, stopped.end);
-    let worded = match stopped.label {
-        "expected a triple or `cfg(`" => Worded::plain(
-            alloc,
-            place,
-            "the platform is empty",
-            "a target triple, or `cfg(..)`",
-        )?,
-        "expected a letter, a digit, `_`, `-` or `.`" => bad_character(
-            alloc,
-            stopped,
+/// What has no such character as is there, and what is expected, by what a reader says.
+fn character_words(label: &str) -> Option<(&'static str, &'static str)> {
+    match label {
+        "expected a letter, a digit, `_`, `-` or `.`" => Some((
             "target triples",
             "a triple of letters, digits, `_`, `-` and `.`, or `cfg(..)`",
-        )?,
-        "foreign character" => bad_character(alloc, stopped, "`cfg(..)`", AN_EXPRESSION)?,
-        "expected an expression" => Worded::plain(
-            alloc,
-            place,
-            "`cfg(..)` is empty",
-            AN_EXPRESSION,
-        )?,
-        "expected one expression, and not several" => several(alloc, stopped)?,
-        "`not` takes one part" => not_one(alloc, stopped)?,
-        "functions nest more than 128 deep" => Worded::plain(
-            alloc,
-            place,
+        )),
+        "foreign character" => Some(("`cfg(..)`", AN_EXPRESSION)),
+        _ => None,
+    }
+}
+
+/// What is wrong with a platform as a whole, and what is expected, by what a reader says.
+fn whole_words(label: &str) -> Option<(&'static str, &'static str)> {
+    match label {
+        "expected a triple or `cfg(`" => Some((
+            "the platform is empty",
+            "a target triple, or `cfg(..)`",
+        )),
+        "expected an expression" => Some(("`cfg(..)` is empty", AN_EXPRESSION)),
+        "functions nest more than 128 deep" => Some((
             "the platform is nested too deep",
             "at most 128 levels",
-        )?,
-        _ => return Ok(None),
+        )),
+        _ => None,
+    }
+}
+
+/// What is wrong with a key or with the parts of a function.
+fn bad_part(alloc: Global, stopped: Stopped<'_>) -> Result<Option<Worded>, AllocError> {
+    let worded = match stopped.label {
+        "unknown key" => unknown_key(alloc, stopped),
+        "expected `= \"<value>\"` behind this key" => value_wanted(alloc, stopped),
+        "expected a `\"` here" | "expected a `\"<value>\"` here" => no_value(alloc, stopped),
+        "expected one expression, and not several" => several(alloc, stopped),
+        "`not` takes one part" => not_one(alloc, stopped),
+        _ => return unexpected(alloc, stopped),
     };
-    Ok(Some(worded))
+    Ok(Some(worded?))
 }
 
 /// What is meant by a text that is not a triple, where that is plain.
@@ -285,16 +266,19 @@ fn platform_meant(text: &str) -> Option<&'static str> {
 /// What is wrong with a platform of which a reader says so, in words, where these are plainer than
 /// the reader's.
 fn plain_words(alloc: Global, stopped: Stopped<'_>) -> Result<Option<Worded>, AllocError> {
-    if let Some(worded) = unpaired(alloc, stopped)? {
-        return Ok(Some(worded));
-    }
-    if let Some(worded) = bad_leaf(alloc, stopped)? {
-        return Ok(Some(worded));
-    }
-    if let Some(worded) = bad_whole(alloc, stopped)? {
-        return Ok(Some(worded));
-    }
-    unexpected(alloc, stopped)
+    let place = (stopped.start, stopped.end);
+    let worded = if let Some((message, expected)) = pair_words(stopped) {
+        Worded::plain(alloc, first_byte(stopped), message, expected)
+    } else if let Some((what, expected)) = value_words(stopped.label) {
+        bad_value(alloc, stopped, what, expected)
+    } else if let Some((what, expected)) = character_words(stopped.label) {
+        bad_character(alloc, stopped, what, expected)
+    } else if let Some((message, expected)) = whole_words(stopped.label) {
+        Worded::plain(alloc, place, message, expected)
+    } else {
+        return bad_part(alloc, stopped);
+    };
+    Ok(Some(worded?))
 }
 
 /// What is wrong with a platform of which a reader says so, in words. There are none for what the

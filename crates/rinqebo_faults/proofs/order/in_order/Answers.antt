@@ -1,7 +1,7 @@
 use Rattle.std.proofs.Common.{rules}
 use Rattle.std.proofs.lemmas.Fn.{always_returns_same}
-use Rattle.rinqebo_findings.specs.Order.{spot_of}
-use Rattle.rinqebo_findings.proofs.order.in_order.Goals as goal
+use Rattle.rinqebo_faults.specs.Order.{spot_of}
+use Rattle.rinqebo_faults.proofs.order.in_order.Goals as goal
 
 pub returns-clause-sorted : goal.returns-clause-sorted
 returns-clause-sorted c =

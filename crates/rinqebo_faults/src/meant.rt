@@ -7,6 +7,9 @@ use std::alloc::{AllocError, Global};
 /// What begins a line that a merge left.
 const MERGE_MARKS: [&str; 3] = ["<<<<<<<", "=======", ">>>>>>>"];
 
+/// How the reader of TOML words a bad escape.
+const ESCAPE: &str = "invalid escape sequence";
+
 /// Quotes that TOML does not have.
 const CURLY_QUOTES: [char; 4] = ['\u{201c}', '\u{201d}', '\u{2018}', '\u{2019}'];
 
@@ -176,27 +179,33 @@ fn line_help(alloc: Global, bad: BadLine<'_>) -> Result<Option<String>, AllocErr
     }
 }
 
-/// What is there that is wrong, and how much of it.
-fn there(alloc: Global, bad: BadLine<'_>) -> Result<(String, usize), AllocError> {
-    let (_before, rest) = bad.parted();
+/// What is there that is wrong, in words, given the line from the fault on.
+fn there(alloc: Global, bad: BadLine<'_>, rest: &str) -> Result<String, AllocError> {
     let wrong = bad.wrong();
     if rest.is_empty() {
-        let message = format!(in alloc; "{wrong} at the end of the line")?;
-        return Ok((message, 1));
+        return format!(in alloc; "{wrong} at the end of the line");
     }
     if bad.is_second() {
         let name = bad.defined();
-        let message = format!(in alloc; "`{name}` is defined a second time: {wrong}")?;
-        return Ok((message, name.chars().count()));
+        return format!(in alloc; "`{name}` is defined a second time: {wrong}");
     }
-    if wrong == "invalid escape sequence" {
+    if wrong == ESCAPE {
         let c = first_of(rest);
-        let message = format!(in alloc; "`\\{c}` is an {wrong}")?;
-        return Ok((message, 1));
+        return format!(in alloc; "`\\{c}` is an {wrong}");
     }
     let word = word_at(rest);
-    let message = format!(in alloc; "{wrong}: `{word}`")?;
-    Ok((message, word.chars().count()))
+    format!(in alloc; "{wrong}: `{word}`")
+}
+
+/// How many characters are wrong, given the line from the fault on.
+fn len_there(bad: BadLine<'_>, rest: &str) -> usize {
+    if rest.is_empty() || bad.wrong() == ESCAPE {
+        return 1;
+    }
+    if bad.is_second() {
+        return bad.defined().chars().count();
+    }
+    word_at(rest).chars().count()
 }
 
 /// What is expected in a line.
@@ -211,10 +220,10 @@ fn wanted<'t>(bad: BadLine<'t>) -> Option<&'t str> {
 
 /// What is wrong with a line, in words.
 pub fn line_words(alloc: Global, bad: BadLine<'_>) -> Result<LineWords, AllocError> {
-    let (message, len) = there(alloc, bad)?;
+    let (_before, rest) = bad.parted();
     Ok(LineWords {
-        len,
-        message,
+        len: len_there(bad, rest),
+        message: there(alloc, bad, rest)?,
         expected: owned(alloc, wanted(bad))?,
         help: line_help(alloc, bad)?,
     })

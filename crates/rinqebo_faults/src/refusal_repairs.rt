@@ -1,10 +1,8 @@
 //! What files are read without where a later check refuses them.
-use crate::cycles::parent_path;
 use crate::edits::Edits;
 use crate::given::profiles_of;
 use crate::namings::naming_mark;
-use crate::paths::path_with;
-use crate::refusals::section_path;
+use crate::paths::{parent_path, path_with, profile_path, section_path};
 use nextest_config::{
     ConfigCompileError, ConfigCompileErrorKind, ConfigCompileSection, CustomTestGroup,
     InheritsError, ProfileScriptErrors, ScriptId, Tree, UnknownTestGroupError,
@@ -231,12 +229,7 @@ pub fn leave_out_groups(
 
 /// Leaves out the script rules of a profile.
 fn leave_out_rules(edits: &mut Edits, place: usize, profile: &str) -> Result<(), AllocError> {
-    let path = [
-        Step::Key("profile"),
-        Step::Key(profile),
-        Step::Key("scripts"),
-    ];
-    edits.remove(place, &path)
+    edits.remove(place, &profile_path(profile, "scripts"))
 }
 
 /// Leaves out the script rules of the profiles in which a rule names a script that it may not.
