@@ -1,5 +1,5 @@
 -- What it leaves of a branch to add an expression.
-use Rattle.std.proofs.Common.{◌≡◌, ℕ, suc, ◌+◌, ◌<◌, ◌≤◌, Bool, true, false, cond, List, [], ◌∷◌, ◌++◌, length, get_or, drop, String, Global, Option, Some, nat_cmp, refl, sym, ap, ◌∙◌, inl, inr, add-one, append_assoc, bytes_eq, string_bytes}
+use Rattle.std.proofs.Common.{Result, Ok, Err, OnOk, ◌≡◌, ℕ, suc, ◌+◌, ◌<◌, ◌≤◌, Bool, true, false, cond, List, [], ◌∷◌, ◌++◌, length, get_or, drop, String, Global, Option, Some, nat_cmp, refl, sym, ap, ◌∙◌, inl, inr, add-one, append_assoc, bytes_eq, string_bytes}
 use Rattle.std.proofs.lemmas.Bool.{cases_Bool}
 use Rattle.std.proofs.lemmas.List.{append-nil, drop_all, drop_more, nil_from_length}
 use Rattle.std.proofs.lemmas.Slice.Eq.{bytes_eq-Decides}
@@ -9,9 +9,15 @@ use Rattle.std.specs.Map.{lookup, update}
 use Rattle.std.specs.Option.{option_map_or}
 use Rattle.nextest_places.specs.Branches.{Role, through, pairs, elements, ends_in, is_in, numbers_at, numbers_where}
 use Rattle.nextest_places.specs.declared.branch.Branch.{Branch, out-Branch}
+use Rattle.nextest_places.specs.declared.branch.Ends.{Ends}
 use Rattle.nextest_places.specs.declared.entry.Entry.{Entry}
 use Rattle.nextest_places.specs.declared.entry.Kind.{Kind}
 use Rattle.nextest_places.proofs.IdAims.{apart}
+
+-- what follows where a call returns, from two facts of it
+pub both_ok : {T E P Q R : Type 0} (r : Result T E) → (P → Q → R) → OnOk r P → OnOk r Q → OnOk r R
+both_ok (Ok x) f p q = f p q
+both_ok (Err e) f p q = tt
 
 -- what is added to some numbers
 abbrev pub IsAdded : Bool → ℕ → List ℕ → List ℕ → Type 0
@@ -31,28 +37,37 @@ none_there branch all pair element none role (k ∷ keys) =
 -- the numbers of a branch behind which an expression is added, and of one where its key ends
 module _ (kind : Kind) (number : ℕ) (old new : Branch)
     (all : (out-Branch new).all.items ≡ (out-Branch old).all.items ++ number ∷ []) where
-  pub added_longer : (part : List ℕ) (parts : List (List ℕ)) → (out-Branch new).ends ≡ (out-Branch old).ends
+  pub added_longer : (part : List ℕ) (parts : List (List ℕ)) (was now : BTreeMap (String Global) Branch)
+      → (out-Branch new).ends ≡ (out-Branch old).ends → was ≡ (out-Branch old).longer → (out-Branch new).longer ≡ now
       → ((role : Role) (k : List ℕ) (keys : List (List ℕ)) → IsAdded (is_in role kind (k ∷ keys) (part ∷ parts)) number
-      (option_map_or (numbers_at role keys) (get_by_text (out-Branch old).longer k) [])
-      (option_map_or (numbers_at role keys) (get_by_text (out-Branch new).longer k) []))
+      (option_map_or (numbers_at role keys) (get_by_text was k) [])
+      (option_map_or (numbers_at role keys) (get_by_text now k) []))
       → (role : Role) (keys : List (List ℕ))
       → IsAdded (is_in role kind keys (part ∷ parts)) number (numbers_at role keys old) (numbers_at role keys new)
-  added_longer part parts same longer through [] = all
-  added_longer part parts same longer pairs [] =
+  added_longer part parts was now same before after longer through [] = all
+  added_longer part parts was now same before after longer pairs [] =
       ap (λ ends. ends.pairs.items) same ∙ sym (append-nil (out-Branch old).ends.pairs.items)
-  added_longer part parts same longer elements [] =
+  added_longer part parts was now same before after longer elements [] =
       ap (λ ends. ends.elements.items) same ∙ sym (append-nil (out-Branch old).ends.elements.items)
-  added_longer part parts same longer role (k ∷ keys) = longer role k keys
+  added_longer part parts was now same before after longer role (k ∷ keys) =
+      let at : BTreeMap (String Global) Branch → List ℕ =
+      λ m. option_map_or (numbers_at role keys) (get_by_text m k) [] in
+      let more : List ℕ = cond (is_in role kind (k ∷ keys) (part ∷ parts)) (number ∷ []) [] in
+      ap at after ∙ longer role k keys ∙ ap (λ m. at m ++ more) before
 
-  pub added_here : IsAdded (ends_in pairs kind) number (out-Branch old).ends.pairs.items (out-Branch new).ends.pairs.items
-      → IsAdded (ends_in elements kind) number (out-Branch old).ends.elements.items
-      (out-Branch new).ends.elements.items
-      → (out-Branch new).longer ≡ (out-Branch old).longer → (role : Role) (keys : List (List ℕ))
+  pub added_here : (was now : Ends) → (out-Branch new).longer ≡ (out-Branch old).longer → was ≡ (out-Branch old).ends
+      → (out-Branch new).ends ≡ now → IsAdded (ends_in pairs kind) number was.pairs.items now.pairs.items
+      → IsAdded (ends_in elements kind) number was.elements.items now.elements.items
+      → (role : Role) (keys : List (List ℕ))
       → IsAdded (is_in role kind keys []) number (numbers_at role keys old) (numbers_at role keys new)
-  added_here pair element same through [] = all
-  added_here pair element same pairs [] = pair
-  added_here pair element same elements [] = element
-  added_here pair element same role (k ∷ keys) =
+  added_here was now same before after pair element through [] = all
+  added_here was now same before after pair element pairs [] =
+      ap (λ ends. ends.pairs.items) after ∙ pair
+      ∙ ap (λ ends. ends.pairs.items ++ cond (ends_in pairs kind) (number ∷ []) []) before
+  added_here was now same before after pair element elements [] =
+      ap (λ ends. ends.elements.items) after ∙ element
+      ∙ ap (λ ends. ends.elements.items ++ cond (ends_in elements kind) (number ∷ []) []) before
+  added_here was now same before after pair element role (k ∷ keys) =
       ap (λ m. option_map_or (numbers_at role keys) (get_by_text m k) []) same
       ∙ sym (append-nil (option_map_or (numbers_at role keys) (get_by_text (out-Branch old).longer k) []))
 

@@ -1,6 +1,7 @@
 //! The expressions of a text, which are found by their keys.
 ghost use Rattle.std.specs.Prelude.{◌≡◌, List, ℕ, Bool, IfOk, MatchOption, drop, slice_get};
 ghost use Rattle.nextest_places.specs.Branches.{
+  HasNumber,
   IsBranchOf,
   comes_before,
   earlier,

@@ -6,26 +6,46 @@ use Rattle.std.specs.BTreeMap.{get_by_text}
 use Rattle.std.specs.Option.{option_copied_mut}
 use Rattle.toml_parser.specs.Reading.{path_view}
 use Rattle.nextest_places.specs.Branches.{is_in}
-use Rattle.nextest_places.proofs.Adding.{added_here, added_longer, grown}
+use Rattle.nextest_places.specs.declared.branch.Branch.{Branch}
+use Rattle.nextest_places.specs.declared.branch.Branch.TheOpen.{Branch-F}
+use Rattle.nextest_places.specs.declared.branch.Branch.TheViews.{out-Branch, out-roll-Branch, roll-Branch}
+use Rattle.nextest_places.proofs.Adding.{added_here, added_longer, both_ok, grown}
 use Rattle.nextest_places.proofs.branch.+add.Goals as goal
 
 pub add-returns-in-Some : goal.add-returns-in-Some
 add-returns-in-Some t c =
-    let part = string_bytes c.in-Some.part.now in
+    let part = c.deref.result.now in
     let rest = path_view c.in-Some.rest.now in
-    let parts : path_view c.args.parts.now ≡ part ∷ rest = ap path_view c.in-Some.ensures.cases.0 in
+    let parts : path_view c.args.parts.now ≡ part ∷ rest =
+    ap path_view c.in-Some.ensures.cases.0 ∙ ap (λ p. p ∷ rest) (sym c.deref.ensures) in
+    let old = c.args.branch.now in
+    let pushed : Branch-F Branch = record (out-Branch old) { all = c.push.new.self } in
+    let was = out-Branch (roll-Branch pushed) in
+    let new : Branch-F Branch = record was { longer = c.add_longer.new.longer } in
+    let before = out-roll-Branch pushed in
+    let after = out-roll-Branch new in
     on_ok_weaker c.add_longer.result
-    (λ longer. rw parts (added_longer c.args.kind c.args.number c.args.branch.now _ c.in_ok-push.ensures.items part rest
-    refl (rw c.deref.ensures.value at longer)))
+    (λ longer. rw parts (added_longer c.args.kind c.args.number old (roll-Branch new)
+    (ap (λ f. f.all.items) after ∙ ap (λ f. f.all.items) before ∙ c.in_ok-push.ensures.items) part rest was.longer
+    c.add_longer.new.longer (ap (λ f. f.ends) after ∙ ap (λ f. f.ends) before) (ap (λ f. f.longer) before)
+    (ap (λ f. f.longer) after) longer))
     c.add_longer.ensures
 
 pub add-returns-in-None : goal.add-returns-in-None
 add-returns-in-None t c =
     let none : c.args.parts.now ≡ [] = nil_from_length c.args.parts.now c.in-None.ensures.cases in
-    on_ok_weaker c.add-in-None.result
-    (λ ends. rw none (added_here c.args.kind c.args.number c.args.branch.now _ c.in_ok-push.ensures.items ends.pairs
-    ends.elements refl))
-    c.add-in-None.ensures
+    let old = c.args.branch.now in
+    let pushed : Branch-F Branch = record (out-Branch old) { all = c.push.new.self } in
+    let was = out-Branch (roll-Branch pushed) in
+    let new : Branch-F Branch = record was { ends = c.add.new.self } in
+    let before = out-roll-Branch pushed in
+    let after = out-roll-Branch new in
+    both_ok c.add.result
+    (λ pair element. rw none (added_here c.args.kind c.args.number old (roll-Branch new)
+    (ap (λ f. f.all.items) after ∙ ap (λ f. f.all.items) before ∙ c.in_ok-push.ensures.items) was.ends c.add.new.self
+    (ap (λ f. f.longer) after ∙ ap (λ f. f.longer) before) (ap (λ f. f.ends) before) (ap (λ f. f.ends) after) pair
+    element))
+    c.add.ensures.pairs c.add.ensures.elements
 
 pub add_longer-returns-in-Some : goal.add_longer-returns-in-Some
 add_longer-returns-in-Some t c =

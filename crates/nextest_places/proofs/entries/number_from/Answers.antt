@@ -8,10 +8,10 @@ pub returns : goal.returns
 returns c = λ test entries are.
     let numbers = c.args.numbers.now in
     let from = c.args.from in
-    let at = c.partition_point.result in
-    let point = IsPartitionPoint-from_clause (λ y. ltb y from) numbers at c.partition_point.ensures.partitioned
+    let at = c.partition_point-first.result in
+    let point = IsPartitionPoint-from_clause (λ y. ltb y from) numbers at c.partition_point-first.ensures.partitioned
     (parted test numbers entries from are) (λ a r f' k. search rules) in
     let left : drop at numbers ≡ numbers_where test from (drop from entries) =
-    counted test numbers entries at from are c.partition_point.ensures.bound point in
+    counted test numbers entries at from are c.partition_point-first.ensures.bound point in
     c.copied.ensures ∙ item_is c.split_at.result.1.now c.args.place c.get.result c.get.ensures.lookup
     ∙ ap (λ ns. slice_get ns c.args.place) (c.split_at.ensures.back ∙ left)
