@@ -1,14 +1,14 @@
 -- The walk of a path along the branches of its keys.
-use Rattle.std.proofs.Common.{◌≡◌, ℕ, zero, suc, ◌<◌, Bool, true, false, cond, ◌||◌, List, [], ◌∷◌, ◌++◌, Bor, length, drop, slice_get, Option, Some, None, MatchOption, refl, sym, ap, ◌∙◌, subst, append_assoc}
+use Rattle.std.proofs.Common.{◌≡◌, ℕ, suc, ◌<◌, Bool, true, false, cond, ◌||◌, List, [], ◌∷◌, ◌++◌, Bor, length, drop, slice_get, Option, Some, None, refl, sym, ap, ◌∙◌, subst, append_assoc}
 use Rattle.std.proofs.lemmas.List.{append-nil}
 use Rattle.std.proofs.lemmas.Option.{slice_get_within}
 use Rattle.std.specs.BTreeMap.{get_by_text}
 use Rattle.std.specs.List.{AllByRecursion}
 use Rattle.std.specs.Option.{option_map_or}
 use Rattle.toml_parser.specs.Reading.{path_view}
-use Rattle.nextest_places.specs.Branches.{HasNumber, IsBranchOf, Role, through, pairs, elements, comes_before, earlier, is_entry_in, is_in, numbers_in, numbers_at, numbers_where}
-use Rattle.nextest_places.specs.Entries.{Outcome, found, waits, scan}
-use Rattle.nextest_places.specs.Marks.{Mark, by_key, into, seen, missing, fresh}
+use Rattle.nextest_places.specs.Branches.{HasNumber, IsBranchOf, Role, through, pairs, elements, comes_before, earlier, is_entry_in, numbers_in, numbers_at, numbers_where}
+use Rattle.nextest_places.specs.Entries.{waits, scan}
+use Rattle.nextest_places.specs.Marks.{by_key, seen, missing, fresh}
 use Rattle.nextest_places.specs.declared.branch.Branch.{Branch, out-Branch}
 use Rattle.nextest_places.specs.declared.entry.Entry.{Entry}
 use Rattle.nextest_places.specs.declared.step.Step.{Step}

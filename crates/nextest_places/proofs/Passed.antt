@@ -3,7 +3,7 @@ use Rattle.std.proofs.Common.{◌≡◌, ℕ, zero, suc, Bool, true, false, cond
 use Rattle.std.proofs.lemmas.Bool.{cases_Bool, true≢false, false≢true}
 use Rattle.std.specs.Str.{bytes_eq}
 use Rattle.nextest_places.specs.Branches.{ends_in, is_in, through, pairs, elements}
-use Rattle.nextest_places.specs.Marks.{Mark, State, by_key, into, seen, never, missing, under, next_element, turn}
+use Rattle.nextest_places.specs.Marks.{Mark, State, by_key, into, seen, missing, under, next_element, turn}
 use Rattle.nextest_places.specs.declared.entry.Kind.{Kind}
 use Rattle.nextest_places.specs.declared.entry.Kind.TheVariants.{Pair, Table, Element}
 use Rattle.nextest_places.specs.declared.step.Step.{Step}

@@ -7,7 +7,7 @@ use Rattle.toml_parser.specs.Reading.{path_view}
 use Rattle.nextest_places.specs.declared.branch.Branch.{Branch, out-Branch}
 use Rattle.nextest_places.specs.declared.entry.Entry.{Entry}
 use Rattle.nextest_places.specs.declared.entry.Kind.{Kind}
-use Rattle.nextest_places.specs.declared.entry.Kind.TheVariants.{Pair, Table, Element}
+use Rattle.nextest_places.specs.declared.entry.Kind.TheVariants.{Pair, Element}
 use Rattle.nextest_places.specs.declared.place.Lines.{Lines}
 use Rattle.nextest_places.specs.Entries.{Outcome, IsWaiting, found}
 

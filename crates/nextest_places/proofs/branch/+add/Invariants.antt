@@ -1,4 +1,4 @@
-use Rattle.std.proofs.Common.{ℕ, ◌+◌, ◌*◌, length}
+use Rattle.std.proofs.Common.{◌+◌, ◌*◌, length}
 use Rattle.nextest_places.proofs.branch.+add.Given as goal
 
 abbrev pub decreases-add : goal.decreases-add

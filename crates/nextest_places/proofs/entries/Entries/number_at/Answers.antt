@@ -1,4 +1,4 @@
-use Rattle.std.proofs.Common.{◌≡◌, ◌∙◌, None, Some, ap, arith, length, subst, sym}
+use Rattle.std.proofs.Common.{◌≡◌, ◌∙◌, ap, arith, length, subst, sym}
 use Rattle.nextest_places.proofs.Along.{IsItsNumber, all_passed, element_missing, header_passed, header_there, header_within, key_missing, key_there, pair_there}
 use Rattle.nextest_places.proofs.Branched.{at_first}
 use Rattle.nextest_places.proofs.entries.Entries.number_at.Goals as goal
