@@ -1,8 +1,8 @@
-use Rattle.std.proofs.Common.{◌≡◌, ◌∙◌, ◌∷◌, [], ap, is_some, length, lit<, map, option_map, subst, sym}
+use Rattle.std.proofs.Common.{◌∙◌, ◌∷◌, [], ap, is_some, length, lit<, map, option_map, subst, sym}
 use Rattle.nextest_engines.specs.Engines.{test_view}
 use Rattle.nextest_rules.specs.Accepted.{IfWritten}
 use Rattle.nextest_rules.specs.Rules.{at_name}
-use Rattle.nextest_settings.specs.Binaries.{AreAnswersOf, AreKnownFor, EvaluatesOpen, answered_binary, binary_answer}
+use Rattle.nextest_settings.specs.Binaries.{AreKnownFor, EvaluatesOpen, binary_answer}
 use Rattle.nextest_settings.specs.Deciding.{asked_from}
 use Rattle.nextest_settings.specs.Queries.{query_in}
 use Rattle.nextest_settings.specs.View.{KnowsRunWrappers}
