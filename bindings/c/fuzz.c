@@ -265,7 +265,7 @@ static void add_request(struct text *text) {
 
 // ---- checks
 
-static uint64_t ended[16];
+static uint64_t ended[16], compared[16];
 
 // The output of a run by one call, and by pieces: they are the same.
 static void check_run(const uint8_t *request, size_t length) {
@@ -295,6 +295,50 @@ static void check_run(const uint8_t *request, size_t length) {
     CHECK(rinqebo_resolve(request, length, whole, told, &needed) == status && needed == told);
     CHECK(memcmp(pieces, whole, told + 1) == 0 && whole[told] == 'x');
     free(pieces);
+    free(whole);
+    rinqebo_run_free(run);
+    free(run);
+}
+
+// The status and the text of a run of one request.
+static uint32_t resolved(const uint8_t *request, size_t length, uint8_t *out, size_t out_len, size_t *needed) {
+    uint32_t status = rinqebo_resolve(request, length, out, out_len, needed);
+    CHECK(status != RINQEBO_SMALL);
+    return status;
+}
+
+// What changes between two runs, kept and by one call: they are the same. Without a result it is what a run of the side
+// returns that has none. Between a run and itself no test changes.
+static void check_diff(const uint8_t *from, size_t from_len, const uint8_t *to, size_t to_len) {
+    struct rinqebo_run *run = malloc(rinqebo_run_size());
+    CHECK(run != NULL);
+    uint32_t origins = choose(2), side = 7, again = 7;
+    rinqebo_diff_new(from, from_len, to, to_len, origins, run, &side);
+    uint32_t status = rinqebo_run_status(run);
+    size_t told = rinqebo_run_length(run), needed = 7;
+    compared[status % 16]++;
+    CHECK(status != RINQEBO_SMALL && status <= RINQEBO_NO_PROFILE && status != RINQEBO_MEMORY);
+    CHECK(side <= RINQEBO_TO && (side == RINQEBO_NO_SIDE) == (status == RINQEBO_DONE));
+    uint8_t *kept = malloc(told + 1), *whole = malloc(told + 1);
+    CHECK(kept != NULL && whole != NULL);
+    kept[told] = whole[told] = 'x';
+    CHECK(rinqebo_run_text(run, 0, kept, told) == told);
+    if (told > 0) {
+        memset(whole, 7, told);
+        CHECK(rinqebo_diff(from, from_len, to, to_len, origins, whole, told - 1, &needed, &again) == RINQEBO_SMALL);
+        CHECK(needed == told && again == side);
+        for (size_t i = 0; i < told; i++) CHECK(whole[i] == 7);
+    }
+    CHECK(rinqebo_diff(from, from_len, to, to_len, origins, whole, told, &needed, &again) == status);
+    CHECK(needed == told && again == side && memcmp(kept, whole, told + 1) == 0 && whole[told] == 'x');
+    if (side == RINQEBO_FROM) CHECK(resolved(from, from_len, whole, told, &needed) == status);
+    if (side == RINQEBO_TO) CHECK(resolved(to, to_len, whole, told, &needed) == status);
+    CHECK(needed == told && memcmp(kept, whole, told + 1) == 0 && whole[told] == 'x');
+    if (from == to && status == RINQEBO_DONE) {
+        kept[told] = 0;
+        CHECK(strstr((char *)kept, "\"changes\":[]") != NULL && strstr((char *)kept, "\"run\":[]") != NULL);
+    }
+    free(kept);
     free(whole);
     rinqebo_run_free(run);
     free(run);
@@ -404,13 +448,20 @@ static void check_session(const uint8_t *request, size_t length) {
 int LLVMFuzzerTestOneInput(const uint8_t *data, size_t size);
 
 int LLVMFuzzerTestOneInput(const uint8_t *data, size_t size) {
-    static struct text request;
+    static struct text request, other;
     bytes = data;
     left = size;
-    request.length = 0;
+    request.length = other.length = 0;
     add_request(&request);
-    check_session((const uint8_t *)request.at, request.length);
-    if (choose(4) == 0) check_run((const uint8_t *)request.at, request.length);
+    const uint8_t *from = (const uint8_t *)request.at, *to = (const uint8_t *)other.at;
+    check_session(from, request.length);
+    if (choose(4) == 0) check_run(from, request.length);
+    switch (choose(8)) {
+    case 0: check_diff(from, request.length, from, request.length); break;
+    case 1: add_request(&other); check_diff(from, request.length, to, other.length); break;
+    case 2: add_request(&other); check_diff(to, other.length, from, request.length); break;
+    default: break;
+    }
     return 0;
 }
 
@@ -426,6 +477,12 @@ static void fill(uint8_t *data, size_t size, uint64_t number) {
     }
 }
 
+static void print_counts(const uint64_t *counts) {
+    for (int status = 0; status < 16; status++) {
+        if (counts[status] != 0) printf(" %d: %" PRIu64, status, counts[status]);
+    }
+}
+
 int main(int count, char **words) {
     if (count != 3) return 2;
     uint64_t first = strtoull(words[1], NULL, 10), cases = strtoull(words[2], NULL, 10);
@@ -435,9 +492,9 @@ int main(int count, char **words) {
         LLVMFuzzerTestOneInput(data, 64 + number % 960);
     }
     printf("%" PRIu64 " cases; statuses", cases);
-    for (int status = 0; status < 16; status++) {
-        if (ended[status] != 0) printf(" %d: %" PRIu64, status, ended[status]);
-    }
+    print_counts(ended);
+    printf("; of diffs");
+    print_counts(compared);
     puts("");
     return 0;
 }
