@@ -95,8 +95,8 @@ module _ {A K : Type 0} (e : K → K → Bool) (laws : IsEquivalence e) (text : 
           → list_any (has x) found ≡ (list_any (has x) found || b)
       known true same there =
           let alike : (f : A) → has x f ≡ has (text t) f = λ f.
-              laws.symm (text f) x ∙ sym (laws.congr (text t) x (text f) same)
-              ∙ laws.symm (text t) (text f) in
+          laws.symm (text f) x ∙ sym (laws.congr (text t) x (text f) same)
+          ∙ laws.symm (text t) (text f) in
           let yes : list_any (has x) found ≡ true = (λ j. list_any (λ f. alike f j) found) ∙ there in
           yes ∙ sym (ap (λ b. b || true) yes)
       known false same there = sym (or_false _)
@@ -233,10 +233,11 @@ module _ {A K : Type 0} (e : K → K → Bool) (laws : IsEquivalence e) (text : 
       → AllByRecursion (λ f. Begins f (filter (has (text f)) xs)) fs
       → AllByRecursion (λ f. Begins f (filter (has (text f)) (xs ++ t ∷ []))) fs
   all_begin_more xs t [] h = tt
-  all_begin_more xs t (f ∷ fs) h =
-      (subst (Begins f) (sym (filter-append (has (text f)) xs (t ∷ [])))
-      (begins_more f (filter (has (text f)) xs) (filter (has (text f)) (t ∷ [])) h.0),
-      all_begin_more xs t fs h.1)
+  all_begin_more xs t (f ∷ fs) h = (
+    subst (Begins f) (sym (filter-append (has (text f)) xs (t ∷ [])))
+        (begins_more f (filter (has (text f)) xs) (filter (has (text f)) (t ∷ [])) h.0),
+    all_begin_more xs t fs h.1,
+  )
 
   all_push : (P : A → Type 0) (xs : List A) (t : A) → AllByRecursion P xs → P t
       → AllByRecursion P (xs ++ t ∷ [])

@@ -109,7 +109,7 @@ fn add_member<'t>(
     requires { number ≤ length groups.old.items }
     ensures { OnOk result (map (λ group. map (λ test. test.now) group.items) groups.new.items
         ≡ with_member (map (λ group. map (λ test. test.now) group.items) groups.old.items)
-            number test.now) }
+        number test.now) }
 {
     if number == groups.len() {
         groups.push(Vec::new(alloc))?;
@@ -119,10 +119,7 @@ fn add_member<'t>(
 }
 
 /// The tests of each group, in the order of the first test of each.
-fn groups_of<'t>(
-    alloc: Global,
-    tests: &'t [TestRows],
-) -> Result<Vec<Vec<&'t TestRows>>, AllocError>
+fn groups_of<'t>(alloc: Global, tests: &'t [TestRows]) -> Result<Vec<Vec<&'t TestRows>>, AllocError>
     ensures { IfOk result (λ groups.
         map (λ group. map (λ test. test.now) group.items) groups.items ≡ test_groups tests.now) }
 {
@@ -166,7 +163,6 @@ fn add_group(
 }
 
 /// Writes tests in groups.
-#[tactic(auto, using(crate::proofs::GroupRuns::runs_by_members))]
 fn add_groups(
     alloc: Global,
     out: &mut String,
