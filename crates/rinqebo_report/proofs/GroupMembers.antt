@@ -1,5 +1,5 @@
 -- Lists of groups, of which one gets a member more.
-use Rattle.std.proofs.Common.{ℕ, zero, suc, ◌+◌, ◌<◌, List, [], ◌∷◌, ◌++◌, map, length, get_or, slice_set, ◌≡◌, refl, sym, ap, ◌∙◌, arith}
+use Rattle.std.proofs.Common.{ℕ, zero, suc, ◌<◌, List, [], ◌∷◌, ◌++◌, map, length, get_or, slice_set, ◌≡◌, ap, arith}
 use Rattle.rinqebo_report.specs.Groups.{with_member}
 
 module _ {V A : Type 0} (view : V → List A) (x : A) (new : V) where

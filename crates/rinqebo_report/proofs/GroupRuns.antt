@@ -4,7 +4,6 @@ use Rattle.std.proofs.lemmas.Cmp.{nat_list_eq_equiv}
 use Rattle.std.specs.List.{AllByRecursion}
 use Rattle.std.specs.Str.{bytes_eq}
 use Rattle.rinqebo_report.specs.Groups.{reported_text, reported_runs, has_reported, firsts, test_groups, grouped_test_runs, members_runs, group_runs, groups_runs}
-use Rattle.rinqebo_report.specs.Pieces.{Run}
 use Rattle.rinqebo_report.specs.declared.report.TestRows.{TestRows}
 use Rattle.rinqebo_report.proofs.TestGroups.{Begins, firsts_begin}
 

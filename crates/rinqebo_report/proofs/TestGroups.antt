@@ -1,22 +1,15 @@
 -- Things in groups, by a text of each, while one more comes.
-use Rattle.std.proofs.Common.{ℕ, zero, suc, ◌+◌, ◌≤◌, Bool, true, false, cond, not, ◌||◌, List, [], ◌∷◌, ◌++◌, map, filter, fold, length, ◌≡◌, refl, sym, ap, subst, ◌∙◌, true≢false, if◌then◌else◌, arith}
-use Rattle.std.proofs.lemmas.List.{append-nil, append_assoc, map-append, length-map}
+use Rattle.std.proofs.Common.{ℕ, zero, suc, ◌+◌, Bool, true, false, cond, not, ◌||◌, List, [], ◌∷◌, ◌++◌, map, filter, fold, ◌≡◌, refl, sym, ap, subst, ◌∙◌, true≢false, if◌then◌else◌, arith}
+use Rattle.std.proofs.Math.Bool.{or-false, or_assoc}
+use Rattle.std.proofs.lemmas.List.{append-nil, append_assoc, map-append}
 use Rattle.std.proofs.lemmas.List.Elements.{filter-append}
 use Rattle.std.proofs.lemmas.List.Folds.{list_any-append}
-use Rattle.std.proofs.lemmas.List.Sums.{fold_push, prefix_len-le-length}
-use Rattle.std.proofs.lemmas.Map.Keys.{IsDistinct-head, IsDistinct-tail, IsDistinct-cons}
+use Rattle.std.proofs.lemmas.List.Sums.{fold_push}
+use Rattle.std.proofs.lemmas.Map.Keys.{IsDistinct-head, IsDistinct-tail}
 use Rattle.std.specs.Cmp.{IsEquivalence}
 use Rattle.std.specs.List.{list_any, position_or_len, IsDistinct, AllByRecursion}
 use Rattle.indexmap.specs.IndexSet.{insert_key}
 use Rattle.rinqebo_report.specs.Groups.{with_member}
-
-or_false : (b : Bool) → (b || false) ≡ b
-or_false true = refl
-or_false false = refl
-
-or_assoc : (a b c : Bool) → ((a || b) || c) ≡ (a || (b || c))
-or_assoc true b c = refl
-or_assoc false b c = refl
 
 -- nothing passes
 filter_none : {A : Type 0} (p : A → Bool) (xs : List A) → list_any p xs ≡ false → filter p xs ≡ []
@@ -99,18 +92,18 @@ module _ {A K : Type 0} (e : K → K → Bool) (laws : IsEquivalence e) (text : 
           ∙ laws.symm (text t) (text f) in
           let yes : list_any (has x) found ≡ true = (λ j. list_any (λ f. alike f j) found) ∙ there in
           yes ∙ sym (ap (λ b. b || true) yes)
-      known false same there = sym (or_false _)
+      known false same there = sym (or-false _)
 
       by : (b : Bool) → list_any (has (text t)) found ≡ b
           → list_any (has x) (if b then found else found ++ t ∷ []) ≡ (list_any (has x) found || has x t)
       by true is = known (has x t) refl is
       by false is =
           list_any-append (has x) found (t ∷ [])
-          ∙ ap (λ b. list_any (has x) found || b) (or_false (has x t))
+          ∙ ap (λ b. list_any (has x) found || b) (or-false (has x t))
 
   covered : (x : K) (found xs : List A)
       → list_any (has x) (fold with_one found xs) ≡ (list_any (has x) found || list_any (has x) xs)
-  covered x found [] = sym (or_false _)
+  covered x found [] = sym (or-false _)
   covered x found (t ∷ xs) =
       covered x (with_one found t) xs
       ∙ ap (λ b. b || list_any (has x) xs) (with_covered x found t)
