@@ -23,3 +23,4 @@ pub mod OpenFilters
 pub mod Moved
 pub mod Passing
 pub mod Marked
+pub mod BinaryRules
