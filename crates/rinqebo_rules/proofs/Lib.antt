@@ -8,7 +8,7 @@ pub mod ReportedOf
 pub mod Items
 pub mod OriginNodes
 pub mod Copies
-pub mod Listing
+pub mod ListedTests
 pub mod NoneHold
 pub mod RowsMore
 pub mod FilterRules
