@@ -177,8 +177,8 @@ fn is_script_rule_used<F: Filters, S: Specs>(
     }
 }
 
-/// Which script rules hold for some of the tests, after one more. They are numbered on from the first
-/// number.
+/// Which script rules hold for some of the tests, after one more. They are numbered on from the
+/// first number.
 fn script_rules_after<F: Filters, S: Specs>(
     alloc: Global,
     rules: &[EvaluatedScriptRule<'_, F, S>],
@@ -283,8 +283,8 @@ impl UsedRules {
         })
     }
 
-    /// Adds a test, to which a profile gives some settings, by what its binary decides of the rules,
-    /// if that is known.
+    /// Adds a test, to which a profile gives some settings, by what its binary decides of the
+    /// rules, if that is known.
     pub(crate) fn add<'c, F: Filters, S: Specs>(
         &mut self,
         alloc: Global,
