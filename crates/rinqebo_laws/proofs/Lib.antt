@@ -1,3 +1,7 @@
+pub mod Encoded
+pub mod OneLine
+pub mod PageLines
+pub mod GithubLines
 pub mod Lists
 pub mod Files
 pub mod Places
