@@ -30,9 +30,11 @@ note_at : (o : Ordering) (m : Matcher) (names : List (List ℕ)) (k l : List ℕ
     ↔ MeetsEach m names (member l e ms) v)
 note_at Less m names k l d e ms v is h more = (λ met. met.1, λ met. (requires_nothing m names k d _ _ _ v h, met))
 note_at Equal m names k l d e ms v is h more =
-    let there : keyword_of l ≡ an_annotation = ap keyword_of (sym (exact_bytes k l is)) ∙ h in
-    (λ met. (requires_nothing m names l e _ _ _ v there, met.1), λ met.
-        (requires_nothing m names l d _ _ _ v there, met.1))
+    let there : keyword_of l ≡ an_annotation = ap keyword_of (sym (exact_bytes k l is)) ∙ h in (
+      λ met. (requires_nothing m names l e _ _ _ v there, met.1),
+      λ met.
+          (requires_nothing m names l d _ _ _ v there, met.1),
+    )
 note_at Greater m names k l d e ms v is h more = (λ met. (met.0, more.0 met.1), λ met. (met.0, more.1 met.1))
 
 put_note : (m : Matcher) (names : List (List ℕ)) (k : List ℕ) (d : Data) (ms : Members) (v : Node)
@@ -75,7 +77,7 @@ turned false false c = refl
 named_at : (o : Ordering) (j k l : List ℕ) (d e : Data) (ms : Members) → slice_cmp nat_cmp k l ≡ o
     → is_one_of (member_names (put k d ms)) j ≡ (bytes_eq k j || is_one_of (member_names ms) j)
     → is_one_of (member_names
-        (match_ordering o (member k d (member l e ms)) (member l d ms) (member l e (put k d ms)))) j
+    (match_ordering o (member k d (member l e ms)) (member l d ms) (member l e (put k d ms)))) j
     ≡ (bytes_eq k j || is_one_of (member_names (member l e ms)) j)
 named_at Less j k l d e ms is more = refl
 named_at Equal j k l d e ms is more =
@@ -178,7 +180,7 @@ fields_each m (a_field k r f fs) ps es differ apart =
     let rest = fields_each m fs (put (key_text k) d ps) es parts.1 later in
     let here = put_each m (key_text k) d ps es
     (apart (key_text k) (or_left (bytes_eq (key_text k) (key_text k)) (is_key fs (key_text k))
-        (equal_itself (key_text k)))) in (
+    (equal_itself (key_text k)))) in (
       λ h. let valid = rest.0 h in let one = here.0 valid.1 in ((one.0, valid.0), one.1),
       λ h. rest.1 (h.0.1, here.1 (h.0.0, h.1)),
     )

@@ -56,8 +56,13 @@ mutual
         ),
         λ h. let met = fields.1 h.0 in (
           λ name v there no. (form_same m f inside.1 v).1 ((h.1 name v there).1 (sym (names_are_keys name fs) ∙ no)),
-          (valid.1 met.1, (λ name v there. (text_same m _ names (text name)).1 (h.1 name v there).0,
-              (met.0, (refl, tt)))),
+          (
+            valid.1 met.1,
+            (
+              λ name v there. (text_same m _ names (text name)).1 (h.1 name v there).0,
+              (met.0, (refl, tt)),
+            ),
+          ),
         ),
       )
   form_same m (a_map names fs f) once _ = (λ h. absurd (false≢true h.1.1.1.1.0), λ h. absurd h)

@@ -15,11 +15,13 @@ ghost use Rattle.rinqebo_laws.specs.Validation.{Matcher, Validates};
 
 use nextest_shape::law_schema;
 
-/// What is valid by the JSON schema of a shape: exactly what the shape accepts, where the texts of
-/// a pattern are those that match its regular expression. This is so of each shape whose tables
-/// have each key once, and of the shape of files, whatever matches an expression. What the shape
-/// itself accepts is the same for the texts that the readers accept: all of it is valid if each of
-/// these texts matches, and nothing else is valid if no other text matches.
+/// A value is valid by the JSON schema of a shape exactly if the shape accepts it, where the texts
+/// of a pattern are those that match its regular expression, whatever matches one. This holds for
+/// each shape whose tables have each key once (`every`), and for the shape of files (`file`).
+///
+/// For `Accepts` the texts of a pattern are those that the readers accept (`meant`). If each of
+/// them matches its expression, every value that the shape of files accepts is valid (`accepted`).
+/// If no other text matches, no other value is valid (`valid`).
 pub fn law_schema_validates()
     ensures every { (matches : Matcher) → (form : Form) → IsTrue (has_each_key_once form)
         → (value : Node) → Validates matches (schema_data form) value
