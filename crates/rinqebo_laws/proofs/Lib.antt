@@ -19,3 +19,8 @@ pub mod Profiles
 pub mod ProfileRules
 pub mod Agreement
 pub mod WhyAgreement
+pub mod SchemaMembers
+pub mod SchemaValues
+pub mod SchemaTables
+pub mod SchemaValidates
+pub mod Meanings

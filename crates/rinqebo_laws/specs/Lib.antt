@@ -4,3 +4,5 @@ pub mod Rows
 pub mod Reasons
 pub mod Runs
 pub mod Verdicts
+pub mod Validation
+pub mod Matching
