@@ -17,7 +17,7 @@ use Rattle.nextest_sources.specs.Warnings.{Warning, unknown_keys, reserved_profi
 use Rattle.nextest_tables.specs.Written.{Name}
 use Rattle.rinqebo_report.specs.declared.codes.code.Code.{Code}
 use Rattle.rinqebo_objects.specs.Enabling.{test_data}
-use Rattle.rinqebo_objects.specs.Origins.{object_origins_data, optional_origins_data, report_origins_data, run_origins_data, timeout_origins_data, with_bound_origins, with_name_origins, with_output_origins}
+use Rattle.rinqebo_objects.specs.Origins.{object_origins_data, report_origins_data, run_origins_data, timeout_origins_data, with_bound_origins, with_name_origins, with_output_origins}
 use Rattle.rinqebo_objects.specs.Objects.{objects_data, run_data, with_bounds, with_names, with_output}
 use Rattle.rinqebo_objects.specs.Scripts.{Directories, command_data, enabling_data, group_data, setup_script_data, wrapper_script_data, variables_data}
 use Rattle.rinqebo_objects.specs.Used.{Used, wrappers_used}

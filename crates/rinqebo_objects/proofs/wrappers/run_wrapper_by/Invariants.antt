@@ -1,4 +1,4 @@
-use Rattle.std.proofs.Common.{◌≡◌, map, drop, option_and_then}
+use Rattle.std.proofs.Common.{◌≡◌, map, drop}
 use Rattle.nextest_settings.specs.Engines.{test_query_by}
 use Rattle.nextest_settings.specs.Queries.{wrapping_rule}
 use Rattle.nextest_settings.specs.View.{meant_script_rule}
