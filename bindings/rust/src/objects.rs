@@ -250,7 +250,8 @@ pub struct Objects {
     pub groups: Vec<Group>,
     /// The setup scripts that it defines, in the order in which they run.
     pub setup_scripts: Vec<SetupScript>,
-    /// The wrapper scripts that it defines.
+    /// The wrapper scripts that it defines. The document of a run has only those that wrap the run of some test of its
+    /// list, or the listing of some binary of it.
     pub wrappers: Vec<WrapperScript>,
     /// The warnings of the load.
     #[serde(rename = "findings")]

@@ -763,10 +763,12 @@ fn a_run_has_the_objects_of_its_profile() {
             sources.target_directory = target;
             let request = RunRequest { sources: &sources, profile, mode: Mode::Test, list: &list };
             let mut listed = resolve(&request).unwrap().objects;
-            // No rule names a setup script. A session has no list.
+            // No rule names a setup script, and no test of the list is wrapped. A session has no list.
             for script in &mut listed.setup_scripts {
                 assert_eq!(script.tests.take(), Some(Vec::new()));
             }
+            assert!(listed.wrappers.is_empty());
+            listed.wrappers.clone_from(&objects.wrappers);
             // It does not keep where files write values.
             assert!(listed.origins.take().is_some());
             assert_eq!(listed, objects);
@@ -817,11 +819,13 @@ fn a_run_joins_programs_to_the_target_directory_of_its_list() {
         let setup = objects.setup_scripts.into_iter().map(|script| script.command.program);
         setup.chain(objects.wrappers.into_iter().map(|script| script.command.program)).collect()
     };
-    let list = example("list.json");
-    assert_eq!(programs(&list), ["/w/bin/seed", "plain", "/w/target/debug/box"]);
-    assert_eq!(programs(r#"{"rust-suites":{}}"#), ["bin/seed", "plain", "debug/box"]);
-    let list = r#"{"rust-build-meta":{"target-directory":7},"rust-suites":{}}"#;
-    assert_eq!(programs(list), ["bin/seed", "plain", "debug/box"]);
+    // No test of these lists is wrapped.
+    assert_eq!(programs(&example("list.json")), ["/w/bin/seed", "plain"]);
+    assert_eq!(programs(r#"{"rust-suites":{}}"#), ["bin/seed", "plain"]);
+    let suites = r#""rust-suites":{"api":{"package-name":"api","package-id":"api","binary-id":"api","binary-name":"api","kind":"lib","build-platform":"target","testcases":{"boxed::t":{"ignored":false}}}}"#;
+    let with = |target: &str| programs(&format!(r#"{{"rust-build-meta":{{"target-directory":{target}}},{suites}}}"#));
+    assert_eq!(with(r#""/t""#), ["/w/bin/seed", "plain", "/t/debug/box"]);
+    assert_eq!(with("7"), ["bin/seed", "plain", "debug/box"]);
 }
 
 const SETUP: &str = r#"

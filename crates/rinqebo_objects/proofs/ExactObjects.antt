@@ -16,10 +16,11 @@ use Rattle.nextest_sources.specs.Sources.{Source}
 use Rattle.nextest_sources.specs.Warnings.{Warning, unknown_keys, reserved_profiles, deprecated_scripts, empty_sections}
 use Rattle.nextest_tables.specs.Written.{Name}
 use Rattle.rinqebo_report.specs.declared.codes.code.Code.{Code}
-use Rattle.rinqebo_objects.specs.Enabling.{Enabling, enabling_data, test_data}
-use Rattle.rinqebo_objects.specs.Origins.{object_origins_data, optional_origins_data, report_origins_data, run_origins_data, timeout_origins_data, with_bound_origins, with_name_origins, with_output_origins}
+use Rattle.rinqebo_objects.specs.Enabling.{test_data}
+use Rattle.rinqebo_objects.specs.Origins.{object_origins_data, report_origins_data, run_origins_data, timeout_origins_data, with_bound_origins, with_name_origins, with_output_origins}
 use Rattle.rinqebo_objects.specs.Objects.{objects_data, run_data, with_bounds, with_names, with_output}
-use Rattle.rinqebo_objects.specs.Scripts.{Directories, command_data, group_data, setup_script_data, wrapper_script_data, variables_data}
+use Rattle.rinqebo_objects.specs.Scripts.{Directories, command_data, enabling_data, group_data, setup_script_data, wrapper_script_data, variables_data}
+use Rattle.rinqebo_objects.specs.Used.{Used, wrappers_used}
 use Rattle.rinqebo_objects.specs.Values.{global_timeout_data, leak_data, max_fail_data, optional_data, report_data, slow_data, threads_data}
 use Rattle.rinqebo_objects.specs.WarningObjects.{warning_data, warning_of}
 use Rattle.rinqebo_objects.specs.declared.origins.BoundOrigins.{BoundOrigins}
@@ -87,19 +88,19 @@ command ds c =
 listed : (t : Test) → IsExact 1 (test_data t)
 listed t = exact_object 0 (and_member _ (exact_text 0 _) (and_member _ (exact_text 0 _) (no_more 0)))
 
-enabling : (en : Option Enabling) (id : Name) → IsExact 2 (enabling_data en id)
+enabling : (us : Option Used) (id : Name) → IsExact 2 (enabling_data us id)
 enabling None id = exact_null 2
-enabling (Some tests) id = exact_list 1 test_data listed (tests id)
+enabling (Some used) id = exact_list 1 test_data listed (used.enabling id)
 
-setup : (ds : Option Directories) (en : Option Enabling) (e : Name × SetupScriptText)
-    → IsExact 3 (setup_script_data ds en e)
-setup ds en e =
+setup : (ds : Option Directories) (us : Option Used) (e : Name × SetupScriptText)
+    → IsExact 3 (setup_script_data ds us e)
+setup ds us e =
     let junit = exact_object 1 (and_member _ (exact_truth 1 _) (and_member _ (exact_truth 1 _) (no_more 1))) in
     exact_object 2 (and_member _ (exact_truth 2 _) (and_member _ (exact_truth 2 _)
     (and_member _ (command ds e.1.command) (and_member _ (exact_text 2 _)
     (and_member _ junit (and_member _ (optional 2 leak_data (leak 1) e.1.leak_timeout)
     (and_member _ (optional 2 slow_data (slow 1) e.1.slow_timeout)
-    (and_member _ (enabling en e.0) (no_more 2)))))))))
+    (and_member _ (enabling us e.0) (no_more 2)))))))))
 
 wrapper : (ds : Option Directories) (e : List ℕ × WrapperScriptText) → IsExact 3 (wrapper_script_data ds e)
 wrapper ds e =
@@ -196,24 +197,25 @@ object_from o =
     exact_object 6 (and_member _ groups (and_member _ (run_from o.run) (no_more 6)))
 
 objects : (facts : ProfileFacts) (run : RunSettings) (profiles : List Name) (ws : List Warning) (ds : Option Directories)
-    (en : Option Enabling) (os : Option ObjectOrigins) → IsExact 8 (objects_data facts run profiles ws ds en os)
-objects facts run profiles ws ds en os =
+    (us : Option Used) (os : Option ObjectOrigins) → IsExact 8 (objects_data facts run profiles ws ds us os)
+objects facts run profiles ws ds us os =
     exact_object 7 (and_member _ (exact_list 6 warning_data (λ w. deeper 6 (warning w) (omega arith)) ws)
     (and_member _ (exact_list 6 group_data (group 5) facts.groups)
     (and_member _ (optional 7 object_origins_data object_from os)
     (and_member _ (deeper 7 (run_is run profiles) (omega arith))
-    (and_member _ (exact_list 6 (setup_script_data ds en) (λ e. deeper 6 (setup ds en e) (omega arith)) facts.scripts.setup)
-    (and_member _ (exact_list 6 (wrapper_script_data ds) (λ e. deeper 6 (wrapper ds e) (omega arith)) facts.scripts.wrapper)
+    (and_member _ (exact_list 6 (setup_script_data ds us) (λ e. deeper 6 (setup ds us e) (omega arith)) facts.scripts.setup)
+    (and_member _ (exact_list 6 (wrapper_script_data ds) (λ e. deeper 6 (wrapper ds e) (omega arith))
+    (wrappers_used us facts.scripts.wrapper))
     (no_more 7)))))))
 
 pub objects_nest : (facts : ProfileFacts) (run : RunSettings) (profiles : List Name) (ws : List Warning)
-    (ds : Option Directories) (en : Option Enabling) (os : Option ObjectOrigins) (value : Data)
-    → value ≡ objects_data facts run profiles ws ds en os → depth value ≤ 8
-objects_nest facts run profiles ws ds en os value same =
-    subst (λ (d : Data). depth d ≤ 8) (sym same) (objects facts run profiles ws ds en os).nests
+    (ds : Option Directories) (us : Option Used) (os : Option ObjectOrigins) (value : Data)
+    → value ≡ objects_data facts run profiles ws ds us os → depth value ≤ 8
+objects_nest facts run profiles ws ds us os value same =
+    subst (λ (d : Data). depth d ≤ 8) (sym same) (objects facts run profiles ws ds us os).nests
 
 pub objects_are_whole : (facts : ProfileFacts) (run : RunSettings) (profiles : List Name) (ws : List Warning)
-    (ds : Option Directories) (en : Option Enabling) (os : Option ObjectOrigins) (value : Data)
-    → value ≡ objects_data facts run profiles ws ds en os → has_float value ≡ false
-objects_are_whole facts run profiles ws ds en os value same =
-    subst (λ (d : Data). has_float d ≡ false) (sym same) (objects facts run profiles ws ds en os).whole
+    (ds : Option Directories) (us : Option Used) (os : Option ObjectOrigins) (value : Data)
+    → value ≡ objects_data facts run profiles ws ds us os → has_float value ≡ false
+objects_are_whole facts run profiles ws ds us os value same =
+    subst (λ (d : Data). has_float d ≡ false) (sym same) (objects facts run profiles ws ds us os).whole

@@ -1,11 +1,9 @@
 -- Which tests of a list enable a setup script.
-use Rattle.std.specs.Prelude.{Bool, List, Option, codes, filter, option_map}
+use Rattle.std.specs.Prelude.{Bool, List, codes, filter}
 use Rattle.nextest_engines.specs.Engines.{Test}
 use Rattle.nextest_settings.specs.Profile.{EvaluatableModel}
 use Rattle.nextest_settings.specs.Queries.{is_enabled_for, query_in}
 use Rattle.nextest_tables.specs.Written.{Name}
-use Rattle.rinqebo_objects.specs.Values.{optional_data}
-use Rattle.rinqebo_report.specs.Documents.{list_data}
 use Rattle.serde_json.specs.Data.{Data, string, object, no_members, member}
 
 -- the tests that enable each setup script, by its id
@@ -19,18 +17,8 @@ abbrev pub tests_enabling : {M : Type 0} → (M → Test → M → Bool) → Eva
 tests_enabling matches profile tests id =
     filter (λ test. is_enabled_for (query_in matches profile test) profile.script_rules id) tests
 
--- the tests of a list that enable each setup script in a profile, if there is a list
-abbrev pub enabling_in : {M : Type 0} → (M → Test → M → Bool) → EvaluatableModel M
-    → Option (List Test) → Option Enabling
-enabling_in matches profile listed = option_map (tests_enabling matches profile) listed
-
 -- a test by its binary and its name
 abbrev pub test_data : Test → Data
 test_data test =
     object (member (codes "binary-id") (string test.binary.binary_id)
     (member (codes "name") (string test.name) no_members))
-
--- the tests that enable the setup script of an id, or null
-abbrev pub enabling_data : Option Enabling → Name → Data
-enabling_data enabling id =
-    optional_data (λ (tests : Enabling). list_data test_data (tests id)) enabling

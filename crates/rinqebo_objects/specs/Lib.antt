@@ -1,5 +1,6 @@
 pub mod Values
 pub mod Enabling
+pub mod Used
 pub mod Scripts
 pub mod Origins
 pub mod Objects

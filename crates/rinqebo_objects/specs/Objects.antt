@@ -8,9 +8,9 @@ use Rattle.nextest_settings.specs.Settings.{global_timeout_in}
 use Rattle.nextest_settings.specs.Values.{nearest}
 use Rattle.nextest_sources.specs.Warnings.{Warning}
 use Rattle.nextest_tables.specs.Written.{Name}
-use Rattle.rinqebo_objects.specs.Enabling.{Enabling}
 use Rattle.rinqebo_objects.specs.Origins.{optional_origins_data}
 use Rattle.rinqebo_objects.specs.Scripts.{Directories, group_data, setup_script_data, wrapper_script_data}
+use Rattle.rinqebo_objects.specs.Used.{Used, wrappers_used}
 use Rattle.rinqebo_objects.specs.Values.{global_timeout_data, max_fail_data, optional_data, report_data, threads_data}
 use Rattle.rinqebo_objects.specs.WarningObjects.{warnings_data}
 use Rattle.rinqebo_objects.specs.declared.origins.ObjectOrigins.{ObjectOrigins}
@@ -70,23 +70,24 @@ run_data run profiles =
 -- the objects of a profile, with the values that it has for a whole run, and with where these and
 -- its groups come from
 abbrev pub objects_data : ProfileFacts → RunSettings → List Name → List Warning → Option Directories
-    → Option Enabling → Option ObjectOrigins → Data
-objects_data facts run profiles warnings directories enabling origins =
+    → Option Used → Option ObjectOrigins → Data
+objects_data facts run profiles warnings directories used origins =
     object (member (codes "findings") (warnings_data warnings)
     (member (codes "groups") (list_data group_data facts.groups)
     (member (codes "origins") (optional_origins_data origins)
     (member (codes "run") (run_data run profiles)
     (member (codes "setup-scripts")
-    (list_data (setup_script_data directories enabling) facts.scripts.setup)
-    (member (codes "wrappers") (list_data (wrapper_script_data directories) facts.scripts.wrapper)
+    (list_data (setup_script_data directories used) facts.scripts.setup)
+    (member (codes "wrappers")
+    (list_data (wrapper_script_data directories) (wrappers_used used facts.scripts.wrapper))
     no_members))))))
 
 -- A value is the objects of a profile with a default filter of this text, among profiles of these
--- names, with the warnings of the load, with the tests of a list that enable each setup script, and
--- with where the values of the run and the groups come from, if that is given.
+-- names, with the warnings of the load, with what a list uses of its scripts, and with where the
+-- values of the run and the groups come from, if that is given.
 pub record AreObjectsOf (facts : ProfileFacts) (filter : List ℕ) (profiles : List Name)
-    (warnings : List Warning) (directories : Option Directories) (enabling : Option Enabling)
+    (warnings : List Warning) (directories : Option Directories) (used : Option Used)
     (origins : Option ObjectOrigins) (value : Data) : Type 0 where
   pub run : RunSettings
   pub is_run : IsRunOf facts filter run
-  pub same : value ≡ objects_data facts run profiles warnings directories enabling origins
+  pub same : value ≡ objects_data facts run profiles warnings directories used origins

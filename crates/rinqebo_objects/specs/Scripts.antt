@@ -9,7 +9,8 @@ use Rattle.nextest_scripts.specs.declared.setup_script.SetupScriptJunitConfig.{S
 use Rattle.nextest_scripts.specs.declared.wrapper_script.WrapperScriptTargetRunner.{WrapperScriptTargetRunner}
 use Rattle.nextest_scripts.specs.declared.wrapper_script.WrapperScriptTargetRunner.TheVariants as runners
 use Rattle.nextest_tables.specs.Written.{Name}
-use Rattle.rinqebo_objects.specs.Enabling.{Enabling, enabling_data}
+use Rattle.rinqebo_objects.specs.Enabling.{test_data}
+use Rattle.rinqebo_objects.specs.Used.{Used}
 use Rattle.rinqebo_objects.specs.Values.{leak_data, optional_data, slow_data, threads_data}
 use Rattle.rinqebo_objects.specs.declared.scripts.Directories.{Directories as Directories'}
 use Rattle.rinqebo_report.specs.Documents.{list_data}
@@ -60,9 +61,14 @@ stored_data stored =
     object (member (codes "store-failure-output") (boolean stored.store_failure_output)
     (member (codes "store-success-output") (boolean stored.store_success_output) no_members))
 
+-- the tests of a list that enable the setup script of an id; null without a list
+abbrev pub enabling_data : Option Used → Name → Data
+enabling_data used id =
+    optional_data (λ (used : Used). list_data test_data (used.enabling id)) used
+
 -- a setup script, with the tests of a list that enable it
-abbrev pub setup_script_data : Option Directories → Option Enabling → Name × SetupScriptText → Data
-setup_script_data directories enabling entry =
+abbrev pub setup_script_data : Option Directories → Option Used → Name × SetupScriptText → Data
+setup_script_data directories used entry =
     object (member (codes "capture-stderr") (boolean entry.1.capture_stderr)
     (member (codes "capture-stdout") (boolean entry.1.capture_stdout)
     (member (codes "command") (command_data directories entry.1.command)
@@ -70,7 +76,7 @@ setup_script_data directories enabling entry =
     (member (codes "junit") (stored_data entry.1.junit)
     (member (codes "leak-timeout") (optional_data leak_data entry.1.leak_timeout)
     (member (codes "slow-timeout") (optional_data slow_data entry.1.slow_timeout)
-    (member (codes "tests") (enabling_data enabling entry.0)
+    (member (codes "tests") (enabling_data used entry.0)
     no_members))))))))
 
 -- the word for what a wrapper makes of a target runner

@@ -1,5 +1,5 @@
 -- Values of a profile as JSON, spelled as files spell them.
-use Rattle.std.specs.Prelude.{ℕ, List, Option, None, Some, codes}
+use Rattle.std.specs.Prelude.{ℕ, Option, None, Some, codes}
 use Rattle.nextest_elements.specs.LeakTimeout.{leak_result_text}
 use Rattle.nextest_elements.specs.declared.global_timeout.GlobalTimeout.{GlobalTimeout}
 use Rattle.nextest_elements.specs.declared.junit.JunitConfig.{JunitConfig}

@@ -1,5 +1,5 @@
 //! Which tests of a list enable a setup script.
-ghost use Rattle.std.specs.Prelude.{◌≡◌, ◌&&◌, IfOk, map, option_map};
+ghost use Rattle.std.specs.Prelude.{◌≡◌, ◌&&◌, IfOk, map};
 ghost use Rattle.serde_json.specs.View.{view};
 ghost use Rattle.nextest_engines.specs.Engines.{test_view};
 ghost use Rattle.nextest_settings.specs.Profiles.Meaning.{profile_meaning};
@@ -9,9 +9,12 @@ ghost use Rattle.nextest_settings.specs.Engines.{test_query_by};
 ghost use Rattle.nextest_settings.specs.Queries.{is_enabled_for, query_in};
 ghost use Rattle.nextest_settings.specs.View.{meant_script_rule};
 ghost use Rattle.nextest_tree.specs.Schema.{is_one_of};
-ghost use Rattle.rinqebo_objects.specs.Enabling.{enabling_data, enabling_in, test_data, tests_enabling};
+ghost use Rattle.rinqebo_objects.specs.Enabling.{test_data, tests_enabling};
+ghost use Rattle.rinqebo_objects.specs.Scripts.{enabling_data};
+ghost use Rattle.rinqebo_objects.specs.Used.{listed_view, used_in};
 ghost use Rattle.rinqebo_report.specs.Documents.{list_data};
 
+use crate::listed::Listed;
 use nextest_engines::{EvalContext, Filters, Specs, TestQuery};
 use nextest_scripts::ScriptId;
 use nextest_settings::{EvaluatableProfile, EvaluatedScriptRule, matches_test};
@@ -45,7 +48,7 @@ fn names_script(setup: &[ScriptId], id: &ScriptId) -> bool
 
 /// Whether a script rule holds for a test and is wanted. Its filter is evaluated where its
 /// platforms hold and it is wanted.
-fn holds_for_test<F: Filters, S: Specs>(
+pub(crate) fn holds_for_test<F: Filters, S: Specs>(
     rule: &EvaluatedScriptRule<'_, F, S>,
     is_wanted: bool,
     query: &TestQuery<'_>,
@@ -124,16 +127,15 @@ pub(crate) fn optional_tests_json<F: Filters, S: Specs>(
     alloc: Global,
     profile: &EvaluatableProfile<'_, F, S>,
     id: &ScriptId,
-    tests: Option<&[TestQuery<'_>]>,
+    list: Option<Listed<'_>>,
     tally: &mut F::Tally,
 ) -> Result<Value, AllocError>
     ensures { let profile = profile_meaning F.meaning profile.now in
-        let listed = option_map (λ tests. map test_view tests.now) tests.entry in
-        IfOk result (λ value. view value
-        ≡ enabling_data (enabling_in F.holds profile listed) (script_text id.now)) }
+        let used = used_in F.holds F.holds_binary profile (listed_view list.entry) in
+        IfOk result (λ value. view value ≡ enabling_data used (script_text id.now)) }
 {
-    match tests {
-        Some(tests) => tests_json(alloc, profile, id, tests, tally),
+    match list {
+        Some(listed) => tests_json(alloc, profile, id, listed.tests, tally),
         None => Ok(Value::Null),
     }
 }

@@ -3,19 +3,19 @@ ghost use Rattle.std.specs.Prelude.{◌≡◌, IfOk, None, map, option_map, stri
 ghost use Rattle.serde_json.specs.Data.{Data};
 ghost use Rattle.serde_json.specs.View.{view};
 ghost use Rattle.serde_json.specs.Written.{compact_text};
-ghost use Rattle.nextest_engines.specs.Engines.{test_view};
 ghost use Rattle.nextest_settings.specs.Profiles.Meaning.{profile_meaning};
 ghost use Rattle.nextest_sources.specs.WarningsView.{warnings_view};
-ghost use Rattle.rinqebo_objects.specs.Enabling.{enabling_in};
 ghost use Rattle.rinqebo_objects.specs.Objects.{AreObjectsOf, objects_data};
 ghost use Rattle.rinqebo_objects.specs.Scripts.{directories_view};
+ghost use Rattle.rinqebo_objects.specs.Used.{listed_view, used_in};
 
 use crate::groups::groups_json;
+use crate::listed::Listed;
 use crate::origins::{ObjectOrigins, optional_origins_json};
 use crate::run::{RunSettings, run_json};
 use crate::scripts::{Directories, setup_scripts_json, wrapper_scripts_json};
 use crate::warnings::warnings_json;
-use nextest_engines::{Filters, Specs, TestQuery};
+use nextest_engines::{Filters, Specs};
 use nextest_settings::EvaluatableProfile;
 use nextest_sources::DefaultConfigWarnings;
 use rinqebo_report::ExactValue;
@@ -41,17 +41,17 @@ fn objects_with<F: Filters, S: Specs>(
     profile: &EvaluatableProfile<'_, F, S>,
     run: &RunSettings<'_>,
     around: Surroundings<'_>,
-    tests: Option<&[TestQuery<'_>]>,
+    list: Option<Listed<'_>>,
     tally: &mut F::Tally,
 ) -> Result<Value, AllocError>
     ensures { let profiles = map string_bytes around.entry.profiles.now in
         let warnings = warnings_view around.entry.warnings.now in
         let directories = directories_view around.entry.directories in
-        let listed = option_map (λ tests. map test_view tests.now) tests.entry in
-        let enabling = enabling_in F.holds (profile_meaning F.meaning profile.now) listed in
+        let meant = profile_meaning F.meaning profile.now in
+        let used = used_in F.holds F.holds_binary meant (listed_view list.entry) in
         let origins = option_map (λ origins. origins.now) around.entry.origins in
         IfOk result (λ value. view value
-        ≡ objects_data profile.now.facts run.now profiles warnings directories enabling origins) }
+        ≡ objects_data profile.now.facts run.now profiles warnings directories used origins) }
 {
     let scripts = profile.script_config();
     let findings = warnings_json(alloc, around.warnings)?;
@@ -62,10 +62,17 @@ fn objects_with<F: Filters, S: Specs>(
         around.directories,
         profile,
         &scripts.setup,
-        tests,
+        list,
         tally,
     )?;
-    let wrappers = wrapper_scripts_json(alloc, around.directories, &scripts.wrapper)?;
+    let wrappers = wrapper_scripts_json(
+        alloc,
+        around.directories,
+        profile,
+        &scripts.wrapper,
+        list,
+        tally,
+    )?;
     let origins = optional_origins_json(alloc, around.origins)?;
     json!(in alloc; {
         "run": run,
@@ -79,26 +86,27 @@ fn objects_with<F: Filters, S: Specs>(
 
 /// The objects of a profile: an object with the members `run`, `groups`, `setup-scripts`,
 /// `wrappers`, `findings` and `origins`. If the directories are given, programs are joined to them.
-/// If the tests of a list are given, each setup script has those of them that enable it. If it is
+/// If a list is given, each setup script has those of its tests that enable it, and the wrappers are
+/// those that the list uses: they wrap the run of some test or the listing of some binary. If it is
 /// not given where the values of the run and the groups come from, `origins` is null.
 pub fn objects_json<F: Filters, S: Specs>(
     alloc: Global,
     profile: &EvaluatableProfile<'_, F, S>,
     around: Surroundings<'_>,
-    tests: Option<&[TestQuery<'_>]>,
+    list: Option<Listed<'_>>,
     tally: &mut F::Tally,
 ) -> Result<ExactValue, AllocError>
     ensures { let profiles = map string_bytes around.entry.profiles.now in
         let warnings = warnings_view around.entry.warnings.now in
         let directories = directories_view around.entry.directories in
-        let listed = option_map (λ tests. map test_view tests.now) tests.entry in
-        let enabling = enabling_in F.holds (profile_meaning F.meaning profile.now) listed in
+        let meant = profile_meaning F.meaning profile.now in
+        let used = used_in F.holds F.holds_binary meant (listed_view list.entry) in
         let origins = option_map (λ origins. origins.now) around.entry.origins in
         IfOk result (λ objects. AreObjectsOf profile.now.facts profile.now.default_filter.text
-        profiles warnings directories enabling origins (view objects.value)) }
+        profiles warnings directories used origins (view objects.value)) }
 {
     let run = RunSettings::of(alloc, profile)?;
-    let value = objects_with(alloc, profile, &run, around, tests, tally)?;
+    let value = objects_with(alloc, profile, &run, around, list, tally)?;
     Ok(ExactValue { value })
 }
 

@@ -1,19 +1,20 @@
 //! Scripts and their commands as JSON.
-ghost use Rattle.std.specs.Prelude.{◌≡◌, IfOk, map, option_map, string_bytes};
+ghost use Rattle.std.specs.Prelude.{◌≡◌, IfOk, map, string_bytes};
 ghost use Rattle.serde_json.specs.View.{view};
-ghost use Rattle.nextest_engines.specs.Engines.{test_view};
 ghost use Rattle.nextest_settings.specs.Profiles.Meaning.{profile_meaning};
 ghost use Rattle.nextest_scripts.specs.EnvMap.{env_view};
 ghost use Rattle.nextest_scripts.specs.ScriptId.{script_text};
 ghost use Rattle.nextest_scripts.specs.ScriptTexts.{command_view, setup_script_view, wrapper_script_view};
-ghost use Rattle.rinqebo_objects.specs.Enabling.{enabling_in};
 ghost use Rattle.rinqebo_objects.specs.Scripts.{command_data, directories_view, program_in, relative_word, runner_word, setup_script_data, stored_data, variables_data, wrapper_script_data};
+ghost use Rattle.rinqebo_objects.specs.Used.{listed_view, used_in, wrappers_used};
 ghost use Rattle.rinqebo_report.specs.Documents.{list_data};
 
 use crate::enabling::optional_tests_json;
+use crate::listed::Listed;
 use crate::values::{names_json, optional_leak_json, optional_slow_json};
+use crate::wrappers::WrapperChoice;
 use indexmap::IndexMap;
-use nextest_engines::{Filters, Specs, TestQuery};
+use nextest_engines::{Filters, Specs};
 use nextest_scripts::{
     ScriptCommand, ScriptCommandEnvMap, ScriptCommandRelativeTo, ScriptId, SetupScriptConfig,
     SetupScriptJunitConfig, WrapperScriptConfig, WrapperScriptTargetRunner,
@@ -119,16 +120,16 @@ fn setup_script_json<F: Filters, S: Specs>(
     profile: &EvaluatableProfile<'_, F, S>,
     id: &ScriptId,
     script: &SetupScriptConfig,
-    tests: Option<&[TestQuery<'_>]>,
+    list: Option<Listed<'_>>,
     tally: &mut F::Tally,
 ) -> Result<Value, AllocError>
     ensures { let directories = directories_view directories.entry in
-        let listed = option_map (λ tests. map test_view tests.now) tests.entry in
-        let enabling = enabling_in F.holds (profile_meaning F.meaning profile.now) listed in
-        IfOk result (λ value. view value ≡ setup_script_data directories enabling
+        let profile = profile_meaning F.meaning profile.now in
+        let used = used_in F.holds F.holds_binary profile (listed_view list.entry) in
+        IfOk result (λ value. view value ≡ setup_script_data directories used
         (script_text id.now, setup_script_view script.now)) }
 {
-    let tests = optional_tests_json(alloc, profile, id, tests, tally)?;
+    let tests = optional_tests_json(alloc, profile, id, list, tally)?;
     let command = command_json(alloc, directories, &script.command)?;
     let slow_timeout = optional_slow_json(alloc, script.slow_timeout)?;
     let leak_timeout = optional_leak_json(alloc, script.leak_timeout)?;
@@ -152,21 +153,21 @@ pub(crate) fn setup_scripts_json<F: Filters, S: Specs>(
     directories: Option<Directories<'_>>,
     profile: &EvaluatableProfile<'_, F, S>,
     scripts: &IndexMap<ScriptId, SetupScriptConfig>,
-    tests: Option<&[TestQuery<'_>]>,
+    list: Option<Listed<'_>>,
     tally: &mut F::Tally,
 ) -> Result<Value, AllocError>
     ensures { let directories = directories_view directories.entry in
-        let listed = option_map (λ tests. map test_view tests.now) tests.entry in
-        let enabling = enabling_in F.holds (profile_meaning F.meaning profile.now) listed in
-        IfOk result (λ value. view value ≡ list_data (setup_script_data directories enabling)
+        let profile = profile_meaning F.meaning profile.now in
+        let used = used_in F.holds F.holds_binary profile (listed_view list.entry) in
+        IfOk result (λ value. view value ≡ list_data (setup_script_data directories used)
         (map (λ e. (script_text e.0, setup_script_view e.1)) scripts.now.entries)) }
 {
-    let mut list = Vec::new(alloc);
+    let mut entries = Vec::new(alloc);
     for (id, script) in scripts.iter() {
-        let entry = setup_script_json(alloc, directories, profile, id, script, tests, tally)?;
-        list.push(entry)?;
+        let entry = setup_script_json(alloc, directories, profile, id, script, list, tally)?;
+        entries.push(entry)?;
     }
-    Ok(Value::Array(list))
+    Ok(Value::Array(entries))
 }
 
 /// A wrapper script.
@@ -187,19 +188,29 @@ fn wrapper_script_json(
     })
 }
 
-/// Wrapper scripts.
-pub(crate) fn wrapper_scripts_json(
+/// Wrapper scripts, in the order in which they are defined: those that a list uses in a profile;
+/// all without a list.
+pub(crate) fn wrapper_scripts_json<F: Filters, S: Specs>(
     alloc: Global,
     directories: Option<Directories<'_>>,
+    profile: &EvaluatableProfile<'_, F, S>,
     scripts: &IndexMap<ScriptId, WrapperScriptConfig>,
+    list: Option<Listed<'_>>,
+    tally: &mut F::Tally,
 ) -> Result<Value, AllocError>
-    ensures { IfOk result (λ value. view value
-        ≡ list_data (wrapper_script_data (directories_view directories.entry))
-        (map (λ e. (script_text e.0, wrapper_script_view e.1)) scripts.now.entries)) }
+    ensures { let directories = directories_view directories.entry in
+        let profile = profile_meaning F.meaning profile.now in
+        let used = used_in F.holds F.holds_binary profile (listed_view list.entry) in
+        IfOk result (λ value. view value ≡ list_data (wrapper_script_data directories)
+        (wrappers_used used
+        (map (λ e. (script_text e.0, wrapper_script_view e.1)) scripts.now.entries))) }
 {
-    let mut list = Vec::new(alloc);
+    let choice = WrapperChoice::of(alloc, profile, list, tally)?;
+    let mut entries = Vec::new(alloc);
     for (id, script) in scripts.iter() {
-        list.push(wrapper_script_json(alloc, directories, id, script)?)?;
+        if choice.contains(id) {
+            entries.push(wrapper_script_json(alloc, directories, id, script)?)?;
+        }
     }
-    Ok(Value::Array(list))
+    Ok(Value::Array(entries))
 }

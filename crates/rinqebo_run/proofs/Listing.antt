@@ -128,7 +128,8 @@ pub listed_here : (session : Session) (loaded : Loaded (Filterset FieldMatcher) 
     → AreScriptsReported (readings session.engines.filters).matches_test (readings session.engines.filters).matches_binary
     (profile_meaning (marks_view names_of) on) (all_tests (list_view session.tests))
     (all_binaries (list_view session.tests)) scripts
-    → IfSome objects (λ exact. AreObjectsListed (readings session.engines.filters).matches_test (basis_of session names)
+    → IfSome objects (λ exact. AreObjectsListed (readings session.engines.filters).matches_test
+    (readings session.engines.filters).matches_binary (basis_of session names)
     (profile_meaning (marks_view names_of) on) (string_bytes session.gathered.now.paths.workspace_root)
     (list_view session.tests) (names_in loaded.config.profiles) (view exact.value))
     → listed_by session loaded name mode asked tests unused scripts objects

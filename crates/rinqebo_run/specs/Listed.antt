@@ -17,9 +17,9 @@ use Rattle.nextest_sources.specs.Warnings.{Warning}
 use Rattle.nextest_tables.specs.FileTexts.{names_in, IsIn}
 use Rattle.nextest_tables.specs.Written.{Name}
 use Rattle.rinqebo_request.specs.declared.files.layers.Layer.{Layer}
-use Rattle.rinqebo_objects.specs.Enabling.{enabling_in}
 use Rattle.rinqebo_objects.specs.Objects.{AreObjectsOf}
 use Rattle.rinqebo_objects.specs.Scripts.{Directories}
+use Rattle.rinqebo_objects.specs.Used.{Listed, used_in}
 use Rattle.rinqebo_objects.specs.declared.origins.ObjectOrigins.{ObjectOrigins}
 use Rattle.rinqebo_objects.specs.WarningObjects.{warnings_data}
 use Rattle.rinqebo_rules.specs.Rows.{AreTestsReported}
@@ -78,19 +78,23 @@ directories_for root list = option_map (λ target. record {
   target = target;
 }) list.target_directory
 
+-- the tests and the binaries of a list
+abbrev pub listed_in : TestList → Listed
+listed_in list = record { tests = all_tests list; binaries = all_binaries list }
+
 -- A value is the objects of a profile, among profiles of these names, with some warnings
--- (`HasObjects` says which), with the tests of a list that enable each setup script, and with where
--- the values of the run and the groups come from. Its programs are joined to the root and to the
--- target directory of the list, if that has one.
-pub record AreObjectsListed {M : Type 0} (matches : M → Test → M → Bool) (basis : Basis)
-    (profile : EvaluatableModel M) (root : List ℕ) (list : TestList) (profiles : List Name)
-    (value : Data) : Type 0 where
+-- (`HasObjects` says which), with what a list uses of the scripts, and with where the values of the
+-- run and the groups come from. Its programs are joined to the root and to the target directory of
+-- the list, if that has one.
+pub record AreObjectsListed {M : Type 0} (matches : M → Test → M → Bool)
+    (matches_binary : BinaryMatch M) (basis : Basis) (profile : EvaluatableModel M) (root : List ℕ)
+    (list : TestList) (profiles : List Name) (value : Data) : Type 0 where
   pub warnings : List Warning
   pub origins : ObjectOrigins
   pub are_origins : AreObjectOrigins basis profile origins
   pub are : AreObjectsOf profile.facts profile.default_filter.text profiles warnings
-      (directories_for root list) (enabling_in matches profile (Some (all_tests list)))
-      (Some origins) value
+      (directories_for root list)
+      (used_in matches matches_binary profile (Some (listed_in list))) (Some origins) value
 
 -- A report lists tests as the profile of a name gives them settings on the platforms of a build,
 -- with the origins of these in the layers of the files and in the chain of the profile, the rules
@@ -111,7 +115,7 @@ pub record AreTestsOf {M K P : Type 0} (meets : K → P → Option Bool) (matche
       profile unused
   pub scripts_reported : AreScriptsReported matches matches_binary profile (all_tests list)
       (all_binaries list) scripts
-  pub objects_reported : IfSome objects (λ exact. AreObjectsListed matches
+  pub objects_reported : IfSome objects (λ exact. AreObjectsListed matches matches_binary
       (record { layers = layers; chain = chain }) profile configured.root list
       (names_in configured.config.profiles) (view exact.value))
 

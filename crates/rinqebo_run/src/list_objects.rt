@@ -2,7 +2,7 @@
 ghost use Rattle.std.specs.Prelude.{◌≡◌, IfOk, Some, map, option_map, string_bytes};
 ghost use Rattle.filter_language.specs.Filtersets.{marks_view};
 ghost use Rattle.filter_engine.specs.Compiling.{names_of};
-ghost use Rattle.filter_engine.specs.Engine.{filter_holds};
+ghost use Rattle.filter_engine.specs.Engine.{filter_holds, filter_holds_binary};
 ghost use Rattle.filter_inputs.specs.Lists.ListView.{list_view};
 ghost use Rattle.nextest_inheritance.specs.View.{borrowed_view};
 ghost use Rattle.nextest_settings.specs.Profiles.Meaning.{profile_meaning};
@@ -18,7 +18,7 @@ use crate::object_origins::object_origins;
 use filter_engine::NextestTally;
 use nextest_config::{DefaultConfigWarnings, MergedProfile};
 use rinqebo_load::{Config, Session};
-use rinqebo_objects::{Directories, ObjectOrigins, Surroundings, objects_json};
+use rinqebo_objects::{Directories, Listed, ObjectOrigins, Surroundings, objects_json};
 use rinqebo_report::ExactValue;
 use std::alloc::{AllocError, Global};
 use std::collections::BTreeMap;
@@ -91,9 +91,10 @@ fn surroundings<'a>(
     }
 }
 
-/// The objects of a profile of a configuration, with the warnings of its load, with the tests of the
-/// list of a session that enable each setup script, and with where the values of the run and the
-/// groups come from. Programs are joined to the root and to the target directory of the list, if
+/// The objects of a profile of a configuration, with the warnings of its load, with what the list of
+/// a session uses of its scripts, and with where the values of the run and the groups come from:
+/// each setup script has the tests that enable it, and the wrappers are those of tests and binaries
+/// of the list. Programs are joined to the root and to the target directory of the list, if
 /// that has one.
 pub fn objects_of_list(
     alloc: Global,
@@ -104,7 +105,7 @@ pub fn objects_of_list(
     chain: &[&str],
 ) -> Result<ExactValue, AllocError>
     ensures objects { let profile = profile_meaning (marks_view names_of) profile.now in
-        IfOk result (λ objects. AreObjectsListed filter_holds
+        IfOk result (λ objects. AreObjectsListed filter_holds filter_holds_binary
         (basis_of session.now (borrowed_view chain.now)) profile
         (string_bytes session.now.gathered.now.paths.workspace_root)
         (list_view session.now.tests) (names_in config.now.config.profiles)
@@ -114,9 +115,14 @@ pub fn objects_of_list(
 {
     let names = profile_names(alloc, config)?;
     let tests = session.tests.queries(alloc)?;
+    let binaries = session.tests.binary_queries(alloc)?;
     let origins = object_origins(alloc, &session.layers, chain, profile)?;
     let mut tally = NextestTally::new();
     let around = surroundings(&names, &*warnings, directories_of(session), &origins);
-    let objects = objects_json(alloc, profile, around, Some(&tests), &mut tally)?;
+    let list = Listed {
+        tests: &tests,
+        binaries: &binaries,
+    };
+    let objects = objects_json(alloc, profile, around, Some(list), &mut tally)?;
     Ok(objects)
 }

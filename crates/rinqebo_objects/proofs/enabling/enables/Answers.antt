@@ -1,10 +1,8 @@
-use Rattle.std.proofs.Common.{◌≡◌, ◌∙◌, List, ap, map, sym}
+use Rattle.std.proofs.Common.{◌≡◌, ◌∙◌, ap, map, sym}
 use Rattle.nextest_engines.specs.Engines.{test_view}
 use Rattle.nextest_settings.proofs.KnowsScripts.{fused}
 use Rattle.nextest_settings.specs.Profiles.Meaning.{profile_meaning}
-use Rattle.nextest_rules.specs.Rules.{ScriptRuleUse}
 use Rattle.nextest_scripts.specs.ScriptId.{script_text}
-use Rattle.nextest_settings.specs.Platforms.{EvaluatedRule}
 use Rattle.nextest_settings.specs.Queries.{is_enabled_for, query_in, test_query}
 use Rattle.nextest_settings.specs.View.{evaluated_script_rule_meaning, evaluated_script_rule_view, meant_script_rule}
 use Rattle.rinqebo_objects.proofs.enabling.enables.Goals as goal

@@ -1,10 +1,9 @@
 use Rattle.std.proofs.Common.{map, option_map, string_bytes}
-use Rattle.nextest_engines.specs.Engines.{test_view}
 use Rattle.nextest_settings.specs.Profiles.Meaning.{profile_meaning}
 use Rattle.nextest_sources.specs.WarningsView.{warnings_view}
 use Rattle.serde_json.specs.View.{view}
-use Rattle.rinqebo_objects.specs.Enabling.{enabling_in}
 use Rattle.rinqebo_objects.specs.Scripts.{directories_view}
+use Rattle.rinqebo_objects.specs.Used.{listed_view, used_in}
 use Rattle.rinqebo_objects.proofs.ExactObjects.{objects_nest, objects_are_whole}
 use Rattle.rinqebo_objects.proofs.objects.objects_json.Goals as goal
 
@@ -16,11 +15,11 @@ invariant_of-result g c =
     let profiles = map string_bytes c.args.around.profiles.now in
     let warnings = warnings_view c.args.around.warnings.now in
     let directories = directories_view c.args.around.directories in
-    let listed = option_map (λ tests. map test_view tests.now) c.args.tests in
-    let enabling = enabling_in F.holds (profile_meaning F.meaning c.args.profile.now) listed in
+    let meant = profile_meaning F.meaning c.args.profile.now in
+    let used = used_in F.holds F.holds_binary meant (listed_view c.args.list) in
     let origins = option_map (λ origins. origins.now) c.args.around.origins in
     let value = view c.in_ok-value.value in
     record {
-      nests = objects_nest facts run profiles warnings directories enabling origins value c.in_ok-value.ensures;
-      whole = objects_are_whole facts run profiles warnings directories enabling origins value c.in_ok-value.ensures;
+      nests = objects_nest facts run profiles warnings directories used origins value c.in_ok-value.ensures;
+      whole = objects_are_whole facts run profiles warnings directories used origins value c.in_ok-value.ensures;
     }

@@ -1,18 +1,17 @@
-use Rattle.std.proofs.Common.{◌≡◌, ◌++◌, map, option_map}
-use Rattle.nextest_engines.specs.Engines.{test_view}
+use Rattle.std.proofs.Common.{◌≡◌, ◌++◌, map}
 use Rattle.nextest_settings.specs.Profiles.Meaning.{profile_meaning}
 use Rattle.nextest_scripts.specs.ScriptId.{script_text}
 use Rattle.nextest_scripts.specs.ScriptTexts.{setup_script_view}
 use Rattle.serde_json.specs.View.{view}
-use Rattle.rinqebo_objects.specs.Enabling.{enabling_in}
 use Rattle.rinqebo_objects.specs.Scripts.{directories_view, setup_script_data}
+use Rattle.rinqebo_objects.specs.Used.{listed_view, used_in}
 use Rattle.rinqebo_objects.proofs.scripts.setup_scripts_json.Given as goal
 
 -- the scripts so far, with those that are left
 abbrev pub invariant-loop-id : goal.invariant-loop-id
 invariant-loop-id g l =
-    let listed = option_map (λ tests. map test_view tests.now) l.tests in
-    let enabling = enabling_in g.F.Filters.holds (profile_meaning g.F.Filters.meaning l.profile) listed in
-    let told = setup_script_data (directories_view l.directories) enabling in
-    map view l.list.items ++ map told (map (λ e. (script_text e.0, setup_script_view e.1)) l.id-iterator)
+    let F = g.F.Filters in
+    let used = used_in F.holds F.holds_binary (profile_meaning F.meaning l.profile) (listed_view l.list) in
+    let told = setup_script_data (directories_view l.directories) used in
+    map view l.entries.items ++ map told (map (λ e. (script_text e.0, setup_script_view e.1)) l.id-iterator)
     ≡ map told (map (λ e. (script_text e.0, setup_script_view e.1)) l.scripts.entries)

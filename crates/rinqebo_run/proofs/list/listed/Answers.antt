@@ -1,7 +1,7 @@
 use Rattle.std.proofs.Common.{Some, ap, string_bytes, subst}
 use Rattle.filter_language.specs.Filtersets.{marks_view}
 use Rattle.filter_engine.specs.Compiling.{names_of}
-use Rattle.filter_engine.specs.Engine.{filter_holds}
+use Rattle.filter_engine.specs.Engine.{filter_holds, filter_holds_binary}
 use Rattle.filter_inputs.specs.Lists.ListView.{list_view}
 use Rattle.nextest_inheritance.specs.View.{borrowed_view}
 use Rattle.nextest_settings.specs.Profiles.Meaning.{profile_meaning}
@@ -19,7 +19,7 @@ profile_on-requires g c = c.requires
 pub returns-clause-told : goal.returns-clause-told
 returns-clause-told g c =
     let session = c.args.session.now in
-    let objects = subst (λ names. AreObjectsListed filter_holds (basis_of session names)
+    let objects = subst (λ names. AreObjectsListed filter_holds filter_holds_binary (basis_of session names)
     (profile_meaning (marks_view names_of) c.in_ok-on.on) (string_bytes session.gathered.now.paths.workspace_root)
     (list_view session.tests) (names_in c.args.config.now.config.profiles) (view c.in_ok-objects.objects.value))
     (ap borrowed_view c.deref-3.ensures.value) c.in_ok-objects.ensures.objects in
