@@ -32,6 +32,7 @@ mod refusing;
 mod run;
 mod show;
 mod status;
+mod streams;
 mod unset;
 mod why;
 mod why_runs;
