@@ -4,8 +4,8 @@ use Rattle.rinqebo_run.proofs.Stops.{passed_stop, stops_before, stops_so}
 use Rattle.rinqebo_run.specs.Written.{AreFirstBy, HasPage, WritesPage}
 use Rattle.rinqebo_run.proofs.list_text.write_by.Goals as goal
 
-pub returns-in_err-clause-err : goal.returns-in_err-clause-err
-returns-in_err-clause-err g c =
+pub returns-in_err-head-clause-err : goal.returns-in_err-head-clause-err
+returns-in_err-head-clause-err g c =
     let list = c.args.list.now in
     let old = g.O.Write.contents c.args.out.now in
     passed_stop _ c.from_residual.result c.in_err-head.field-0.0 c.from_residual.ensures.1

@@ -28,7 +28,7 @@ returns-in_err-count-clause-err g c =
     let First : Option (List ℕ) → Type 0 =
     AreFirstWritten (basis_of session chain) filter_holds list.mode profile list.settings.now
     (list_tests (list_view session.tests)) self.head.now self.paper old in
-    passed_stop _ c.from_residual-in_err-count.result fault c.from_residual-in_err-count.ensures.1
+    passed_stop _ c.from_residual.result fault c.from_residual.ensures.1
     (stops_so (λ _. ⊥) (λ _. ⊥) First First (λ _. ⊥)
     (WritesRest session chain profile list.mode list.settings.now self.head.now self.paper old) old new fault
     (λ _ none. none) (λ _ first. first) (λ _ none. absurd none) c.in_err-count.ensures.err)
