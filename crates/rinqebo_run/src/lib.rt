@@ -29,6 +29,7 @@ mod profile;
 mod progress;
 mod read_files;
 mod refusing;
+mod reporting;
 mod run;
 mod show;
 mod status;
