@@ -12,7 +12,7 @@ use Rattle.filter_language.specs.Filtersets.{marks_view}
 use Rattle.filter_language.specs.declared.filterset.Filterset.{Filterset}
 use Rattle.nextest_elements.specs.declared.run_mode.NextestRunMode.{NextestRunMode}
 use Rattle.filter_engine.specs.Compiling.{names_of}
-use Rattle.filter_engine.specs.Engine.{Filter, filter_holds}
+use Rattle.filter_engine.specs.Engine.{Filter, filter_holds, filter_holds_binary}
 use Rattle.filter_engine.specs.declared.compiling.FieldMatcher.{FieldMatcher}
 use Rattle.nextest_inheritance.specs.Parents.{parents_in}
 use Rattle.nextest_load.specs.Config.{ConfigModel, config_parents}
@@ -26,6 +26,9 @@ use Rattle.nextest_tables.specs.Written.{Name}
 use Rattle.rinqebo_request.specs.declared.files.gathering.Gathered.{Gathered}
 use Rattle.rinqebo_rules.specs.TestOrigins.{Basis}
 use Rattle.rinqebo_rules.specs.Rows.{AreTestsReported, IsTestReported}
+use Rattle.rinqebo_rules.specs.Scripts.{AreScriptsReported}
+use Rattle.rinqebo_rules.specs.Unused.{AreUnusedIn}
+use Rattle.rinqebo_rules.specs.declared.unused.UnusedRules.{UnusedRules}
 use Rattle.rinqebo_report.specs.Headers.{list_head_runs}
 use Rattle.rinqebo_report.specs.Pages.{list_end_runs, list_runs, listed_runs}
 use Rattle.rinqebo_report.specs.Pieces.{painted, page_text}
@@ -46,7 +49,7 @@ use Rattle.rinqebo_request.specs.declared.request.Request.{Request}
 use Rattle.platform_language.specs.Expressions.{Spec, spec_view}
 use Rattle.platform_language.specs.declared.expression.TargetSpec.{TargetSpec}
 use Rattle.filter_inputs.specs.Lists.ListView.{list_test_view, list_view}
-use Rattle.filter_inputs.specs.Lists.Lists.{ListTest, list_tests}
+use Rattle.filter_inputs.specs.Lists.Lists.{ListTest, all_binaries, all_tests, list_tests}
 use Rattle.filter_inputs.specs.declared.lists.list.ListedTest.{ListedTest}
 use Rattle.rinqebo_run.proofs.Documents.{text_or_json}
 use Rattle.rinqebo_run.proofs.Listing.{given_means, listed_here, tells_tests, zip_mapped}
@@ -58,7 +61,7 @@ use Rattle.rinqebo_run.specs.Begun.{tests_text, AreFirstOf, AreFirstWritten, Are
 use Rattle.rinqebo_load.specs.Accepted.{AreAccepted}
 use Rattle.rinqebo_rules.specs.Conditions.{is_met_by}
 use Rattle.rinqebo_run.specs.Listed.{IsProfileOn, ReportsTests}
-use Rattle.rinqebo_run.specs.ListedBy.{basis_of, read_by}
+use Rattle.rinqebo_run.specs.ListedBy.{basis_of, places_of, read_by}
 use Rattle.rinqebo_run.specs.Requested.{IsRequestedOf}
 use Rattle.rinqebo_run.specs.Refused.{Fails, IsFailureIn, IsReportedBy}
 use Rattle.rinqebo_run.specs.LookedUp.{AreLookedUp, IsFailureOn, IsLookedUp}
@@ -66,7 +69,7 @@ use Rattle.rinqebo_load.specs.SessionOf.{IsSessionOf}
 use Rattle.rinqebo_load.specs.Sessions.{files_view, readings, IsLoadedFrom}
 use Rattle.rinqebo_run.specs.Statuses.{IsAnswerStatus, IsStatus}
 use Rattle.rinqebo_findings.specs.Reports.{IsReportOf}
-use Rattle.rinqebo_run.specs.Written.{AreFirstBy, AsksList, HasPage, IsStopStatus, StopsList, WritesList, WritesPage, WritesRest}
+use Rattle.rinqebo_run.specs.Written.{AreFirstBy, AsksList, EndsPage, HasPage, IsStopStatus, StopsList, WritesList, WritesPage, WritesRest}
 use Rattle.rinqebo_load.specs.declared.failure.Failure.{Failure}
 use Rattle.rinqebo_load.specs.declared.failure.Failure.TheVariants as failures
 use Rattle.rinqebo_run.specs.declared.list_fault.ListFault.{ListFault}
@@ -187,6 +190,32 @@ first_here session loaded name mode asked on chain header head paper old mid new
       (tests_text head paper first.tests) opening first.page;
 }
 
+-- the tests went out, and then what is behind them
+pub rest_here : (session : Session) (chain : List Name) (profile : EvaluatableModel Filter) (mode : NextestRunMode)
+    (asked : RequestedSettings) (head : Report) (paper : Paper) (rules : UnusedRules) (scripts : ListScripts) (count : ℕ)
+    (old tested new : Option (List ℕ))
+    → AreWritten (basis_of session chain) filter_holds mode profile asked (list_tests (list_view session.tests)) head paper
+    old tested
+    → count ≡ length (list_tests (list_view session.tests)) → count < 2 ^ 63
+    → AreUnusedIn (map (query_in filter_holds profile) (all_tests (list_view session.tests))) profile rules
+    → AreScriptsReported filter_holds filter_holds_binary profile (all_tests (list_view session.tests))
+    (all_binaries (list_view session.tests)) scripts
+    → EndsPage session head paper count (places_of rules) tested new
+    → WritesRest session chain profile mode asked head paper old new
+rest_here session chain profile mode asked head paper rules scripts count old tested new written counted fits unused
+    scripted end = record {
+      tested = tested;
+      tests = written;
+      count = count;
+      counted = counted;
+      fits = fits;
+      rules = rules;
+      are_unused = unused;
+      scripts = scripts;
+      are_scripts = scripted;
+      end = end;
+    }
+
 -- the page of a list, where the tests and what is behind them followed the header
 pub page_here : (session : Session) (loaded : Loaded (Filterset FieldMatcher) TargetSpec) (name : Name)
     (mode : NextestRunMode) (asked : RequestedSettings) (on : EvaluatableModel (Filterset FieldMatcher))
@@ -239,6 +268,14 @@ begins_list session profile mode asked paper loaded old new accepted from there 
       known = subst (λ config. IsIn (names_in config.profiles) profile) from.means there;
       first = subst First from.means first;
     }
+
+-- the page of a list went out under the header of a report of a session
+pub has_page : (session : Session) (loaded : Loaded (Filterset FieldMatcher) TargetSpec) (profile : Name)
+    (mode : NextestRunMode) (asked : RequestedSettings) (head : Report) (paper : Paper) (old new : Option (List ℕ))
+    → IsReportOf session head → WritesPage session loaded profile mode asked head paper old new
+    → HasPage session loaded profile mode asked paper old new
+has_page session loaded profile mode asked head paper old new about writes =
+    record { head = head; about = about; writes = writes }
 
 -- a list of values in the room of another one
 vec_of : {A B Z : Type 0} (room : Vec B Z) (xs : List A) → length xs < 2 ^ 63 → Vec A Z

@@ -386,6 +386,9 @@ pub fn print_schema<O: Write, E: Write>(alloc: Global, out: &mut O, err: &mut E)
     ensures page { result ≡ 0 → Appends (O.contents out.old) (O.contents out.new)
         (compact_text (schema_data file_form) ++ 10 ∷ []) }
     ensures quiet { result ≡ 5 → O.contents out.new ≡ O.contents out.old }
+    ensures begun { (O.contents out.new ≡ O.contents out.old)
+        ⊎ AppendsPrefix (O.contents out.old) (O.contents out.new)
+        (compact_text (schema_data file_form) ++ 10 ∷ []) }
 {
     match schema_page(alloc) {
         Ok(text) => print_text(text.as_str(), Status::Success as u8, out),
@@ -399,6 +402,8 @@ pub fn print_document_schema<O: Write>(out: &mut O) -> u8
     ensures status { (result ≡ 0) ⊎ (result ≡ 6) }
     ensures page { (result ≡ 6)
         ⊎ Appends (O.contents out.old) (O.contents out.new)
+        (flat_map (λ part. part.now) DOCUMENT_SCHEMA) }
+    ensures begun { AppendsPrefix (O.contents out.old) (O.contents out.new)
         (flat_map (λ part. part.now) DOCUMENT_SCHEMA) }
 {
     print_texts(&DOCUMENT_SCHEMA, Status::Success as u8, out)

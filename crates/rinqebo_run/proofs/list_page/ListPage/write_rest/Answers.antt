@@ -6,7 +6,7 @@ use Rattle.filter_engine.specs.Engine.{filter_holds}
 use Rattle.nextest_inheritance.specs.View.{borrowed_view}
 use Rattle.nextest_settings.specs.Profiles.Meaning.{profile_meaning}
 use Rattle.rinqebo_run.proofs.Stops.{first_or_none, passed_stop, stops_behind, stops_so}
-use Rattle.rinqebo_run.proofs.Writing.{all_first}
+use Rattle.rinqebo_run.proofs.Writing.{all_first, rest_here}
 use Rattle.rinqebo_run.specs.Begun.{tests_text, AreFirstWritten}
 use Rattle.rinqebo_run.specs.ListedBy.{basis_of, places_of}
 use Rattle.rinqebo_run.specs.Written.{EndsPage, WritesRest}
@@ -46,19 +46,13 @@ returns-in_err-scripts_of_list-clause-err g c =
 
 pub returns-clause-ok : goal.returns-clause-ok
 returns-clause-ok g c =
+    let self = c.args.self.now in
+    let rows = c.in_ok-count.ensures in
     on_ok_weaker c.write_end.result
-    (λ end. record {
-      tested = g.O.Write.contents c.write_rows.new.out;
-      tests = c.in_ok-count.ensures.tests;
-      count = c.in_ok-count.count;
-      counted = c.in_ok-count.ensures.count;
-      fits = c.in_ok-count.ensures.fits;
-      rules = c.in_ok-count.rules;
-      are_unused = c.in_ok-count.ensures.unused;
-      scripts = c.in_ok-scripts_of_list.field-0;
-      are_scripts = c.in_ok-scripts_of_list.ensures;
-      end = end;
-    })
+    (rest_here self.session.now (borrowed_view c.args.chain.now) (profile_meaning (marks_view names_of) c.args.on.now)
+    self.list.mode self.list.settings.now self.head.now self.paper c.in_ok-count.rules c.in_ok-scripts_of_list.field-0
+    c.in_ok-count.count (g.O.Write.contents c.args.out.now) (g.O.Write.contents c.write_rows.new.out)
+    (g.O.Write.contents c.write_end.new.out) rows.tests rows.count rows.fits rows.unused c.in_ok-scripts_of_list.ensures)
     c.write_end.ensures.ok
 
 pub returns-clause-err : goal.returns-clause-err
@@ -69,7 +63,7 @@ returns-clause-err g c =
     let chain = borrowed_view c.args.chain.now in
     let profile = profile_meaning (marks_view names_of) c.args.on.now in
     let tests = list_tests (list_view session.tests) in
-    let written = c.in_ok-count.ensures.tests in
+    let rows = c.in_ok-count.ensures in
     let old = g.O.Write.contents c.args.out.now in
     let mid = g.O.Write.contents c.write_rows.new.out in
     let new = g.O.Write.contents c.write_end.new.out in
@@ -77,23 +71,15 @@ returns-clause-err g c =
     AreFirstWritten (basis_of session chain) filter_holds list.mode profile list.settings.now tests self.head.now
     self.paper old in
     let all : First mid =
-    all_first (basis_of session chain) list.mode profile list.settings.now self.head.now self.paper tests old mid written in
+    all_first (basis_of session chain) list.mode profile list.settings.now self.head.now self.paper tests old mid
+    rows.tests in
     IfErr-weaker c.write_end.result _ _
     (λ fault. stops_behind (λ _. ⊥) First
     (EndsPage session self.head.now self.paper c.in_ok-count.count (places_of c.in_ok-count.rules) mid)
     (WritesRest session chain profile list.mode list.settings.now self.head.now self.paper old) old mid new fault
-    (tests_text self.head.now self.paper written.tests, written.page)
+    (tests_text self.head.now self.paper rows.tests.tests, rows.tests.page)
     (first_or_none (λ _. ⊥) First mid (λ _ none. absurd none) (λ whole same. subst First (sym same) all))
-    (λ whole end. inr (record {
-      tested = mid;
-      tests = written;
-      count = c.in_ok-count.count;
-      counted = c.in_ok-count.ensures.count;
-      fits = c.in_ok-count.ensures.fits;
-      rules = c.in_ok-count.rules;
-      are_unused = c.in_ok-count.ensures.unused;
-      scripts = c.in_ok-scripts_of_list.field-0;
-      are_scripts = c.in_ok-scripts_of_list.ensures;
-      end = end;
-    })))
+    (λ whole end. inr (rest_here session chain profile list.mode list.settings.now self.head.now self.paper
+    c.in_ok-count.rules c.in_ok-scripts_of_list.field-0 c.in_ok-count.count old mid whole rows.tests rows.count rows.fits
+    rows.unused c.in_ok-scripts_of_list.ensures end)))
     c.write_end.ensures.err
