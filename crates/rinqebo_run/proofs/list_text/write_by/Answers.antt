@@ -5,6 +5,9 @@ use Rattle.rinqebo_run.proofs.Writing.{has_page}
 use Rattle.rinqebo_run.specs.Written.{AreFirstBy, HasPage, WritesPage}
 use Rattle.rinqebo_run.proofs.list_text.write_by.Goals as goal
 
+pub write-written-requires : goal.write-written-requires
+write-written-requires g c = c.requires
+
 pub returns-in_err-head-clause-err : goal.returns-in_err-head-clause-err
 returns-in_err-head-clause-err g c =
     let list = c.args.list.now in

@@ -8,11 +8,11 @@ use Rattle.rinqebo_run.proofs.list_page.ListPage.write.Goals as goal
 pub profile_on-requires : goal.profile_on-requires
 profile_on-requires g c = c.requires
 
-pub write_on-requires : goal.write_on-requires
-write_on-requires g c =
+pub write_on-requires-clause-is_chain : goal.write_on-requires-clause-is_chain
+write_on-requires-clause-is_chain g c =
     let self = c.args.self.now in
-    record {
-      is_chain = subst (IsChainAndDefault (parents_in (config_parents self.config.now.config)) self.list.profile.now)
-          (sym (ap borrowed_view c.deref.ensures.value)) (c.in_ok-chain.ensures c.requires);
-      is_profile = c.in_ok-on.ensures;
-    }
+    subst (IsChainAndDefault (parents_in (config_parents self.config.now.config)) self.list.profile.now)
+    (sym (ap borrowed_view c.deref.ensures.value)) (c.in_ok-chain.ensures c.requires)
+
+pub write_on-requires-clause-is_profile : goal.write_on-requires-clause-is_profile
+write_on-requires-clause-is_profile g c = c.in_ok-on.ensures
