@@ -1,9 +1,14 @@
 //! The document of a run, which the library writes in JSON.
 
 use crate::objects::Objects;
+use crate::settings::{Group, Report, TestSettings};
 use crate::{Error, Mode, Platform};
+use serde::de::DeserializeOwned;
 use serde::{Deserialize, Serialize};
 use std::collections::BTreeMap;
+
+/// The name of the group that has no limit of its own.
+const GLOBAL_GROUP: &str = "@global";
 
 /// What a run returns: all settings of each test, the scripts of the list, and the objects of the profile.
 #[derive(Clone, Debug, PartialEq, Serialize, Deserialize)]
@@ -35,6 +40,59 @@ pub struct Document {
     /// What a runner needs of the profile beside the settings of tests. Programs are joined to the target directory of
     /// the list.
     pub objects: Objects,
+}
+
+impl Document {
+    /// Returns the settings of a test of the document, with the types of those of a session.
+    pub fn settings(&self, test: &TestRow) -> Result<TestSettings, Error> {
+        let slow_timeout = match self.mode {
+            Mode::Test => "slow-timeout",
+            Mode::Benchmark => "bench.slow-timeout",
+        };
+        Ok(TestSettings {
+            priority: test.value("priority")?,
+            threads_required: test.value("threads-required")?,
+            run_wrapper: test.value("run-wrapper")?,
+            run_extra_args: test.value("run-extra-args")?,
+            retries: test.value("retries")?,
+            flaky_result: test.value("flaky-result")?,
+            slow_timeout: test.value(slow_timeout)?,
+            leak_timeout: test.value("leak-timeout")?,
+            test_group: self.group(test.value("test-group")?)?,
+            success_output: test.value("success-output")?,
+            failure_output: test.value("failure-output")?,
+            report: Report {
+                store_success_output: test.value("junit.store-success-output")?,
+                store_failure_output: test.value("junit.store-failure-output")?,
+                lists_skipped: test.is_word("junit.report-skipped", "all")?,
+                marks_flaky_fail_as_success: test.is_word("junit.flaky-fail-status", "success")?,
+            },
+        })
+    }
+
+    /// The group of this name, unless it is the global one.
+    fn group(&self, name: String) -> Result<Option<Group>, Error> {
+        if name == GLOBAL_GROUP {
+            return Ok(None);
+        }
+        match self.objects.groups.iter().find(|group| group.name == name) {
+            Some(group) => Ok(Some(group.clone())),
+            None => Err(Error::Unreadable(format!("no group `{name}`"))),
+        }
+    }
+}
+
+impl TestRow {
+    /// The value of a setting.
+    fn value<T: DeserializeOwned>(&self, key: &str) -> Result<T, Error> {
+        let setting = self.settings.get(key).ok_or_else(|| Error::Unreadable(format!("no setting `{key}`")))?;
+        T::deserialize(&setting.value).map_err(|error| Error::Unreadable(format!("`{key}`: {error}")))
+    }
+
+    /// Whether the value of a setting is this word.
+    fn is_word(&self, key: &str, word: &str) -> Result<bool, Error> {
+        Ok(self.value::<String>(key)? == word)
+    }
 }
 
 /// The script that wraps a binary while it lists its tests.
@@ -83,7 +141,8 @@ pub struct TestRow {
     pub platform: Platform,
     /// Whether it runs.
     pub runs: Runs,
-    /// Its settings, by their keys in files.
+    /// Its settings, by their keys in files, with where they come from. [`Document::settings`] returns their values with
+    /// types.
     pub settings: BTreeMap<String, Setting>,
 }
 

@@ -430,8 +430,12 @@ impl Profile<'_> {
                 lists_skipped: numbers.junit_report_skipped == 1,
                 marks_flaky_fail_as_success: numbers.junit_flaky_fail_status == 1,
             },
-            in_default_filter: numbers.in_default_filter == 1,
         })
+    }
+
+    /// Returns whether the profile's default filter matches a test.
+    pub fn in_default_filter(&self, test: &Test<'_>) -> Result<bool, Error> {
+        Ok(self.numbers(test)?.in_default_filter == 1)
     }
 }
 

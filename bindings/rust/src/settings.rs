@@ -5,34 +5,28 @@ use serde::{Deserialize, Serialize};
 use std::time::Duration;
 
 /// How long delays between tries are.
-#[derive(Clone, Copy, Debug, PartialEq, Eq, Serialize)]
-#[serde(rename_all = "kebab-case")]
+#[derive(Clone, Copy, Debug, PartialEq, Eq)]
 pub enum Backoff {
     /// Every delay is the same.
     Fixed,
     /// Each is longer than the one before, up to a longest one, if it is given.
-    #[serde(rename_all = "kebab-case")]
-    Exponential {
-        #[serde(serialize_with = "spelled::optional_duration::serialize")]
-        max_delay: Option<Duration>,
-    },
+    Exponential { max_delay: Option<Duration> },
 }
 
 /// How often a test that fails is retried.
-#[derive(Clone, Copy, Debug, PartialEq, Eq, Serialize)]
-#[serde(rename_all = "kebab-case")]
+#[derive(Clone, Copy, Debug, PartialEq, Eq, Serialize, Deserialize)]
+#[serde(try_from = "spelled::RetriesOr", into = "spelled::RetriesOr")]
 #[non_exhaustive]
 pub struct Retries {
     pub count: u32,
-    #[serde(with = "spelled::duration")]
     pub delay: Duration,
     pub jitter: bool,
     pub backoff: Backoff,
 }
 
 /// How many threads a test takes.
-#[derive(Clone, Copy, Debug, PartialEq, Eq, Serialize)]
-#[serde(rename_all = "kebab-case")]
+#[derive(Clone, Copy, Debug, PartialEq, Eq, Serialize, Deserialize)]
+#[serde(try_from = "spelled::CountOr", into = "spelled::CountOr")]
 pub enum Threads {
     Count(u64),
     NumCpus,
@@ -92,7 +86,7 @@ pub struct Group {
 }
 
 /// When the output of a test is shown.
-#[derive(Clone, Copy, Debug, PartialEq, Eq, Serialize)]
+#[derive(Clone, Copy, Debug, PartialEq, Eq, Serialize, Deserialize)]
 #[serde(rename_all = "kebab-case")]
 pub enum Display {
     Immediate,
@@ -102,7 +96,7 @@ pub enum Display {
 }
 
 /// What the report has of a test.
-#[derive(Clone, Copy, Debug, PartialEq, Eq, Serialize)]
+#[derive(Clone, Copy, Debug, PartialEq, Eq, Serialize, Deserialize)]
 #[serde(rename_all = "kebab-case")]
 #[non_exhaustive]
 pub struct Report {
@@ -114,8 +108,8 @@ pub struct Report {
     pub marks_flaky_fail_as_success: bool,
 }
 
-/// The settings of a test.
-#[derive(Clone, Debug, PartialEq, Eq, Serialize)]
+/// The fifteen settings of a test, in a session and in the document of a run.
+#[derive(Clone, Debug, PartialEq, Eq, Serialize, Deserialize)]
 #[serde(rename_all = "kebab-case")]
 #[non_exhaustive]
 pub struct TestSettings {
@@ -136,8 +130,6 @@ pub struct TestSettings {
     pub success_output: Display,
     pub failure_output: Display,
     pub report: Report,
-    /// Whether the profile's default filter matches the test.
-    pub in_default_filter: bool,
 }
 
 const NANOSECONDS: u128 = 1_000_000_000;

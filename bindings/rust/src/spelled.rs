@@ -1,8 +1,14 @@
 //! Values as files and documents spell them.
 
 use crate::objects::MaxFail;
-use crate::settings::GroupThreads;
+use crate::settings::{Backoff, GroupThreads, Retries, Threads};
 use serde::{Deserialize, Serialize};
+use std::time::Duration;
+
+const NUM_CPUS: &str = "num-cpus";
+const NUM_TEST_THREADS: &str = "num-test-threads";
+const FIXED: &str = "fixed";
+const EXPONENTIAL: &str = "exponential";
 
 /// A number, or a word.
 #[derive(Deserialize, Serialize)]
@@ -30,6 +36,82 @@ impl From<MaxFail> for CountOr {
     }
 }
 
+impl TryFrom<CountOr> for Threads {
+    type Error = String;
+
+    fn try_from(spelled: CountOr) -> Result<Threads, String> {
+        match spelled {
+            CountOr::Count(count) => Ok(Threads::Count(count)),
+            CountOr::Word(word) if word == NUM_CPUS => Ok(Threads::NumCpus),
+            CountOr::Word(word) if word == NUM_TEST_THREADS => Ok(Threads::NumTestThreads),
+            CountOr::Word(word) => Err(format!("no number of threads: {word}")),
+        }
+    }
+}
+
+impl From<Threads> for CountOr {
+    fn from(threads: Threads) -> CountOr {
+        match threads {
+            Threads::Count(count) => CountOr::Count(count),
+            Threads::NumCpus => CountOr::Word(NUM_CPUS.to_owned()),
+            Threads::NumTestThreads => CountOr::Word(NUM_TEST_THREADS.to_owned()),
+        }
+    }
+}
+
+/// A count of retries, or a policy.
+#[derive(Deserialize, Serialize)]
+#[serde(untagged)]
+pub enum RetriesOr {
+    Count(u32),
+    Table(RetryTable),
+}
+
+/// A policy of retries.
+#[derive(Deserialize, Serialize)]
+#[serde(rename_all = "kebab-case")]
+pub struct RetryTable {
+    backoff: String,
+    count: u32,
+    #[serde(with = "duration")]
+    delay: Duration,
+    #[serde(default, skip_serializing_if = "std::ops::Not::not")]
+    jitter: bool,
+    #[serde(default, with = "optional_duration", skip_serializing_if = "Option::is_none")]
+    max_delay: Option<Duration>,
+}
+
+impl TryFrom<RetriesOr> for Retries {
+    type Error = String;
+
+    fn try_from(spelled: RetriesOr) -> Result<Retries, String> {
+        let table = match spelled {
+            RetriesOr::Table(table) => table,
+            RetriesOr::Count(count) => {
+                return Ok(Retries { count, delay: Duration::ZERO, jitter: false, backoff: Backoff::Fixed })
+            }
+        };
+        let backoff = match table.backoff.as_str() {
+            FIXED => Backoff::Fixed,
+            EXPONENTIAL => Backoff::Exponential { max_delay: table.max_delay },
+            other => return Err(format!("no backoff: {other}")),
+        };
+        Ok(Retries { count: table.count, delay: table.delay, jitter: table.jitter, backoff })
+    }
+}
+
+impl From<Retries> for RetriesOr {
+    fn from(retries: Retries) -> RetriesOr {
+        let (backoff, max_delay) = match retries.backoff {
+            Backoff::Fixed if retries.delay.is_zero() && !retries.jitter => return RetriesOr::Count(retries.count),
+            Backoff::Fixed => (FIXED, None),
+            Backoff::Exponential { max_delay } => (EXPONENTIAL, max_delay),
+        };
+        let Retries { count, delay, jitter, .. } = retries;
+        RetriesOr::Table(RetryTable { backoff: backoff.to_owned(), count, delay, jitter, max_delay })
+    }
+}
+
 /// A number that may be negative, or a word.
 #[derive(Deserialize, Serialize)]
 #[serde(untagged)]
@@ -51,7 +133,7 @@ impl From<GroupThreads> for ThreadsOr {
     fn from(threads: GroupThreads) -> ThreadsOr {
         match threads {
             GroupThreads::Count(count) => ThreadsOr::Count(count),
-            GroupThreads::NumCpus => ThreadsOr::Word("num-cpus".to_owned()),
+            GroupThreads::NumCpus => ThreadsOr::Word(NUM_CPUS.to_owned()),
         }
     }
 }
@@ -105,7 +187,7 @@ pub mod duration {
 
 /// Durations that may be missing.
 pub mod optional_duration {
-    use serde::Serializer;
+    use serde::{Deserializer, Serializer};
     use std::time::Duration;
 
     pub fn serialize<S: Serializer>(duration: &Option<Duration>, serializer: S) -> Result<S::Ok, S::Error> {
@@ -113,6 +195,10 @@ pub mod optional_duration {
             Some(duration) => super::duration::serialize(duration, serializer),
             None => serializer.serialize_none(),
         }
+    }
+
+    pub fn deserialize<'de, D: Deserializer<'de>>(deserializer: D) -> Result<Option<Duration>, D::Error> {
+        super::duration::deserialize(deserializer).map(Some)
     }
 }
 

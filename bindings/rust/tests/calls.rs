@@ -92,7 +92,7 @@ fn settings_are_those_of_the_first_rules() {
     assert_eq!(settings.success_output, Display::Never);
     assert_eq!(settings.failure_output, Display::ImmediateFinal);
     assert!(settings.report.store_success_output && settings.report.store_failure_output);
-    assert!(settings.in_default_filter);
+    assert!(profile.in_default_filter(&test_of("api", "db::reads")).unwrap());
 }
 
 #[test]
@@ -104,7 +104,7 @@ fn what_filters_ask_of_a_test_counts() {
     let settings = profile.settings(&test).unwrap();
     assert_eq!(settings.test_group.as_ref().map(group_of), Some(("net", GroupThreads::NumCpus)));
     assert_eq!(settings.threads_required, Threads::Count(3));
-    assert!(!settings.in_default_filter);
+    assert!(!profile.in_default_filter(&test).unwrap());
     let test = named.of_target("lib", "it").of_package("api");
     assert_eq!(profile.settings(&test).unwrap().test_group, None);
     let benchmark = test.run_as(Mode::Benchmark);
@@ -469,14 +469,14 @@ fn a_run_tells_the_scripts_of_its_list() {
     assert!(document.list_wrappers.is_empty());
 }
 
-/// The priority and the retries of each test, by a run and by an open profile.
-#[test]
-fn a_run_and_a_session_agree() {
-    let document = answer("ci", Mode::Test).unwrap();
-    let config = Config::load(&real()).unwrap();
-    let profile = config.profile("ci").unwrap();
-    let list: serde_json::Value = serde_json::from_str(&example("list.json")).unwrap();
-    let mut count = 0;
+/// Compares the settings of each test of `examples/real`, by a run and by an open profile.
+fn agree(sources: &Sources, profile: &str, mode: Mode) {
+    let list = example("list.json");
+    let document = resolve(&RunRequest { sources, profile, mode, list: &list }).unwrap();
+    let config = Config::load(sources).unwrap();
+    let profile = config.profile(profile).unwrap();
+    let list: serde_json::Value = serde_json::from_str(&list).unwrap();
+    assert!(document.tests.len() > 3);
     for row in &document.tests {
         let suites = list["rust-suites"].as_object().unwrap().values();
         let suite = suites.into_iter().find(|suite| suite["binary-id"] == json!(row.binary_id)).unwrap();
@@ -485,15 +485,52 @@ fn a_run_and_a_session_agree() {
             .in_binary(&row.binary_id)
             .of_target(text("kind"), text("binary-name"))
             .of_package(text("package-id"))
-            .on(row.platform);
-        let settings = profile.settings(&test).unwrap();
-        assert_eq!(row.settings["priority"].value, json!(settings.priority));
-        let retries = &row.settings["retries"].value;
-        assert_eq!(*retries.get("count").unwrap_or(retries), json!(settings.retries.count));
-        count += 1;
+            .on(row.platform)
+            .run_as(mode);
+        assert_eq!(document.settings(row).unwrap(), profile.settings(&test).unwrap());
+        assert_eq!(row.runs.value, profile.in_default_filter(&test).unwrap() && !row.runs.ignored);
     }
-    assert!(count > 3);
 }
+
+#[test]
+fn a_run_and_a_session_agree() {
+    let wide = format!("{FILE}{WIDE}");
+    for text in [FILE, &wide, RUNNER, SCRIPTS, &example(".config/nextest.toml")] {
+        let mut sources = real();
+        sources.file = File::of("/w/.config/nextest.toml", text);
+        let config = Config::load(&sources).unwrap();
+        for profile in config.profiles().unwrap() {
+            agree(&sources, &profile, Mode::Test);
+            agree(&sources, &profile, Mode::Benchmark);
+        }
+    }
+}
+
+/// Values that the other files do not have.
+const WIDE: &str = r#"
+[profile.wide]
+inherits = "ci"
+threads-required = "num-cpus"
+flaky-result = "fail"
+success-output = "immediate"
+slow-timeout = { period = "1m 30s", grace-period = "0s" }
+bench.slow-timeout = { period = "30y", terminate-after = 1 }
+junit = { path = "x.xml", report-skipped = "all", flaky-fail-status = "success", store-failure-output = false }
+[[profile.wide.overrides]]
+filter = "test(adds)"
+retries = { backoff = "fixed", count = 4294967295, delay = "7ns", jitter = true }
+failure-output = "never"
+priority = 100
+run-extra-args = ["", "a b", "\u00e9"]
+leak-timeout = { period = "18446744073709551615s", result = "pass" }
+[[profile.wide.overrides]]
+filter = "test(db::)"
+retries = { backoff = "exponential", count = 2, delay = "1500ms" }
+[[profile.wide.overrides]]
+filter = "test(smoke::)"
+retries = { backoff = "fixed", count = 0, delay = "0s", jitter = true }
+test-group = "net"
+"#;
 
 #[test]
 fn a_run_that_is_refused_tells_its_findings() {

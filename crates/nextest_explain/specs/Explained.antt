@@ -8,9 +8,9 @@ use Rattle.nextest_engines.specs.Readings.{Readings}
 use Rattle.nextest_rules.specs.KnownView.{features_view}
 use Rattle.nextest_sources.specs.Inputs.{LoadInputs}
 use Rattle.nextest_sources.specs.Sources.{Outcome}
-use Rattle.toy_engines.specs.FilterValues.{Filter, match_all}
-use Rattle.toy_engines.specs.Filters.{filter_read, filter_matches, filter_holds_binary, filter_leaves}
-use Rattle.toy_engines.specs.Platforms.{Platforms, spec_read, meets}
+use Rattle.nextest_explain.specs.Engines.FilterValues.{Filter, match_all}
+use Rattle.nextest_explain.specs.Engines.Filters.{filter_read, filter_matches, filter_holds_binary, filter_leaves}
+use Rattle.nextest_explain.specs.Engines.Platforms.{Platforms, spec_read, meets}
 use Rattle.nextest_explain.specs.Files.{AreFilesOf}
 use Rattle.nextest_explain.specs.Lines.{lines_telling}
 use Rattle.nextest_explain.specs.Words.{IsCommandOf}

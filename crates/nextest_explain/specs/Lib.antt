@@ -5,3 +5,4 @@ pub mod Files
 pub mod Words
 pub mod Taking
 pub mod Explained
+pub mod Engines

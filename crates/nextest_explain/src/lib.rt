@@ -1,8 +1,9 @@
 //! Explains what a nextest configuration gives a test, for words, a reader of files and two
-//! writers.
+//! writers. Filters and platforms are those of two small engines (`engines`).
 #![tactic(auto)]
 
 mod command;
+pub mod engines;
 mod failure;
 mod lines;
 mod options;

@@ -11,6 +11,8 @@ ghost use Rattle.nextest_explain.specs.Statuses.{IsRefusalStatus, IsStatus};
 ghost use Rattle.nextest_explain.specs.Writing.{AppendsPrefix};
 
 use crate::command::Command;
+use crate::engines::filters::{ToyFilters, ToyTally};
+use crate::engines::platforms::ToySpecs;
 use crate::failure::{Failure, OUT_OF_MEMORY};
 use crate::options::Places;
 use crate::sources::Sources;
@@ -20,8 +22,6 @@ use nextest_config::{BinaryQuery, BuildPlatforms, DefaultConfigWarnings, ParseCo
 use nextest_sources::FileReader;
 use std::alloc::{AllocError, Global};
 use std::io::{self, Write};
-use toy_engines::filters::{ToyFilters, ToyTally};
-use toy_engines::platforms::ToySpecs;
 
 /// The triple of the host where none is named.
 const HOST: &str = "x86_64-unknown-linux-gnu";

@@ -1,5 +1,5 @@
 -- What expressions bring of the ids of a table.
-use Rattle.std.proofs.Common.{◌≡◌, ℕ, suc, ◌+◌, ◌<◌, ◌≤◌, true, false, cond, List, [], ◌∷◌, ◌++◌, length, get_or, drop, String, Global, string_bytes, Bor, Option, Some, None, is_some, refl, sym, ap, ◌∙◌, inl, inr, arith}
+use Rattle.std.proofs.Common.{◌≡◌, ℕ, ◌+◌, ◌<◌, ◌≤◌, true, false, cond, List, [], ◌∷◌, ◌++◌, length, get_or, drop, String, Global, string_bytes, Bor, Option, Some, None, is_some, refl, sym, ap, ◌∙◌, inl, inr}
 use Rattle.std.proofs.lemmas.Bool.{cases_Bool, false≢true}
 use Rattle.std.proofs.lemmas.List.{drop_all, drop_more, drop-map}
 use Rattle.std.proofs.lemmas.Slice.Eq.{bytes_eq-Decides}
@@ -7,7 +7,7 @@ use Rattle.std.specs.Option.{option_or}
 use Rattle.std.specs.Str.{bytes_eq}
 use Rattle.toml_parser.specs.Reading.{path_view}
 use Rattle.nextest_places.specs.declared.entry.Aim.{Aim}
-use Rattle.nextest_places.specs.declared.entry.Aim.TheVariants.{Elsewhere, Brings, Counts}
+use Rattle.nextest_places.specs.declared.entry.Aim.TheVariants.{Elsewhere, Brings}
 use Rattle.nextest_places.specs.declared.entry.Entry.{Entry}
 use Rattle.nextest_places.specs.declared.entry.Kind.{Kind}
 use Rattle.nextest_places.specs.declared.entry.Kind.TheVariants.{Pair, Table, Element}
@@ -17,76 +17,62 @@ use Rattle.nextest_places.specs.declared.step.Step.TheVariants.{Key, Position}
 use Rattle.nextest_places.specs.Entries.{aim_along, aim_at_key, outcome_behind, outcome_of, scan}
 use Rattle.nextest_places.specs.Ids.{AreKeys, outcome_by}
 use Rattle.nextest_places.specs.Marks.{Mark, fresh, missing, seen, turn}
-use Rattle.nextest_places.proofs.Aiming.{fresh_marks, scan_found, turned_brings, turned_elsewhere}
+use Rattle.nextest_places.proofs.Aiming.{turn_brings, turn_elsewhere}
+use Rattle.nextest_places.proofs.Found.{scan_stays}
 
 -- what an expression has to do with a path and one more key, by what it has to do with the path and
 -- the parts of its key behind it
 abbrev aim_on : Kind → List ℕ → Aim → List (List ℕ) → Aim
 aim_on kind id Elsewhere parts = Elsewhere
-aim_on kind id (Counts steps i) parts = Counts steps i
 aim_on kind id Brings [] = aim_at_key kind
 aim_on kind id Brings (part ∷ parts) = cond (bytes_eq id part) Brings Elsewhere
 
-aim_next : (kind : Kind) (parts : List (List ℕ)) (at : ℕ) (table : List Step) → AreKeys table
-    → (id : Bor (List ℕ)) → aim_along kind parts 0 at (table ++ Key id ∷ [])
-    ≡ aim_on kind id.now (aim_along kind parts 0 at table) (drop (length table) parts)
-aim_next kind [] at [] h id = refl
-aim_next kind (p ∷ ps) at [] h id = refl
-aim_next Pair [] at (Key k ∷ table) h id = refl
-aim_next Table [] at (Key k ∷ table) h id = refl
-aim_next Element [] at (Key k ∷ table) h id = refl
-aim_next kind (p ∷ ps) at (Key k ∷ table) h id =
+aim_next : (kind : Kind) (parts : List (List ℕ)) (table : List Step) → AreKeys table
+    → (id : Bor (List ℕ)) → aim_along kind parts (table ++ Key id ∷ [])
+    ≡ aim_on kind id.now (aim_along kind parts table) (drop (length table) parts)
+aim_next kind [] [] h id = refl
+aim_next kind (p ∷ ps) [] h id = refl
+aim_next Pair [] (Key k ∷ table) h id = refl
+aim_next Table [] (Key k ∷ table) h id = refl
+aim_next Element [] (Key k ∷ table) h id = refl
+aim_next kind (p ∷ ps) (Key k ∷ table) h id =
     elim (cases_Bool (bytes_eq k.now p)) [
-      | inl same ↦ rw same (aim_next kind ps (suc at) table h id)
+      | inl same ↦ rw same (aim_next kind ps table h id)
       | inr other ↦ rw other refl
     ]
-aim_next kind parts at (Position i ∷ table) h id = absurd h
-
-key_counts : (kind : Kind) (steps i : ℕ) → Counts steps i ≡ aim_at_key kind → ⊥
-key_counts Pair steps i is = absurd (cc)
-key_counts Table steps i is = absurd (cc)
-key_counts Element steps i is = absurd (cc)
-
--- no position counts along keys
-none_counts : (kind : Kind) (parts : List (List ℕ)) (at : ℕ) (table : List Step) → AreKeys table → (steps i : ℕ)
-    → Counts steps i ≡ aim_along kind parts 0 at table → ⊥
-none_counts kind parts at [] h steps i is = absurd (cc)
-none_counts kind [] at (Key k ∷ table) h steps i is = key_counts kind steps i is
-none_counts kind (p ∷ ps) at (Key k ∷ table) h steps i is =
-    elim (cases_Bool (bytes_eq k.now p)) [
-      | inl same ↦ none_counts kind ps (suc at) table h steps i (rw same at is)
-      | inr other ↦ let none : Counts steps i ≡ Elsewhere = rw other at is in absurd (cc)
-    ]
-none_counts kind parts at (Position j ∷ table) h steps i is = absurd h
+aim_next kind [] (Position i ∷ table) h id = absurd h
+aim_next kind (p ∷ ps) (Position i ∷ table) h id = absurd h
 
 module _ (kind : Kind) (parts : List (String Global)) (table : List Step) (keys : AreKeys table) (id : Bor (List ℕ)) where
-  aim_is : (a : Aim) → a ≡ aim_along kind (path_view parts) 0 0 table
-      → aim_along kind (path_view parts) 0 0 (table ++ Key id ∷ [])
+  aim_is : (a : Aim) → a ≡ aim_along kind (path_view parts) table
+      → aim_along kind (path_view parts) (table ++ Key id ∷ [])
       ≡ aim_on kind id.now a (path_view (drop (length table) parts))
   aim_is a is =
-      aim_next kind (path_view parts) 0 table keys id
-      ∙ ap (aim_on kind id.now (aim_along kind (path_view parts) 0 0 table))
+      aim_next kind (path_view parts) table keys id
+      ∙ ap (aim_on kind id.now (aim_along kind (path_view parts) table))
       (drop-map string_bytes (length table) parts)
       ∙ ap (λ b. aim_on kind id.now b (path_view (drop (length table) parts))) (sym is)
 
-  pub brings_none : Elsewhere ≡ aim_along kind (path_view parts) 0 0 table
-      → aim_along kind (path_view parts) 0 0 (table ++ Key id ∷ []) ≡ Elsewhere
+  pub brings_none : Elsewhere ≡ aim_along kind (path_view parts) table
+      → aim_along kind (path_view parts) (table ++ Key id ∷ []) ≡ Elsewhere
   brings_none is = aim_is Elsewhere is
 
-  pub brings_one : (s : String Global) → Brings ≡ aim_along kind (path_view parts) 0 0 table
+  pub brings_one : (s : String Global) → Brings ≡ aim_along kind (path_view parts) table
       → length table < length parts → s ≡ get_or parts (length table) s
-      → aim_along kind (path_view parts) 0 0 (table ++ Key id ∷ [])
+      → aim_along kind (path_view parts) (table ++ Key id ∷ [])
       ≡ cond (bytes_eq id.now (string_bytes s)) Brings Elsewhere
   brings_one s is there part =
       let this : get_or parts (length table) s ≡ s = sym part in
       aim_is Brings is ∙ rw (drop_more parts (length table) s there, this) refl
 
-  pub brings_rest : Brings ≡ aim_along kind (path_view parts) 0 0 table → length parts ≤ length table
-      → aim_along kind (path_view parts) 0 0 (table ++ Key id ∷ []) ≡ aim_at_key kind
+  pub brings_rest : Brings ≡ aim_along kind (path_view parts) table → length parts ≤ length table
+      → aim_along kind (path_view parts) (table ++ Key id ∷ []) ≡ aim_at_key kind
   brings_rest is none = aim_is Brings is ∙ rw (drop_all (length table) parts none) refl
 
-  pub brings_counted : {A : Type 0} → (steps i : ℕ) → Counts steps i ≡ aim_along kind (path_view parts) 0 0 table → A
-  brings_counted steps i is = absurd (none_counts kind (path_view parts) 0 table keys steps i is)
+pub keys_more : (table : List Step) → AreKeys table → (id : Bor (List ℕ)) → AreKeys (table ++ Key id ∷ [])
+keys_more [] keys id = tt
+keys_more (Key k ∷ table) keys id = keys_more table keys id
+keys_more (Position i ∷ table) keys id = absurd keys
 
 -- an entry behind what was found of a path
 module _ (entry : Entry) (path : List Step) where
@@ -100,29 +86,25 @@ module _ (entry : Entry) (path : List Step) where
   met None is = ap (outcome_of entry.lines (fresh path)) is
   met (Some lines) is = refl
 
-  pub passes : (o : Option Lines) → aim_along entry.kind (path_view entry.parts.items) 0 0 path ≡ Elsewhere
+  pub passes : (o : Option Lines) → AreKeys path → aim_along entry.kind (path_view entry.parts.items) path ≡ Elsewhere
       → outcome_behind entry (outcome_by o (fresh path)) ≡ outcome_by o (fresh path)
-  passes o is =
-      let marks = fresh_marks 0 0 path (omega arith) in
-      passed o (rw marks at (turned_elsewhere entry.kind (path_view entry.parts.items) 0 0 path (sym is)))
+  passes o keys is = passed o (turn_elsewhere entry.kind (path_view entry.parts.items) path keys is)
 
-  pub meets : (o : Option Lines) → aim_along entry.kind (path_view entry.parts.items) 0 0 path ≡ Brings
+  pub meets : (o : Option Lines) → aim_along entry.kind (path_view entry.parts.items) path ≡ Brings
       → outcome_behind entry (outcome_by o (fresh path)) ≡ outcome_by (option_or o (Some entry.lines)) (fresh path)
-  meets o is =
-      let marks = fresh_marks 0 0 path (omega arith) in
-      met o (rw marks at (turned_brings entry.kind (path_view entry.parts.items) 0 0 path (sym is)))
+  meets o is = met o (turn_brings entry.kind (path_view entry.parts.items) path is)
 
 -- entries behind what is found
 pub scan_over : (entries : List Entry) (o : Option Lines) (lines : Lines) (ms : List Mark)
     → scan entries (outcome_by (option_or o (Some lines)) ms) ≡ outcome_by (option_or o (Some lines)) ms
-scan_over entries None lines ms = scan_found entries lines
-scan_over entries (Some old) lines ms = scan_found entries old
+scan_over entries None lines ms = scan_stays entries lines
+scan_over entries (Some old) lines ms = scan_stays entries old
 
 some_stays : (o : Option Lines) (lines : Lines) → is_some o ≡ true → option_or o (Some lines) ≡ o
 some_stays None lines h = absurd (false≢true h)
 some_stays (Some old) lines h = refl
 
-apart : (j k : List ℕ) → bytes_eq j k ≡ false → bytes_eq k j ≡ false
+pub apart : (j k : List ℕ) → bytes_eq j k ≡ false → bytes_eq k j ≡ false
 apart j k other =
     elim (cases_Bool (bytes_eq k j)) [
       | inl same ↦ absurd (false≢true (sym other ∙ (bytes_eq-Decides j k).1 (sym ((bytes_eq-Decides k j).0 same))))
@@ -130,8 +112,8 @@ apart j k other =
     ]
 
 -- what is kept of an id behind an entry that brings the id k
-module _ (entry : Entry) (path : List Step) (id k : List ℕ) (o : Option Lines)
-    (aim : aim_along entry.kind (path_view entry.parts.items) 0 0 path ≡ cond (bytes_eq id k) Brings Elsewhere) where
+module _ (entry : Entry) (path : List Step) (keys : AreKeys path) (id k : List ℕ) (o : Option Lines)
+    (aim : aim_along entry.kind (path_view entry.parts.items) path ≡ cond (bytes_eq id k) Brings Elsewhere) where
   pub now_kept : (new : Option Lines) → (id ≡ k → o ≡ None) → new ≡ cond (bytes_eq k id) (Some entry.lines) o
       → outcome_behind entry (outcome_by o (fresh path)) ≡ outcome_by new (fresh path)
   now_kept new none is =
@@ -144,7 +126,7 @@ module _ (entry : Entry) (path : List Step) (id k : List ℕ) (o : Option Lines)
             ∙ ap (λ n. outcome_by n (fresh path)) (ap (λ p. option_or p (Some entry.lines)) (none equal) ∙ sym lines)
         | inr other ↦
             let lines : new ≡ o = is ∙ rw (apart id k other) refl in
-            passes entry path o (aim ∙ rw other refl) ∙ ap (λ n. outcome_by n (fresh path)) (sym lines)
+            passes entry path o keys (aim ∙ rw other refl) ∙ ap (λ n. outcome_by n (fresh path)) (sym lines)
       ]
 
   pub still_kept : (id ≡ k → is_some o ≡ true)
@@ -154,7 +136,7 @@ module _ (entry : Entry) (path : List Step) (id k : List ℕ) (o : Option Lines)
         | inl same ↦
             meets entry path o (aim ∙ rw same refl)
             ∙ ap (λ n. outcome_by n (fresh path)) (some_stays o entry.lines (some ((bytes_eq-Decides id k).0 same)))
-        | inr other ↦ passes entry path o (aim ∙ rw other refl)
+        | inr other ↦ passes entry path o keys (aim ∙ rw other refl)
       ]
 
 module _ (entries : List Entry) (i : ℕ) (entry : Entry) (here : i < length entries)

@@ -114,7 +114,7 @@ module _ (path : List Step) (text : List ℕ) where
   pub index_place : (length path == 0) ≡ false → (index : Index) → IsIndex text index → text_has path text ≡ true
       → IsPlaceOfPath path text (lines_in index path)
   index_place some index is has =
-      by_outcome is.low index.fronts.items index.rest (scan index.entries.items (waits (fresh path))) is.fronts
+      by_outcome is.low index.fronts.items index.rest (scan index.entries (waits (fresh path))) is.fronts
       is.walked.front (is.walked.right path some has) has
 
 -- a place in a front of a text is one in the text

@@ -1,8 +1,12 @@
+pub mod Adding
 pub mod Aiming
+pub mod Along
 pub mod Among
+pub mod Branched
 pub mod Documents
 pub mod Edits
 pub mod FirstLines
+pub mod Found
 pub mod GoesOn
 pub mod IdAims
 pub mod IdPlaces
@@ -13,9 +17,11 @@ pub mod Kept
 pub mod KeyPaths
 pub mod Nodes
 pub mod NodesGrow
+pub mod Numbers
 pub mod OneOrder
 pub mod Options
 pub mod Ordered
+pub mod Passed
 pub mod Passing
 pub mod Placing
 pub mod Sections
@@ -30,5 +36,5 @@ pub mod Turns
 pub mod Values
 pub mod Walked
 pub mod Walking
-pub mod Words
 pub mod Wholes
+pub mod Words

@@ -67,13 +67,13 @@ found_or (waits ms) behind = behind
 -- the lines that an index has for a path
 abbrev pub lines_in : Index → List Step → Lines
 lines_in index path =
-    found_or (scan index.entries.items (waits (fresh path)))
+    found_or (scan index.entries (waits (fresh path)))
     (lines_behind index.fronts.items index.rest path)
 
 -- The index is that of a text that is a document.
 pub record IsIndex (text : List ℕ) (index : Index) : Type 0 where
   pub low : ℕ
-  pub walked : IsWalked text index.entries.items low
+  pub walked : IsWalked text index.entries low
   pub fronts : LeadToEnd text low index.fronts.items index.rest
 
 -- What is known of a text is its longest front that is a document, with an index of it, and whether

@@ -29,11 +29,11 @@ pub(crate) enum Brought<'a> {
 /// The ids of a table that an expression brings. All steps to the table are keys.
 fn ids_brought<'a>(entry: &'a Entry, table: &[Step]) -> Brought<'a>
     ensures { AreKeys table.now → (id : Bor (List ℕ))
-        → aim_along entry.now.kind (path_view entry.now.parts.items) 0 0 (table.now ++ Key id ∷ [])
+        → aim_along entry.now.kind (path_view entry.now.parts.items) (table.now ++ Key id ∷ [])
         ≡ aim_at_id result id.now }
 {
-    match aim_of(entry.kind, &entry.parts, table, 0) {
-        Aim::Elsewhere | Aim::Counts { .. } => Brought::Nothing,
+    match aim_of(entry.kind, &entry.parts, table) {
+        Aim::Elsewhere => Brought::Nothing,
         Aim::Brings => match entry.parts.get(table.len()) {
             Some(id) => Brought::OneId(id.as_str()),
             None => behind_key(entry.kind),

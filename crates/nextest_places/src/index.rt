@@ -1,12 +1,10 @@
 //! An index of a document's text: which lines define the value at each of its paths.
-ghost use Rattle.std.specs.Prelude.{◌≡◌, IfOk, MatchOption};
-ghost use Rattle.nextest_places.specs.Entries.{IsWaiting, found, scan, waits};
+ghost use Rattle.std.specs.Prelude.{◌≡◌, IfOk};
 ghost use Rattle.nextest_places.specs.Index.{IsIndex, first_with, lines_in};
 ghost use Rattle.nextest_places.specs.Lines.{line_count};
-ghost use Rattle.nextest_places.specs.Marks.{fresh};
 ghost use Rattle.nextest_places.specs.Search.{IsDocument};
 
-use crate::entry::{Cursor, Entry, turned};
+use crate::entries::Entries;
 use crate::fronts::{Front, Fronts, fronts_behind};
 use crate::id_lines::Wanted;
 use crate::place::Lines;
@@ -18,7 +16,7 @@ use std::alloc::{AllocError, Global};
 #[derive(Drop)]
 pub(crate) struct Index {
     /// Its expressions in order, as far as they were read one by one.
-    pub(crate) entries: Vec<Entry>,
+    pub(crate) entries: Entries,
     /// The documents that end behind these, but the last one.
     pub(crate) fronts: Vec<Front>,
     /// The lines behind them, which may be none.
@@ -31,8 +29,9 @@ impl Index {
         requires { IsDocument text.now (line_count text.now) }
         ensures { IfOk result (IsIndex text.now) }
     {
-        let (entries, low) = entries_of(alloc, text, &mut Wanted::All)?;
+        let (expressions, low) = entries_of(alloc, text, &mut Wanted::All)?;
         let (fronts, rest) = fronts_behind(alloc, &Fronts::of(alloc, text)?, low)?;
+        let entries = Entries::of(alloc, expressions)?;
         Ok(Index {
             entries,
             fronts,
@@ -44,29 +43,11 @@ impl Index {
     pub(crate) fn lines_of(&self, path: &[Step]) -> Lines
         ensures { result ≡ lines_in self.now path.now }
     {
-        match lines_by_entries(&self.entries, path) {
+        match self.entries.lines_at(path) {
             Some(lines) => lines,
             None => lines_by_fronts(&self.fronts, path).unwrap_or(self.rest),
         }
     }
-}
-
-/// The lines of the entry that defines the value at a path, if one does.
-fn lines_by_entries(entries: &[Entry], path: &[Step]) -> Option<Lines>
-    ensures { let outcome = scan entries.now (waits (fresh path.now)) in
-        MatchOption result (IsWaiting outcome) (λ lines. outcome ≡ found lines) }
-{
-    let mut cursor = Cursor {
-        entered: 0,
-        count: 0,
-    };
-    for entry in entries {
-        match turned(cursor, entry, path) {
-            Some(next) => cursor = next,
-            None => return Some(entry.lines),
-        }
-    }
-    None
 }
 
 /// The lines of the first front that has a path, if one does.

@@ -5,6 +5,8 @@
 //! path. It is found by one walk over the expressions of the text, each read on its own lines.
 #![tactic(auto)]
 
+mod branch;
+mod entries;
 mod entry;
 mod expression;
 mod fronts;

@@ -3,6 +3,7 @@ pub mod FilterMap
 pub mod AreValues
 pub mod Winner
 pub mod Listed
+pub mod KnownRules
 pub mod Wrapped
 pub mod ScriptTables
 pub mod FallbackOf

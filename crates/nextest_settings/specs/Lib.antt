@@ -19,3 +19,4 @@ pub mod SetupView
 pub mod Order
 pub mod GroupView
 pub mod Profiles
+pub mod Binaries

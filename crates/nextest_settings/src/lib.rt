@@ -2,6 +2,7 @@
 //! profiles of a configuration (`profiles`): what they say, and what they give to tests.
 #![tactic(auto)]
 
+mod binary_answers;
 mod default_filter;
 mod evaluated;
 mod fallback;
@@ -10,6 +11,7 @@ mod groups;
 mod index;
 mod laws;
 mod list_settings;
+mod open_settings;
 mod pass;
 mod platforms;
 mod profiles;
@@ -22,6 +24,7 @@ mod values;
 mod wrappers;
 mod written;
 
+pub use binary_answers::BinaryAnswers;
 pub use default_filter::{
     CompiledDefaultFilter, CompiledDefaultFilterSection, default_filter_of, nearest_filter,
 };

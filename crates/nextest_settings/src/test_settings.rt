@@ -41,20 +41,20 @@ use nextest_tables::OverrideSettings;
 
 /// For each setting the override that decides it, if one does.
 #[derive_where(Clone, Copy)]
-struct Winners<'p, F: Filters, S: Specs> {
-    slots: [Option<EvaluatedOverride<'p, F, S>>; SETTING_COUNT],
+pub(crate) struct Winners<'p, F: Filters, S: Specs> {
+    pub(crate) slots: [Option<EvaluatedOverride<'p, F, S>>; SETTING_COUNT],
 }
 
 /// The settings of a test. With a `Source`, what decides each of them can be looked up.
 #[derive(Drop)]
 pub struct TestSettings<'p, F: Filters, S: Specs, Source = ()> {
-    values: ProfileValues<'p>,
-    mode: NextestRunMode,
-    global_group: TestGroup,
-    winners: Winners<'p, F, S>,
-    run_wrapper: Option<RunWrapper<'p, F, S>>,
+    pub(crate) values: ProfileValues<'p>,
+    pub(crate) mode: NextestRunMode,
+    pub(crate) global_group: TestGroup,
+    pub(crate) winners: Winners<'p, F, S>,
+    pub(crate) run_wrapper: Option<RunWrapper<'p, F, S>>,
     /// Always absent: it only names the type.
-    mark: Option<Source>,
+    pub(crate) mark: Option<Source>,
 }
 
 impl<'cfg, F: Filters, S: Specs> EvaluatedRules<'cfg, F, S> {

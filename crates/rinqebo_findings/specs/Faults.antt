@@ -21,10 +21,11 @@ use Rattle.rinqebo_request.specs.declared.files.layers.Layer.{Layer}
 use Rattle.rinqebo_request.specs.declared.files.places.SpanPart.TheVariants as parts
 use Rattle.rinqebo_report.specs.declared.finding.Finding.{Finding}
 use Rattle.rinqebo_report.specs.declared.finding.Level.TheVariants as levels
+use Rattle.rinqebo_faults.specs.Paths.{shown_path}
 use Rattle.rinqebo_findings.specs.declared.value_faults.ValueFault.{ValueFault}
 use Rattle.rinqebo_findings.specs.Placed.{IsPlaceIn}
 use Rattle.rinqebo_findings.specs.Shown.{AreReported}
-use Rattle.rinqebo_findings.specs.Subjects.{IsElementFinding, shown_path, subject}
+use Rattle.rinqebo_findings.specs.Subjects.{IsElementFinding, subject}
 
 -- a path is that of a key of the table at another one
 abbrev pub IsKeyIn : List Step → List Step → List ℕ → Type 0

@@ -1,6 +1,5 @@
 pub mod Failures
 pub mod Faults
-pub mod Order
 pub mod Placed
 pub mod Reports
 pub mod Shown

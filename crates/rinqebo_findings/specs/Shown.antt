@@ -7,7 +7,7 @@ use Rattle.rinqebo_report.specs.declared.finding.HelpPlace.{HelpPlace}
 use Rattle.rinqebo_report.specs.declared.finding.Level.{Level}
 use Rattle.rinqebo_report.specs.declared.finding.RefusedExpression.{RefusedExpression}
 use Rattle.rinqebo_report.specs.declared.origin.FilePlace.{FilePlace}
-use Rattle.rinqebo_findings.specs.Order.{spot_cmp, spot_of}
+use Rattle.rinqebo_faults.specs.Order.{spot_cmp, spot_of}
 
 -- what a finding says: all that it has, but the lines that show it
 pub record Facts : Type 0 where

@@ -1,7 +1,6 @@
 -- What findings are about.
-use Rattle.std.specs.Prelude.{◌≡◌, ◌⊎◌, ℕ, List, [], ◌∷◌, ◌++◌, Option, None, Some, option_map, string_bytes, codes}
+use Rattle.std.specs.Prelude.{◌≡◌, ◌⊎◌, ℕ, List, [], ◌∷◌, ◌++◌, Option, None, Some, option_map, string_bytes}
 use Rattle.std.specs.Borrow.{Bor}
-use Rattle.nextest_shape.specs.Faults.Found.{step_text}
 use Rattle.nextest_places.specs.declared.step.Step.{Step}
 use Rattle.nextest_places.specs.declared.step.Step.TheVariants as steps
 use Rattle.nextest_tree.specs.declared.fault.ElementCause.{ElementCause}
@@ -15,17 +14,8 @@ use Rattle.rinqebo_request.specs.declared.files.places.SpanPart.TheVariants as p
 use Rattle.rinqebo_report.specs.declared.finding.Finding.{Finding}
 use Rattle.rinqebo_report.specs.declared.finding.Level.{Level}
 use Rattle.rinqebo_report.specs.declared.finding.Level.TheVariants as levels
+use Rattle.rinqebo_faults.specs.Paths.{shown_path}
 use Rattle.rinqebo_findings.specs.Placed.{IsOnLines, IsPlacedAt}
-
--- steps with a dot before each
-abbrev pub dotted : List Step → List ℕ
-dotted [] = []
-dotted (step ∷ path) = codes "." ++ (step_text step ++ dotted path)
-
--- a path as findings show it: its keys and positions with dots between them
-abbrev pub shown_path : List Step → List ℕ
-shown_path [] = []
-shown_path (step ∷ path) = step_text step ++ dotted path
 
 -- what a finding is about: how bad it is, what it is called, and the path that leads to it
 pub record Subject : Type 0 where

@@ -1,9 +1,8 @@
 //! What a lower file makes of a table that lacks a key.
 use crate::findings::SourceAt;
-use crate::given::{kind_words, tree_at};
-use crate::tables::called;
 use nextest_config::Tree;
 use nextest_places::Step;
+use rinqebo_faults::{called, kind_words, tree_at};
 use rinqebo_request::{Layer, SpanPart, part_place};
 use std::alloc::{AllocError, Global};
 
@@ -27,7 +26,7 @@ fn lower<'l>(
 }
 
 /// The path of the file of a layer, if it is one.
-fn file_at<'l>(layers: &'l [Layer<'_>], place: usize) -> Option<&'l str> {
+pub fn file_at<'l>(layers: &'l [Layer<'_>], place: usize) -> Option<&'l str> {
     match &layers.get(place)?.source.path {
         Some(path) => Some(path.as_str()),
         None => None,

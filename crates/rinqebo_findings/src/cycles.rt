@@ -1,31 +1,13 @@
 //! The findings of profiles that inherit in a cycle.
-use crate::excerpts::{Mark, lines_of};
+use crate::below::file_at;
 use crate::refused::Refused;
-use nextest_places::Step;
-use rinqebo_report::{Code, FileLines, FilePlace, Sign};
+use rinqebo_faults::{Mark, lines_of, parent_path};
+use rinqebo_report::{Code, FileLines, FilePlace, Sign, SourceLine};
 use std::alloc::{AllocError, Global};
 
-/// The path of the parent that a profile names.
-pub fn parent_path<'p>(profile: &'p str) -> [Step<'p>; 3] {
-    [
-        Step::Key("profile"),
-        Step::Key(profile),
-        Step::Key("inherits"),
-    ]
-}
-
 /// The place at which a profile names its parent.
-fn parent_place(refused: &Refused<'_, '_>, profile: &str) -> Result<Option<FilePlace>, AllocError> {
-    let found = refused.at(Code::InheritanceCycle, &parent_path(profile), "")?;
-    Ok(found.place)
-}
-
-/// The path of the file of a source, if it has one.
-fn file_at<'r>(refused: &Refused<'r, '_>, source: usize) -> Option<&'r str> {
-    match &refused.source.layers.get(source)?.source.path {
-        Some(path) => Some(path.as_str()),
-        None => None,
-    }
+fn parent_place(refused: &Refused<'_, '_>, profile: &str) -> Option<FilePlace> {
+    refused.place_at(&parent_path(profile))
 }
 
 /// Where a profile names its parent, in words: the line, and the file if it is another one.
@@ -44,12 +26,18 @@ fn place_words(
     else {
         return Ok(String::new(alloc));
     };
-    match file_at(refused, source) {
+    match file_at(refused.source.layers, source) {
         Some(file) if refused.source.position != Some(source) => {
             format!(in alloc; " (line {first} of {file})")
         }
         _ => format!(in alloc; " (line {first})"),
     }
+}
+
+/// A profile of a circle in words, with the place at which it names its parent.
+fn step_words(alloc: Global, refused: &Refused<'_, '_>, name: &str) -> Result<String, AllocError> {
+    let words = place_words(alloc, refused, parent_place(refused, name))?;
+    format!(in alloc; "`{name}`{words} -> ")
 }
 
 /// The circle in words: each profile with the place at which it names its parent, and the first one
@@ -61,9 +49,7 @@ fn cycle_words(
 ) -> Result<String, AllocError> {
     let mut text = String::from_str(alloc, "profiles inherit in a cycle: ")?;
     for name in cycle {
-        let place = parent_place(refused, name.as_str())?;
-        let words = place_words(alloc, refused, place)?;
-        let step = format!(in alloc; "`{name}`{words} -> ")?;
+        let step = step_words(alloc, refused, name.as_str())?;
         text.push_str(step.as_str())?;
     }
     if let Some(first) = cycle.first() {
@@ -85,7 +71,7 @@ fn marks_of(refused: &Refused<'_, '_>, cycle: &[String]) -> Result<Vec<Mark>, Al
                 range: Some(range),
                 ..
             },
-        ) = parent_place(refused, name.as_str())?
+        ) = parent_place(refused, name.as_str())
         {
             if refused.source.position == Some(source) {
                 marks.push(Mark { sign, range })?;
@@ -97,6 +83,22 @@ fn marks_of(refused: &Refused<'_, '_>, cycle: &[String]) -> Result<Vec<Mark>, Al
     Ok(marks)
 }
 
+/// The lines of the refused file that show a circle whose first parent has a place, if that is in
+/// the file.
+fn cycle_lines(
+    refused: &Refused<'_, '_>,
+    place: Option<FilePlace>,
+    cycle: &[String],
+) -> Result<Vec<SourceLine>, AllocError> {
+    let alloc = refused.alloc;
+    match (refused.text, place) {
+        (Some(text), Some(place)) if refused.source.position == Some(place.source) => {
+            lines_of(alloc, text, &marks_of(refused, cycle)?)
+        }
+        _ => Ok(Vec::new(alloc)),
+    }
+}
+
 /// Adds that profiles inherit in a cycle: at the parent of the first one.
 pub fn add_cycle(refused: &mut Refused<'_, '_>, cycle: &[String]) -> Result<(), AllocError> {
     let alloc = refused.alloc;
@@ -105,15 +107,8 @@ pub fn add_cycle(refused: &mut Refused<'_, '_>, cycle: &[String]) -> Result<(), 
         return refused.add_whole(Code::InheritanceCycle, words.as_str());
     };
     let path = parent_path(first.as_str());
+    let lines = cycle_lines(refused, refused.place_at(&path), cycle)?;
     let mut found = refused.at(Code::InheritanceCycle, &path, words.as_str())?;
-    let is_here = match found.place {
-        Some(place) => refused.source.position == Some(place.source),
-        None => false,
-    };
-    if let Some(text) = refused.text {
-        if is_here {
-            found.lines = lines_of(alloc, text, &marks_of(refused, cycle)?)?;
-        }
-    }
+    found.lines = lines;
     refused.add_finding(found)
 }

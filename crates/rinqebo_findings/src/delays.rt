@@ -3,15 +3,15 @@ ghost use Rattle.std.specs.Prelude.{◌≡◌, IfOk};
 ghost use Rattle.rinqebo_findings.specs.Placed.{file_and_lines};
 ghost use Rattle.rinqebo_findings.specs.Subjects.{IsDelaysFinding, IsErrorAt, subject};
 
-use crate::excerpts::{Mark, lines_of};
+use crate::below::file_at;
 use crate::findings::with_note;
 use crate::given::value_at;
-use crate::paths::path_with;
 use crate::refused::Refused;
 use nextest_places::Step;
-use rinqebo_report::{Code, FileLines, FilePlace, Finding, Range, Sign, SourceLine};
+use rinqebo_faults::{Mark, lines_of, path_with};
+use rinqebo_report::{Code, FilePlace, Finding, Range, Sign, SourceLine};
 use rinqebo_request::{SpanPart, part_place};
-use std::alloc::{AllocError, Global};
+use std::alloc::AllocError;
 
 /// The range of a key and its value, in the source at a position.
 fn entry_range(refused: &Refused<'_, '_>, source: usize, path: &[Step<'_>]) -> Option<Range> {
@@ -78,13 +78,14 @@ fn with_entry(
     let Some(range) = entry_range(refused, source, fault) else {
         return Ok(found);
     };
+    let shown_lines = entry_lines(refused, source, range, related)?;
     let mut shown = found;
     shown.place = Some(FilePlace {
         source,
         lines,
         range: Some(range),
     });
-    shown.lines = entry_lines(refused, source, range, related)?;
+    shown.lines = shown_lines;
     Ok(shown)
 }
 
@@ -101,37 +102,27 @@ fn writes(refused: &Refused<'_, '_>, path: &[Step<'_>]) -> bool {
     }
 }
 
+/// The line and the path of the file of a value that another file writes.
+fn other_line<'r>(refused: &Refused<'r, '_>, path: &[Step<'_>]) -> Option<(u64, &'r str)> {
+    let place = refused.place_at(path)?;
+    if refused.source.position == Some(place.source) {
+        return None;
+    }
+    let lines = place.lines?;
+    let file = file_at(refused.source.layers, place.source)?;
+    Some((lines.first, file))
+}
+
 /// The note that names the file and the line of a key of another file.
 fn elsewhere_note(
     refused: &Refused<'_, '_>,
     key: &str,
     path: &[Step<'_>],
 ) -> Result<Option<String>, AllocError> {
-    let alloc = refused.alloc;
-    let place = refused.at(Code::MaxDelayBelowDelay, path, "")?.place;
-    let Some(
-        FilePlace {
-            source,
-            lines: Some(FileLines { first, .. }),
-            ..
-        },
-    ) = place
-    else {
+    let Some((line, file)) = other_line(refused, path) else {
         return Ok(None);
     };
-    if refused.source.position == Some(source) {
-        return Ok(None);
-    }
-    match refused.source.layers.get(source) {
-        Some(layer) => match &layer.source.path {
-            Some(file) => {
-                let file = file.as_str();
-                Ok(Some(format!(in alloc; "`{key}` is in line {first} of {file}")?))
-            }
-            None => Ok(None),
-        },
-        None => Ok(None),
-    }
+    Ok(Some(format!(in refused.alloc; "`{key}` is in line {line} of {file}")?))
 }
 
 /// The finding that the longest delay of retries is shorter than the first one, at one of the two.
@@ -144,9 +135,9 @@ fn entry_finding(
     ensures { IfOk result (IsErrorAt refused.now.source.layers.now refused.now.source.position
         Code.MaxDelayBelowDelay SpanPart.Value fault.now) }
 {
-    let alloc = refused.alloc;
+    let help = format!(in refused.alloc; "raise `max-delay` to at least `{least}`")?;
     let mut found = refused.at(Code::MaxDelayBelowDelay, fault, wrong)?;
-    found.help = Some(format!(in alloc; "raise `max-delay` to at least `{least}`")?);
+    found.help = Some(help);
     Ok(found)
 }
 

@@ -1,11 +1,10 @@
 //! The files of a run with edits, and the load of these.
-use crate::edited::edited_document;
-use crate::edits::Edits;
 use nextest_config::{
     ConfigExperimental, ConfigFileSelection, ConfigParseError, ConfigPath, DefaultConfigWarnings,
     FileInput, LoadedConfig, ReadOutcome, ToolConfigFile,
 };
 use nextest_sources::ConfigInputs;
+use rinqebo_faults::{Edits, edited_document};
 use rinqebo_load::Session;
 use rinqebo_request::{Gathered, Layer};
 use std::alloc::{AllocError, Global};

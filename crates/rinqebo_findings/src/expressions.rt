@@ -1,84 +1,16 @@
 //! Filters and platforms that are refused, with the part that is wrong.
-use crate::filter_words::filter_words;
-use crate::platform_words::platform_words;
 use crate::refused::Refused;
-use crate::worded::{Stopped, Worded};
-use crate::words::owned;
-use filter_engine::FaultKind;
 use nextest_config::{
     ConfigCompileError, ConfigCompileErrorKind, ConfigCompileSection, Refusal, Tree,
 };
-use nextest_places::{Step, offsets_of};
-use rinqebo_report::{
-    CharSpan, Code, FilePlace, Finding, Position, Range as ReportRange, RefusedExpression,
+use nextest_places::Step;
+use rinqebo_faults::{
+    Stopped, Worded, char_span, expression, filter_help, filter_words, owned, platform_words,
+    range_in,
 };
-use rinqebo_request::{host_text, profile_table, rule_table, target_text, text_at};
+use rinqebo_report::{CharSpan, Code, FilePlace, Finding, Range};
+use rinqebo_request::{SpanPart, host_text, profile_table, rule_table, target_text, text_at};
 use std::alloc::{AllocError, Global};
-use std::ops::Range;
-
-/// How many characters are before a byte of a text.
-fn characters_before(text: &str, byte: usize) -> usize {
-    text.char_indices().filter(|(at, _)| *at < byte).count()
-}
-
-/// A refused text, and the part of it that is at fault.
-fn expression(
-    alloc: Global,
-    text: &str,
-    bytes: &Range<usize>,
-) -> Result<RefusedExpression, AllocError> {
-    Ok(RefusedExpression {
-        text: String::from_str(alloc, text)?,
-        span: Some(CharSpan {
-            from: characters_before(text, bytes.start),
-            to: characters_before(text, bytes.end),
-        }),
-    })
-}
-
-/// Returns the position behind a text that starts at a position.
-fn position_behind(start: Position, text: &str) -> Position {
-    let mut behind = start;
-    for c in text.chars() {
-        behind = match c {
-            '\n' => Position {
-                line: behind.line.saturating_add(1),
-                column: 1,
-            },
-            _ => Position {
-                line: behind.line,
-                column: behind.column.saturating_add(1),
-            },
-        };
-    }
-    behind
-}
-
-/// Returns the position at which a token writes the character of its string at a place, given the
-/// bytes at which it writes each.
-fn position_of(start: Position, token: &str, offsets: &[usize], place: usize) -> Option<Position> {
-    Some(position_behind(start, token.get(..*offsets.get(place)?)?))
-}
-
-/// Returns the range in which the token of a string writes some of its characters, where the token
-/// starts at a position.
-fn range_in(
-    alloc: Global,
-    start: Position,
-    token: &str,
-    span: CharSpan,
-) -> Result<Option<ReportRange>, AllocError> {
-    let Some(offsets) = offsets_of(alloc, token)? else {
-        return Ok(None);
-    };
-    match (
-        position_of(start, token, &offsets, span.from),
-        position_of(start, token, &offsets, span.to),
-    ) {
-        (Some(start), Some(end)) => Ok(Some(ReportRange { start, end })),
-        _ => Ok(None),
-    }
-}
 
 /// Returns the token of the value at a path of the refused source, if its text has one.
 fn token_at<'r>(refused: &Refused<'r, '_>, path: &[Step<'_>]) -> Option<&'r str> {
@@ -93,7 +25,7 @@ fn fault_range(
     path: &[Step<'_>],
     place: Option<FilePlace>,
     span: Option<CharSpan>,
-) -> Result<Option<ReportRange>, AllocError> {
+) -> Result<Option<Range>, AllocError> {
     let (
         Some(
             FilePlace {
@@ -112,16 +44,6 @@ fn fault_range(
         return Ok(None);
     }
     range_in(refused.alloc, range.start, token, span)
-}
-
-/// What to do about a refused filter that needs more than its text.
-fn filter_help(label: &str) -> Option<&'static str> {
-    if label == FaultKind::NoPackageGraph.label() {
-        return Some(
-            "pass `--metadata F`, where F has the output of `cargo metadata --format-version 1`",
-        );
-    }
-    None
 }
 
 /// What is wrong with a refused text, in words: there are none for what its reader words well.
@@ -153,14 +75,6 @@ fn with_part(
     Ok(found)
 }
 
-/// The characters of a text between two bytes.
-fn char_span(text: &str, start: usize, end: usize) -> CharSpan {
-    CharSpan {
-        from: characters_before(text, start),
-        to: characters_before(text, end),
-    }
-}
-
 /// The finding of a text that is refused, in words.
 fn worded_finding(
     refused: &Refused<'_, '_>,
@@ -190,10 +104,11 @@ fn labelled_finding(
     path: &[Step<'_>],
     stopped: Stopped<'_>,
 ) -> Result<Finding, AllocError> {
+    let help = owned(refused.alloc, filter_help(stopped.label))?;
     let span = char_span(stopped.text, stopped.start, stopped.end);
     let found = refused.at(code, path, stopped.label)?;
     let mut found = with_part(refused, found, path, Some(span))?;
-    found.help = owned(refused.alloc, filter_help(stopped.label))?;
+    found.help = help;
     Ok(found)
 }
 
@@ -207,7 +122,8 @@ fn add_text(
 ) -> Result<(), AllocError> {
     let alloc = refused.alloc;
     let Some(span) = &refusal.span else {
-        return refused.add_at(code, path, refusal.message.as_str(), None);
+        let wrong = refusal.message.as_str();
+        return refused.add_fault(code, path, SpanPart::Value, wrong, None, None);
     };
     let stopped = Stopped {
         text,
@@ -215,11 +131,13 @@ fn add_text(
         end: span.bytes.end,
         label: span.label.as_str(),
     };
-    let mut found = match text_words(alloc, code, stopped)? {
-        Some(worded) => worded_finding(refused, code, path, text, worded)?,
-        None => labelled_finding(refused, code, path, stopped)?,
+    let shown = expression(alloc, text, &span.bytes)?;
+    let found = match text_words(alloc, code, stopped)? {
+        Some(worded) => worded_finding(refused, code, path, text, worded),
+        None => labelled_finding(refused, code, path, stopped),
     };
-    found.expression = Some(expression(alloc, text, &span.bytes)?);
+    let mut found = found?;
+    found.expression = Some(shown);
     refused.add_finding(found)
 }
 

@@ -48,9 +48,10 @@ fn request_finding(
 fn no_profile(alloc: Global, missing: &ProfileNotFound) -> Result<Finding, AllocError> {
     let name = missing.name.as_str();
     let path = [Step::Key("profile"), Step::Key(name)];
+    let help = text_hint(alloc, name, &missing.known)?;
     let message = missing.to_string(alloc)?;
     let mut found = request_finding(alloc, Code::UnknownProfile, &path, message)?;
-    found.help = text_hint(alloc, name, &missing.known)?;
+    found.help = help;
     Ok(found)
 }
 

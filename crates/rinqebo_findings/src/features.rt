@@ -1,84 +1,30 @@
 //! Findings of features that are not enabled.
 use crate::refused::Refused;
-use nextest_config::{ConfigExperimental, Tree};
-use nextest_places::Step;
+use nextest_config::ConfigExperimental;
+use rinqebo_faults::{feature_help, feature_path};
 use rinqebo_report::Code;
-use std::alloc::{AllocError, Global};
+use rinqebo_request::SpanPart;
+use std::alloc::AllocError;
 
-/// The value at a key of a tree, if there is one.
-fn value_of<'t>(tree: Option<&'t Tree>, key: &str) -> Option<&'t Tree> {
-    tree?.get(key)
-}
-
-/// The kind of scripts that a feature switches on.
-fn kind_of_feature(feature: &str) -> &str {
-    feature.strip_suffix("-scripts").unwrap_or(feature)
-}
-
-/// The path of the table whose scripts need a feature: the old one where it is alone.
-fn feature_path<'p>(
-    alloc: Global,
-    tree: Option<&Tree>,
-    feature: &'p str,
-) -> Result<Vec<Step<'p>>, AllocError> {
-    let mut path = Vec::new(alloc);
-    let Some(scripts) = value_of(tree, "scripts") else {
-        path.push(Step::Key("script"))?;
-        return Ok(path);
-    };
-    path.push(Step::Key("scripts"))?;
-    let kind = kind_of_feature(feature);
-    if scripts.get(kind).is_some() {
-        path.push(Step::Key(kind))?;
-    }
-    Ok(path)
-}
-
-/// Adds a name in quotes to a list.
-fn add_quoted(alloc: Global, list: &mut String, name: &str) -> Result<(), AllocError> {
-    if !list.is_empty() {
-        list.push_str(", ")?;
-    }
-    let quoted = format!(in alloc; "\"{name}\"")?;
-    list.push_str(quoted.as_str())
-}
-
-/// The features that a file lists, and those that it lacks, as an array of TOML has them.
-fn feature_list(
-    alloc: Global,
-    listed: Option<&Tree>,
+/// Adds that a feature is not enabled, of several that are missing.
+fn add_feature(
+    refused: &mut Refused<'_, '_>,
+    name: &str,
     missing: &[ConfigExperimental],
-) -> Result<String, AllocError> {
-    let mut list = String::new(alloc);
-    if let Some(Tree::Array(items)) = listed {
-        for item in items {
-            if let Some(name) = item.as_str() {
-                add_quoted(alloc, &mut list, name)?;
-            }
-        }
-    }
-    for feature in missing {
-        let name = feature.to_string(alloc)?;
-        add_quoted(alloc, &mut list, name.as_str())?;
-    }
-    Ok(list)
-}
-
-/// How to switch on a feature, of several that are missing in a file.
-fn feature_help(
-    alloc: Global,
-    tree: Option<&Tree>,
-    feature: &str,
-    missing: &[ConfigExperimental],
-) -> Result<String, AllocError> {
-    let listed = value_of(tree, "experimental");
-    if let Some(Tree::Table(_)) = listed {
-        return format!(in alloc;
-            "write `experimental.{feature} = true`, or pass `--experimental {feature}`"
-        );
-    }
-    let list = feature_list(alloc, listed, missing)?;
-    format!(in alloc; "write `experimental = [{list}]`, or pass `--experimental {feature}`")
+) -> Result<(), AllocError> {
+    let alloc = refused.alloc;
+    let tree = refused.source.tree();
+    let path = feature_path(alloc, tree, name)?;
+    let help = feature_help(alloc, tree, name, missing)?;
+    let wrong = format!(in alloc; "the feature `{name}` is not enabled")?;
+    refused.add_fault(
+        Code::FeatureOff,
+        &path,
+        SpanPart::Key,
+        wrong.as_str(),
+        None,
+        Some(help),
+    )
 }
 
 /// Adds the features that are not enabled.
@@ -89,12 +35,7 @@ pub fn add_features(
     let alloc = refused.alloc;
     for feature in features {
         let name = feature.to_string(alloc)?;
-        let name = name.as_str();
-        let tree = refused.source.tree();
-        let path = feature_path(alloc, tree, name)?;
-        let wrong = format!(in alloc; "the feature `{name}` is not enabled")?;
-        let help = feature_help(alloc, tree, name, features)?;
-        refused.add_key_at(Code::FeatureOff, &path, wrong.as_str(), Some(help))?;
+        add_feature(refused, name.as_str(), features)?;
     }
     Ok(())
 }

@@ -4,14 +4,13 @@ ghost use Rattle.std.specs.Prelude.{◌≡◌, IfOk, MatchOption, None, Some};
 ghost use Rattle.nextest_tree.specs.View.{tree_view};
 ghost use Rattle.rinqebo_findings.specs.Faults.{ReportDocument, ReportFiles, ReportValues, document_in};
 
-use crate::edits::Edits;
-use crate::element_repairs::leave_out_element;
 use crate::unknown_keys::key_findings;
 use crate::value_faults::{ValueFault, fault_findings, with_strays};
 use nextest_config::Tree;
 use nextest_documents::lay_over;
 use nextest_shape::{file_faults, unknown_keys};
 use nextest_tables::default_tree;
+use rinqebo_faults::{Edits, leave_out_element};
 use rinqebo_load::Session;
 use rinqebo_report::Finding;
 use rinqebo_request::Layer;

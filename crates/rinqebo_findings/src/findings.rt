@@ -1,16 +1,17 @@
 //! Findings: how they are made, and those of warnings.
 ghost use Rattle.std.specs.Prelude.{◌≡◌, IfOk, Some, None};
 ghost use Rattle.rinqebo_report.specs.Codes.Codes.{code_word};
+ghost use Rattle.rinqebo_faults.specs.Paths.{shown_path};
 ghost use Rattle.rinqebo_findings.specs.Placed.{IsPlaceIn};
-ghost use Rattle.rinqebo_findings.specs.Subjects.{shown_path, subject};
+ghost use Rattle.rinqebo_findings.specs.Subjects.{subject};
 
 use crate::given::value_at;
-use crate::headers::header_text;
-use crate::paths::{path_text, spelled_path};
-use crate::refused_values::Fault;
-use crate::tables::{keys_note, unknown_key_help, unknown_key_text};
+use crate::paths::spelled_path;
 use nextest_config::{ConfigSource, ConfigWarning, DefaultConfigWarnings, Tree};
 use nextest_places::{PathSpans, Step};
+use rinqebo_faults::{
+    Fault, header_text, keys_note, path_text, profile_path, unknown_key_help, unknown_key_text,
+};
 use rinqebo_report::{Code, FilePlace, Finding, Level};
 use rinqebo_request::{Layer, NoDocument, SpanPart, part_place, place_of};
 use std::alloc::{AllocError, Global};
@@ -46,7 +47,7 @@ impl<'l, 't> SourceAt<'l, 't> {
     }
 
     /// The place of the value at a path of the source, or of its key.
-    fn place_at(self, path: &[Step<'_>], part: SpanPart) -> Option<FilePlace>
+    pub fn place_at(self, path: &[Step<'_>], part: SpanPart) -> Option<FilePlace>
         ensures { IsPlaceIn part self.entry.layers.now self.entry.position path.now result }
     {
         match self.position {
@@ -118,9 +119,10 @@ pub fn finding(
     ensures { IfOk result (λ found. subject found
         ≡ record { level = level; code = code_word label.code; path = None }) }
 {
+    let upstream = copied(alloc, label.upstream)?;
     let code = String::from_str(alloc, label.code.word())?;
     let mut found = Finding::new(alloc, level, code, message);
-    found.upstream = copied(alloc, label.upstream)?;
+    found.upstream = upstream;
     found.place = source.place();
     Ok(found)
 }
@@ -143,9 +145,10 @@ pub fn finding_at(
     ensures place { IfOk result (λ found.
         IsPlaceIn part source.entry.layers.now source.entry.position path.now found.place) }
 {
+    let text = path_text(alloc, path)?;
     let mut found = finding(alloc, level, label, source, message)?;
     found.place = source.place_at(path, part);
-    found.path = Some(path_text(alloc, path)?);
+    found.path = Some(text);
     Ok(found)
 }
 
@@ -227,6 +230,7 @@ fn reserved_profile(
     source: SourceAt<'_, '_>,
     name: &str,
 ) -> Result<Finding, AllocError> {
+    let expected = copied(alloc, Some("a name that does not begin with `default-`"))?;
     let message = format!(in alloc;
         "`{name}`: names of profiles that begin with `default-` are nextest's own"
     )?;
@@ -237,7 +241,7 @@ fn reserved_profile(
         &[Step::Key("profile"), Step::Key(name)],
         message,
     )?;
-    found.expected = copied(alloc, Some("a name that does not begin with `default-`"))?;
+    found.expected = expected;
     Ok(found)
 }
 
@@ -258,6 +262,8 @@ fn scripts_header(alloc: Global, source: SourceAt<'_, '_>) -> Result<String, All
 
 /// Warns of scripts under the old key.
 fn old_scripts(alloc: Global, source: SourceAt<'_, '_>) -> Result<Finding, AllocError> {
+    let header = scripts_header(alloc, source)?;
+    let help = format!(in alloc; "write `[{header}]`")?;
     let message = String::from_str(
         alloc,
         "the table `script` is the old place of setup scripts",
@@ -269,8 +275,7 @@ fn old_scripts(alloc: Global, source: SourceAt<'_, '_>) -> Result<Finding, Alloc
         &[Step::Key("script")],
         message,
     )?;
-    let header = scripts_header(alloc, source)?;
-    found.help = Some(format!(in alloc; "write `[{header}]`")?);
+    found.help = Some(help);
     Ok(found)
 }
 
@@ -281,19 +286,16 @@ fn empty_rules(
     profile: &str,
     count: usize,
 ) -> Result<Finding, AllocError> {
+    let expected = copied(alloc, Some("`setup`, `list-wrapper` or `run-wrapper`"))?;
     let message = format!(in alloc; "rules that name no script: {count}")?;
     let mut found = key_warning(
         alloc,
         EMPTY_SCRIPT_RULE,
         source,
-        &[
-            Step::Key("profile"),
-            Step::Key(profile),
-            Step::Key("scripts"),
-        ],
+        &profile_path(profile, "scripts"),
         message,
     )?;
-    found.expected = copied(alloc, Some("`setup`, `list-wrapper` or `run-wrapper`"))?;
+    found.expected = expected;
     Ok(found)
 }
 

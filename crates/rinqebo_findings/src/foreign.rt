@@ -1,9 +1,9 @@
 //! Findings of groups and scripts that a file may not define.
 use crate::refused::Refused;
-use nextest_config::{CustomTestGroup, ScriptId, Tree};
+use nextest_config::{CustomTestGroup, ScriptId};
 use nextest_places::Step;
+use rinqebo_faults::script_path;
 use rinqebo_report::{Code, SourceKind};
-use rinqebo_request::SpanPart;
 use std::alloc::{AllocError, Global};
 use std::collections::BTreeSet;
 
@@ -23,6 +23,33 @@ fn own_prefix(refused: &Refused<'_, '_>) -> Result<Option<String>, AllocError> {
     }
 }
 
+/// Adds that the name at the end of a path is that of a group or a script of another owner, as a
+/// word says, in a source whose names begin with nothing.
+fn add_owned(
+    refused: &mut Refused<'_, '_>,
+    code: Code,
+    path: &[Step<'_>],
+    what: &str,
+    name: &str,
+) -> Result<(), AllocError> {
+    let owner = if name.starts_with("@org:") {
+        "the organisation"
+    } else {
+        "a tool"
+    };
+    let wrong = format!(in refused.alloc; "`{name}` is a {what} of {owner}")?;
+    let expected = "a name that begins neither with `@tool:` nor with `@org:`";
+    refused.add_key(code, path, wrong.as_str(), expected, None)
+}
+
+/// What to do about a name that does not begin as those of its source do.
+fn prefix_help(alloc: Global, prefix: &str, name: &str) -> Result<Option<String>, AllocError> {
+    if name.starts_with('@') {
+        return Ok(None);
+    }
+    Ok(Some(format!(in alloc; "write `{prefix}{name}`")?))
+}
+
 /// Adds that a group or a script, as a word says, may not be defined at the key at the end of a
 /// path: a name has to begin as those of its source do.
 fn add_foreign(
@@ -33,26 +60,13 @@ fn add_foreign(
     name: &str,
 ) -> Result<(), AllocError> {
     let alloc = refused.alloc;
-    let part = SpanPart::Key;
     let Some(prefix) = own_prefix(refused)? else {
-        let owner = if name.starts_with("@org:") {
-            "the organisation"
-        } else {
-            "a tool"
-        };
-        let wrong = format!(in alloc; "`{name}` is a {what} of {owner}")?;
-        let mut found = refused.part_at(code, path, part, wrong.as_str())?;
-        let expected = "a name that begins neither with `@tool:` nor with `@org:`";
-        found.expected = Some(String::from_str(alloc, expected)?);
-        return refused.add_finding(found);
+        return add_owned(refused, code, path, what, name);
     };
     let wrong = format!(in alloc; "`{name}` is not a {what} of this file's own")?;
-    let mut found = refused.part_at(code, path, part, wrong.as_str())?;
-    found.expected = Some(format!(in alloc; "a name that begins with `{prefix}`")?);
-    if !name.starts_with('@') {
-        found.help = Some(format!(in alloc; "write `{prefix}{name}`")?);
-    }
-    refused.add_finding(found)
+    let expected = format!(in alloc; "a name that begins with `{prefix}`")?;
+    let help = prefix_help(alloc, prefix.as_str(), name)?;
+    refused.add_key(code, path, wrong.as_str(), expected.as_str(), help)
 }
 
 /// Adds the groups that a source may not define.
@@ -69,56 +83,16 @@ pub fn add_groups(
     Ok(())
 }
 
-/// Whether scripts of a kind have one of a name.
-fn has_script(tree: &Tree, kind: &str, name: &str) -> bool {
-    let Some(scripts) = tree.get("scripts") else {
-        return false;
-    };
-    match scripts.get(kind) {
-        Some(scripts) => scripts.get(name).is_some(),
-        None => false,
-    }
-}
-
-/// The kind of the scripts of a file among which one has a name, unless it is one of the old table.
-fn script_kind(tree: Option<&Tree>, name: &str) -> Option<&'static str> {
-    match tree {
-        Some(tree) if has_script(tree, "setup", name) => Some("setup"),
-        Some(tree) if has_script(tree, "wrapper", name) => Some("wrapper"),
-        _ => None,
-    }
-}
-
-/// The path of the script of a name in a file.
-fn script_path<'p>(
-    alloc: Global,
-    tree: Option<&Tree>,
-    name: &'p str,
-) -> Result<Vec<Step<'p>>, AllocError> {
-    let mut path = Vec::new(alloc);
-    match script_kind(tree, name) {
-        Some(kind) => {
-            path.push(Step::Key("scripts"))?;
-            path.push(Step::Key(kind))?;
-        }
-        None => path.push(Step::Key("script"))?,
-    }
-    path.push(Step::Key(name))?;
-    Ok(path)
-}
-
 /// Adds that scripts of both kinds have one name.
 fn add_twice(
     refused: &mut Refused<'_, '_>,
     path: &[Step<'_>],
     name: &str,
 ) -> Result<(), AllocError> {
-    let alloc = refused.alloc;
-    let wrong = format!(in alloc; "`{name}` is a setup script and a wrapper script")?;
+    let wrong = format!(in refused.alloc; "`{name}` is a setup script and a wrapper script")?;
+    let expected = "a name of its own for each script";
     let code = Code::DuplicateScript;
-    let mut found = refused.part_at(code, path, SpanPart::Key, wrong.as_str())?;
-    found.expected = Some(String::from_str(alloc, "a name of its own for each script")?);
-    refused.add_finding(found)
+    refused.add_key(code, path, wrong.as_str(), expected, None)
 }
 
 /// Why a source may not define scripts.
@@ -130,6 +104,19 @@ pub enum ScriptFault {
     Twice,
 }
 
+/// Adds that a source may not define the script of a name.
+fn add_script(
+    refused: &mut Refused<'_, '_>,
+    name: &str,
+    fault: ScriptFault,
+) -> Result<(), AllocError> {
+    let path = script_path(refused.alloc, refused.source.tree(), name)?;
+    match fault {
+        ScriptFault::Foreign => add_foreign(refused, Code::ForeignScript, &path, "script", name),
+        ScriptFault::Twice => add_twice(refused, &path, name),
+    }
+}
+
 /// Adds the scripts that a source may not define.
 pub fn add_scripts(
     refused: &mut Refused<'_, '_>,
@@ -139,14 +126,7 @@ pub fn add_scripts(
     let alloc = refused.alloc;
     for script in scripts.iter() {
         let name = script.to_string(alloc)?;
-        let name = name.as_str();
-        let path = script_path(alloc, refused.source.tree(), name)?;
-        match fault {
-            ScriptFault::Foreign => {
-                add_foreign(refused, Code::ForeignScript, &path, "script", name)?
-            }
-            ScriptFault::Twice => add_twice(refused, &path, name)?,
-        }
+        add_script(refused, name.as_str(), fault)?;
     }
     Ok(())
 }

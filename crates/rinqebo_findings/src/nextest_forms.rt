@@ -1,15 +1,13 @@
 //! What nextest refuses and a load does not look at: the version that a file needs, the features
 //! that it switches on, archives, and how running tests are ended.
 use crate::findings::{SourceAt, UNKNOWN_KEY, key_warning};
-use crate::given::kind_words;
-use crate::hints::near_hint;
-use crate::left_out::LeftOut;
-use crate::paths::path_with;
 use crate::refused::Refused;
-use crate::tables::called;
-use crate::words::quoted;
 use nextest_config::Tree;
 use nextest_places::Step;
+use rinqebo_faults::{
+    LeftOut, called, is_among, is_number, kind_words, known_note, near_hint, path_with,
+    profile_path, quoted,
+};
 use rinqebo_report::{Code, Finding, HelpPlace};
 use rinqebo_request::{Layer, SpanPart};
 use std::alloc::{AllocError, Global};
@@ -24,6 +22,9 @@ const UNKNOWN_FEATURES: &str = "UnknownExperimentalFeatures";
 /// A version, in words.
 const VERSION: &str = "a string of two or three numbers, such as `0.9.100`";
 
+/// A version or a table, in words.
+const VERSION_OR_TABLE: &str = "a string of two or three numbers, such as `0.9.100`, or a table";
+
 /// The features that nextest knows.
 const FEATURES: [&str; 3] = ["setup-scripts", "wrapper-scripts", "benchmarks"];
 
@@ -36,6 +37,9 @@ const TERMINATE: [&str; 2] = ["wait", "immediate"];
 /// The keys of an entry of what an archive includes.
 const INCLUDE_KEYS: [&str; 4] = ["path", "relative-to", "depth", "on-missing"];
 
+/// Those that an entry has to have.
+const NEEDED_KEYS: [&str; 2] = ["path", "relative-to"];
+
 /// Adds that a value is of a wrong kind.
 fn add_kind(
     refused: &mut Refused<'_, '_>,
@@ -47,9 +51,7 @@ fn add_kind(
     let name = called(alloc, path)?;
     let kind = kind_words(given);
     let wrong = format!(in alloc; "{name} is {kind}")?;
-    let mut found = refused.at(Code::WrongKind, path, wrong.as_str())?;
-    found.expected = Some(String::from_str(alloc, expected)?);
-    refused.add_finding(found)
+    refused.add_value(Code::WrongKind, path, wrong.as_str(), expected, None)
 }
 
 /// Adds that a string is none that a path may have.
@@ -63,10 +65,7 @@ fn add_text(
     let alloc = refused.alloc;
     let name = called(alloc, path)?;
     let wrong = format!(in alloc; "{name} is `{given}`")?;
-    let mut found = refused.at(Code::InvalidValue, path, wrong.as_str())?;
-    found.expected = Some(String::from_str(alloc, expected)?);
-    found.help = help;
-    refused.add_finding(found)
+    refused.add_value(Code::InvalidValue, path, wrong.as_str(), expected, help)
 }
 
 /// Adds what is wrong with a value that is one of some words.
@@ -79,13 +78,32 @@ fn add_word(
     let alloc = refused.alloc;
     let expected = quoted(alloc, words, " or ")?;
     match given.as_str() {
-        Some(text) if words.iter().any(|word| *word == text) => Ok(()),
+        Some(text) if is_among(words, text) => Ok(()),
         Some(text) => {
             let help = near_hint(alloc, text, words)?;
             add_text(refused, path, text, expected.as_str(), help)
         }
         None => add_kind(refused, path, given, expected.as_str()),
     }
+}
+
+/// Warns of a key of a table that is none of some.
+fn warn_of_other<'x>(
+    refused: &mut Refused<'_, '_>,
+    path: &[Step<'x>],
+    key: &'x str,
+    known: &[&str],
+) -> Result<(), AllocError> {
+    let alloc = refused.alloc;
+    let help = near_hint(alloc, key, known)?;
+    let table = called(alloc, path)?;
+    let note = known_note(alloc, table.as_str(), known)?;
+    let message = format!(in alloc; "`{key}` is not a key of {table}")?;
+    let at = path_with(alloc, path, key)?;
+    let mut found = key_warning(alloc, UNKNOWN_KEY, refused.source, &at, message)?;
+    found.help = help;
+    found.help_place = HelpPlace::Beside;
+    refused.add_noted(found, note)
 }
 
 /// Warns of the keys of a table that are none of some.
@@ -95,30 +113,12 @@ fn warn_of_others<'x>(
     members: &'x BTreeMap<String, Tree>,
     known: &[&str],
 ) -> Result<(), AllocError> {
-    let alloc = refused.alloc;
     for key in members.keys() {
-        let key = key.as_str();
-        if known.iter().any(|other| *other == key) {
-            continue;
+        if !is_among(known, key.as_str()) {
+            warn_of_other(refused, path, key.as_str(), known)?;
         }
-        let table = called(alloc, path)?;
-        let message = format!(in alloc; "`{key}` is not a key of {table}")?;
-        let at = path_with(alloc, path, key)?;
-        let mut found = key_warning(alloc, UNKNOWN_KEY, refused.source, &at, message)?;
-        found.help = near_hint(alloc, key, known)?;
-        found.help_place = HelpPlace::Beside;
-        let keys = quoted(alloc, known, ", ")?;
-        found
-            .notes
-            .push(format!(in alloc; "keys of {table}: {keys}")?)?;
-        refused.add_finding(found)?;
     }
     Ok(())
-}
-
-/// Whether a text has digits alone.
-fn is_number(text: &str) -> bool {
-    !text.is_empty() && text.bytes().all(|byte| byte.is_ascii_digit())
 }
 
 /// Whether a text is a number of a version: it has no zero in front of other digits.
@@ -128,8 +128,14 @@ fn is_version_number(text: &str) -> bool {
 
 /// Whether a text is a version: two or three numbers with dots between them.
 fn is_version(text: &str) -> bool {
-    let count = text.split('.').count();
-    (count == 2 || count == 3) && text.split('.').all(|number| is_version_number(number))
+    let mut count = 0usize;
+    for number in text.split('.') {
+        if !is_version_number(number) {
+            return false;
+        }
+        count = count.saturating_add(1);
+    }
+    count == 2 || count == 3
 }
 
 /// Adds what is wrong with a version.
@@ -146,29 +152,38 @@ fn add_version(
     }
 }
 
+/// Adds what is wrong with the version at a key of the version that a file needs, if there is one.
+fn add_version_at(
+    refused: &mut Refused<'_, '_>,
+    versions: &Tree,
+    key: &'static str,
+) -> Result<(), AllocError> {
+    match versions.get(key) {
+        Some(version) => {
+            let path = [Step::Key("nextest-version"), Step::Key(key)];
+            add_version(refused, &path, version, VERSION)
+        }
+        None => Ok(()),
+    }
+}
+
 /// Adds what is wrong with the version that a file needs.
 fn add_versions(refused: &mut Refused<'_, '_>, tree: &Tree) -> Result<(), AllocError> {
-    let alloc = refused.alloc;
     let path = [Step::Key("nextest-version")];
     let Some(given) = tree.get("nextest-version") else {
         return Ok(());
     };
     let Some(members) = given.as_table() else {
-        let expected = format!(in alloc; "{VERSION}, or a table")?;
-        return add_version(refused, &path, given, expected.as_str());
+        return add_version(refused, &path, given, VERSION_OR_TABLE);
     };
     warn_of_others(refused, &path, members, &["required", "recommended"])?;
-    for key in ["required", "recommended"] {
-        if let Some(version) = given.get(key) {
-            add_version(refused, &path_with(alloc, &path, key)?, version, VERSION)?;
-        }
-    }
-    Ok(())
+    add_version_at(refused, given, "required")?;
+    add_version_at(refused, given, "recommended")
 }
 
 /// Whether nextest has a feature of a name.
 fn is_feature(name: &str) -> bool {
-    FEATURES.iter().any(|known| *known == name)
+    is_among(&FEATURES, name)
 }
 
 /// Adds that nextest has no feature of the name at a path.
@@ -178,12 +193,15 @@ fn add_unknown_feature(
     name: &str,
 ) -> Result<(), AllocError> {
     let alloc = refused.alloc;
+    let help = near_hint(alloc, name, &FEATURES)?;
+    let expected = quoted(alloc, &FEATURES, " or ")?;
+    let upstream = String::from_str(alloc, UNKNOWN_FEATURES)?;
     let wrong = format!(in alloc; "`{name}` is not a feature")?;
     let code = Code::InvalidValue;
     let mut found = refused.part_at(code, path, SpanPart::Key, wrong.as_str())?;
-    found.upstream = Some(String::from_str(alloc, UNKNOWN_FEATURES)?);
-    found.expected = Some(quoted(alloc, &FEATURES, " or ")?);
-    found.help = near_hint(alloc, name, &FEATURES)?;
+    found.upstream = Some(upstream);
+    found.expected = Some(expected);
+    found.help = help;
     refused.add_finding(found)
 }
 
@@ -196,33 +214,38 @@ fn add_item_kind(
     let alloc = refused.alloc;
     let kind = kind_words(item);
     let wrong = format!(in alloc; "an item of `experimental` is {kind}")?;
-    let mut found = refused.at(Code::WrongKind, path, wrong.as_str())?;
-    found.expected = Some(String::from_str(alloc, "a string")?);
-    refused.add_finding(found)
+    refused.add_value(Code::WrongKind, path, wrong.as_str(), "a string", None)
+}
+
+/// Reports the item at a position of an array of features, unless it names one.
+fn add_listed_feature(
+    refused: &mut Refused<'_, '_>,
+    position: usize,
+    item: &Tree,
+) -> Result<(), AllocError> {
+    let path = [Step::Key("experimental"), Step::Position(position)];
+    match item.as_str() {
+        Some(name) if is_feature(name) => Ok(()),
+        Some(name) => add_unknown_feature(refused, &path, name),
+        None => add_item_kind(refused, &path, item),
+    }
 }
 
 /// Adds the items of an array of features that name none.
 fn add_listed_features(refused: &mut Refused<'_, '_>, items: &[Tree]) -> Result<(), AllocError> {
     for (position, item) in items.iter().enumerate() {
-        let path = [Step::Key("experimental"), Step::Position(position)];
-        match item.as_str() {
-            Some(name) if is_feature(name) => {}
-            Some(name) => add_unknown_feature(refused, &path, name)?,
-            None => add_item_kind(refused, &path, item)?,
-        }
+        add_listed_feature(refused, position, item)?;
     }
     Ok(())
 }
 
-/// Reports the value of a feature, unless it is a boolean.
-fn add_switch(
-    refused: &mut Refused<'_, '_>,
-    path: &[Step<'_>],
-    given: &Tree,
-) -> Result<(), AllocError> {
+/// Reports a key of a table of features, unless it is the name of one and has a boolean.
+fn add_switch(refused: &mut Refused<'_, '_>, name: &str, given: &Tree) -> Result<(), AllocError> {
+    let path = [Step::Key("experimental"), Step::Key(name)];
     match given {
+        _ if !is_feature(name) => add_unknown_feature(refused, &path, name),
         Tree::Bool(_) => Ok(()),
-        other => add_kind(refused, path, other, "a boolean"),
+        other => add_kind(refused, &path, other, "a boolean"),
     }
 }
 
@@ -232,13 +255,7 @@ fn add_switched_features(
     members: &BTreeMap<String, Tree>,
 ) -> Result<(), AllocError> {
     for (name, given) in members.iter() {
-        let name = name.as_str();
-        let path = [Step::Key("experimental"), Step::Key(name)];
-        if is_feature(name) {
-            add_switch(refused, &path, given)?;
-        } else {
-            add_unknown_feature(refused, &path, name)?;
-        }
+        add_switch(refused, name.as_str(), given)?;
     }
     Ok(())
 }
@@ -246,15 +263,15 @@ fn add_switched_features(
 /// Adds that the features of a file are neither an array nor a table.
 fn add_features_kind(refused: &mut Refused<'_, '_>, given: &Tree) -> Result<(), AllocError> {
     let alloc = refused.alloc;
+    let help = match given.as_str() {
+        Some(name) => Some(format!(in alloc; "write `[\"{name}\"]`")?),
+        None => None,
+    };
     let kind = kind_words(given);
     let wrong = format!(in alloc; "`experimental` is {kind}")?;
+    let expected = "an array of strings, or a table";
     let path = [Step::Key("experimental")];
-    let mut found = refused.at(Code::WrongKind, &path, wrong.as_str())?;
-    found.expected = Some(String::from_str(alloc, "an array of strings, or a table")?);
-    if let Some(name) = given.as_str() {
-        found.help = Some(format!(in alloc; "write `[\"{name}\"]`")?);
-    }
-    refused.add_finding(found)
+    refused.add_value(Code::WrongKind, &path, wrong.as_str(), expected, help)
 }
 
 /// Adds what is wrong with the features that a file switches on.
@@ -269,26 +286,32 @@ fn add_features(refused: &mut Refused<'_, '_>, tree: &Tree) -> Result<(), AllocE
     }
 }
 
+/// A depth of an entry of what an archive includes, in words.
+const DEPTH: &str = "an integer of at least 0, or `infinite`";
+
+/// Adds that the depth of an entry of what an archive includes is below 0.
+fn add_negative_depth(
+    refused: &mut Refused<'_, '_>,
+    path: &[Step<'_>],
+    number: i64,
+) -> Result<(), AllocError> {
+    let wrong = format!(in refused.alloc; "`depth` is {number}")?;
+    refused.add_value(Code::OutOfRange, path, wrong.as_str(), DEPTH, None)
+}
+
 /// Adds what is wrong with the depth of an entry of what an archive includes.
 fn add_depth(
     refused: &mut Refused<'_, '_>,
     path: &[Step<'_>],
     given: &Tree,
 ) -> Result<(), AllocError> {
-    let expected = "an integer of at least 0, or `infinite`";
     match given {
         Tree::Int(number) if *number >= 0 => Ok(()),
-        Tree::Int(number) => {
-            let alloc = refused.alloc;
-            let wrong = format!(in alloc; "`depth` is {number}")?;
-            let mut found = refused.at(Code::OutOfRange, path, wrong.as_str())?;
-            found.expected = Some(String::from_str(alloc, expected)?);
-            refused.add_finding(found)
-        }
+        Tree::Int(number) => add_negative_depth(refused, path, *number),
         Tree::Text(text) if text.as_str() == "infinite" => Ok(()),
-        Tree::Text(text) => add_text(refused, path, text.as_str(), expected, None),
+        Tree::Text(text) => add_text(refused, path, text.as_str(), DEPTH, None),
         Tree::Table(_) | Tree::Array(_) | Tree::Bool(_) | Tree::Opaque => {
-            add_kind(refused, path, given, expected)
+            add_kind(refused, path, given, DEPTH)
         }
     }
 }
@@ -300,13 +323,43 @@ fn add_missing(
     key: &str,
 ) -> Result<(), AllocError> {
     let alloc = refused.alloc;
+    let note = known_note(alloc, "an item of `include`", &INCLUDE_KEYS)?;
     let wrong = format!(in alloc; "an item of `include` needs `{key}`")?;
-    let mut found = refused.at(Code::MissingKey, path, wrong.as_str())?;
-    let keys = quoted(alloc, &INCLUDE_KEYS, ", ")?;
-    found
-        .notes
-        .push(format!(in alloc; "keys of an item of `include`: {keys}")?)?;
-    refused.add_finding(found)
+    let found = refused.at(Code::MissingKey, path, wrong.as_str())?;
+    refused.add_noted(found, note)
+}
+
+/// Adds what is wrong with the value at a key of an entry of what an archive includes.
+fn add_included(
+    refused: &mut Refused<'_, '_>,
+    path: &[Step<'_>],
+    key: &str,
+    given: &Tree,
+) -> Result<(), AllocError> {
+    match (key, given) {
+        ("path", Tree::Text(_)) => Ok(()),
+        ("path", _) => add_kind(refused, path, given, "a string"),
+        ("relative-to", _) => add_word(refused, path, given, &["target"]),
+        ("depth", _) => add_depth(refused, path, given),
+        _ => add_word(refused, path, given, &ON_MISSING),
+    }
+}
+
+/// Adds what is wrong with a key of an entry of what an archive includes. It may have to have it.
+fn add_include_key(
+    refused: &mut Refused<'_, '_>,
+    path: &[Step<'_>],
+    key: &'static str,
+    entry: &Tree,
+) -> Result<(), AllocError> {
+    match entry.get(key) {
+        Some(given) => {
+            let path = path_with(refused.alloc, path, key)?;
+            add_included(refused, &path, key, given)
+        }
+        None if is_among(&NEEDED_KEYS, key) => add_missing(refused, path, key),
+        None => Ok(()),
+    }
 }
 
 /// Adds what is wrong with an entry of what an archive includes.
@@ -315,61 +368,29 @@ fn add_entry<'x>(
     path: &[Step<'x>],
     entry: &'x Tree,
 ) -> Result<(), AllocError> {
-    let alloc = refused.alloc;
     let Some(members) = entry.as_table() else {
         return add_kind(refused, path, entry, "a table");
     };
     warn_of_others(refused, path, members, &INCLUDE_KEYS)?;
-    match entry.get("path") {
-        Some(Tree::Text(_)) => {}
-        Some(given) => add_kind(refused, &path_with(alloc, path, "path")?, given, "a string")?,
-        None => add_missing(refused, path, "path")?,
-    }
-    match entry.get("relative-to") {
-        Some(given) => {
-            add_word(
-                refused,
-                &path_with(alloc, path, "relative-to")?,
-                given,
-                &["target"],
-            )?
-        }
-        None => add_missing(refused, path, "relative-to")?,
-    }
-    if let Some(given) = entry.get("depth") {
-        add_depth(refused, &path_with(alloc, path, "depth")?, given)?;
-    }
-    if let Some(given) = entry.get("on-missing") {
-        add_word(
-            refused,
-            &path_with(alloc, path, "on-missing")?,
-            given,
-            &ON_MISSING,
-        )?;
+    for key in &INCLUDE_KEYS {
+        add_include_key(refused, path, *key, entry)?;
     }
     Ok(())
 }
 
-/// Adds what is wrong with the archive of a profile.
-fn add_archive<'x>(
+/// Adds what is wrong with what the archive of a profile includes.
+fn add_include<'x>(
     refused: &mut Refused<'_, '_>,
     profile: &'x str,
-    archive: &'x Tree,
+    include: &'x Tree,
 ) -> Result<(), AllocError> {
     let path = [
         Step::Key("profile"),
         Step::Key(profile),
         Step::Key("archive"),
+        Step::Key("include"),
     ];
-    let Some(members) = archive.as_table() else {
-        return add_kind(refused, &path, archive, "a table");
-    };
-    warn_of_others(refused, &path, members, &["include"])?;
-    let Some(include) = archive.get("include") else {
-        return Ok(());
-    };
     let Some(entries) = include.as_array() else {
-        let path = path_with(refused.alloc, &path, "include")?;
         return add_kind(refused, &path, include, "an array of tables");
     };
     for (position, entry) in entries.iter().enumerate() {
@@ -383,6 +404,26 @@ fn add_archive<'x>(
         add_entry(refused, &path, entry)?;
     }
     Ok(())
+}
+
+/// Adds what is wrong with the archive of a profile.
+fn add_archive<'x>(
+    refused: &mut Refused<'_, '_>,
+    profile: &'x str,
+    table: &'x Tree,
+) -> Result<(), AllocError> {
+    let Some(archive) = table.get("archive") else {
+        return Ok(());
+    };
+    let path = profile_path(profile, "archive");
+    let Some(members) = archive.as_table() else {
+        return add_kind(refused, &path, archive, "a table");
+    };
+    warn_of_others(refused, &path, members, &["include"])?;
+    let Some(include) = archive.get("include") else {
+        return Ok(());
+    };
+    add_include(refused, profile, include)
 }
 
 /// Adds what is wrong with how a profile ends running tests.
@@ -417,9 +458,7 @@ fn add_forms(refused: &mut Refused<'_, '_>, tree: &Tree) -> Result<(), AllocErro
         return Ok(());
     };
     for (name, profile) in profiles.iter() {
-        if let Some(archive) = profile.get("archive") {
-            add_archive(refused, name.as_str(), archive)?;
-        }
+        add_archive(refused, name.as_str(), profile)?;
         add_terminate(refused, name.as_str(), profile)?;
     }
     Ok(())

@@ -1,154 +1,93 @@
 //! Findings of texts that are not TOML.
-use crate::excerpts::{Mark, lines_of};
-use crate::meant::{BadLine, LineWords, first_definition, line_words};
+use crate::findings::with_note;
 use crate::refused::Refused;
 use nextest_places::TextPosition;
-use rinqebo_report::{Code, FileLines, Finding, Position, Range, Sign};
-use std::alloc::{AllocError, Global};
+use rinqebo_faults::{
+    BadLine, LineWords, earlier_definition, first_note, line_at, line_words, lines_with_first,
+    on_one_line, range_from, start_of,
+};
+use rinqebo_report::{Code, FileLines, Finding, Position};
+use std::alloc::AllocError;
 
-/// A text on one line.
-fn on_one_line(alloc: Global, text: &str) -> Result<String, AllocError> {
-    let mut joined = String::new(alloc);
-    for line in text.lines() {
-        if !joined.is_empty() {
-            joined.push(' ')?;
-        }
-        joined.push_str(line)?;
-    }
-    Ok(joined)
-}
-
-/// A line or a column as users count it, from 1, of one that is counted from 0.
-fn from_one(count: usize) -> u64 {
-    (count as u64).saturating_add(1)
-}
-
-/// The line of a text, from 0, that is at fault.
-fn line_at(text: Option<&str>, line: usize) -> Option<&str> {
-    text?.lines().nth(line)
-}
-
-/// The range of some characters of a line from a position on.
-fn range_from(start: Position, len: usize) -> Range {
-    Range {
-        start,
-        end: Position {
-            line: start.line,
-            column: start.column.saturating_add(len as u64),
-        },
-    }
-}
-
-/// The range of a line, from 0, without the blanks around it.
-fn line_range(line: &str, place: usize) -> Range {
-    let indent = line.chars().take_while(|c| c.is_whitespace()).count();
-    let start = Position {
-        line: from_one(place),
-        column: from_one(indent),
-    };
-    range_from(start, line.trim().chars().count())
-}
-
-/// Returns a finding about a line that defines what an earlier one defines, with that one.
-fn with_first(
-    alloc: Global,
-    found: Finding,
-    text: &str,
-    fault: Range,
-    first: usize,
-) -> Result<Finding, AllocError> {
-    let Some(line) = line_at(Some(text), first) else {
-        return Ok(found);
-    };
+/// Returns a finding about some characters from a position on, with their line, range and column.
+fn placed(found: Finding, start: Position, len: usize) -> Finding {
     let mut found = found;
-    let number = from_one(first);
+    if let Some(place) = &mut found.place {
+        place.lines = Some(FileLines {
+            first: start.line,
+            last: start.line,
+        });
+        place.range = Some(range_from(start, len));
+        found.column = Some(start.column);
+    }
     found
-        .notes
-        .push(format!(in alloc; "it is first defined in line {number}")?)?;
-    let marks = [
-        Mark {
-            sign: Sign::Related,
-            range: line_range(line, first),
-        },
-        Mark {
-            sign: Sign::Fault,
-            range: fault,
-        },
-    ];
-    found.lines = lines_of(alloc, text, &marks)?;
-    Ok(found)
 }
 
-/// Returns a finding about a line of a text with what is wrong there, in words.
-fn with_line(
-    alloc: Global,
-    found: Finding,
+/// Adds that a line of a text is not TOML, with what is wrong there, in words.
+fn add_bad_line(
+    refused: &mut Refused<'_, '_>,
     text: &str,
     position: TextPosition,
-    reason: &str,
-) -> Result<Finding, AllocError> {
-    let Some(line) = line_at(Some(text), position.line) else {
-        return Ok(found);
-    };
-    let bad = BadLine {
-        line,
-        column: position.column,
-        reason,
-    };
+    bad: BadLine<'_>,
+) -> Result<(), AllocError> {
+    let alloc = refused.alloc;
     let LineWords {
         len,
         message,
         expected,
         help,
     } = line_words(alloc, bad)?;
-    let start = Position {
-        line: from_one(position.line),
-        column: from_one(position.column),
-    };
-    let range = range_from(start, len);
-    let mut found = found;
-    found.message = on_one_line(alloc, message.as_str())?;
+    let message = on_one_line(alloc, message.as_str())?;
+    let start = start_of(position);
+    let first = earlier_definition(text, position, bad);
+    let note = first_note(alloc, first)?;
+    let lines = lines_with_first(alloc, text, range_from(start, len), first)?;
+    let mut found = placed(refused.finding(Code::NotToml, message)?, start, len);
     found.expected = expected;
     found.help = help;
-    if let Some(place) = &mut found.place {
-        place.range = Some(range);
+    found.lines = lines;
+    let found = with_note(found, note)?;
+    refused.add_finding(found)
+}
+
+/// Adds that a text is not TOML, for a reason, and where, if that is known.
+fn add_reason(
+    refused: &mut Refused<'_, '_>,
+    position: Option<TextPosition>,
+    reason: &str,
+) -> Result<(), AllocError> {
+    let message = on_one_line(refused.alloc, reason)?;
+    let found = refused.finding(Code::NotToml, message)?;
+    match position {
+        Some(position) => refused.add_finding(placed(found, start_of(position), 1)),
+        None => refused.add_finding(found),
     }
-    if !bad.is_second() {
-        return Ok(found);
-    }
-    match first_definition(text, position.line, bad.defined()) {
-        Some(first) => with_first(alloc, found, text, range, first),
-        None => Ok(found),
-    }
+}
+
+/// Adds that a text is not TOML, for a reason, with what is wrong in its line, if that is known.
+fn add_at(
+    refused: &mut Refused<'_, '_>,
+    position: Option<TextPosition>,
+    reason: &str,
+) -> Result<(), AllocError> {
+    let (Some(text), Some(place)) = (refused.text, position) else {
+        return add_reason(refused, position, reason);
+    };
+    let Some(line) = line_at(Some(text), place.line) else {
+        return add_reason(refused, position, reason);
+    };
+    let bad = BadLine {
+        line,
+        column: place.column,
+        reason,
+    };
+    add_bad_line(refused, text, place, bad)
 }
 
 /// Adds that a text is not a document: where it is at fault, and why.
 pub fn add_no_document(refused: &mut Refused<'_, '_>, message: &str) -> Result<(), AllocError> {
-    let alloc = refused.alloc;
-    let Some(fault) = refused.source.fault() else {
-        let found = refused.finding(Code::NotToml, on_one_line(alloc, message)?)?;
-        return refused.add_finding(found);
-    };
-    let reason = fault.reason.as_str();
-    let mut found = refused.finding(Code::NotToml, on_one_line(alloc, reason)?)?;
-    let Some(position) = fault.position else {
-        return refused.add_finding(found);
-    };
-    let start = Position {
-        line: from_one(position.line),
-        column: from_one(position.column),
-    };
-    if let Some(place) = &mut found.place {
-        place.lines = Some(FileLines {
-            first: start.line,
-            last: start.line,
-        });
-        place.range = Some(range_from(start, 1));
-        found.column = Some(start.column);
+    match refused.source.fault() {
+        Some(fault) => add_at(refused, fault.position, fault.reason.as_str()),
+        None => add_reason(refused, None, message),
     }
-    let found = match refused.text {
-        Some(text) => with_line(alloc, found, text, position, reason)?,
-        None => found,
-    };
-    refused.add_finding(found)
 }

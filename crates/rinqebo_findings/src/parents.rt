@@ -1,10 +1,8 @@
 //! Findings of parents that profiles may not have.
-use crate::cycles::{add_cycle, parent_path};
-use crate::given::profiles_of;
-use crate::hints::near_hint;
+use crate::cycles::add_cycle;
 use crate::refused::Refused;
-use crate::words::quoted;
 use nextest_config::InheritsError;
+use rinqebo_faults::{near_hint, parent_path, profiles_of, quoted};
 use rinqebo_report::Code;
 use rinqebo_request::Layer;
 use std::alloc::{AllocError, Global};
@@ -27,30 +25,6 @@ fn profile_names<'l>(alloc: Global, layers: &'l [Layer]) -> Result<Vec<&'l str>,
     Ok(names)
 }
 
-/// The code of what is wrong with a parent.
-fn parent_code(error: &InheritsError) -> Code {
-    match error {
-        InheritsError::DefaultProfileInheritance(_) => Code::DefaultInherits,
-        InheritsError::SelfReferentialInheritance(_) => Code::InheritsItself,
-        InheritsError::UnknownInheritance(..) => Code::UnknownParent,
-        InheritsError::InheritanceCycle(_) => Code::InheritanceCycle,
-    }
-}
-
-/// Adds that a profile may not inherit, or not from itself.
-fn add_no_parent(
-    refused: &mut Refused<'_, '_>,
-    code: Code,
-    profile: &str,
-    wrong: &str,
-    expected: &str,
-) -> Result<(), AllocError> {
-    let alloc = refused.alloc;
-    let mut found = refused.at(code, &parent_path(profile), wrong)?;
-    found.expected = Some(String::from_str(alloc, expected)?);
-    refused.add_finding(found)
-}
-
 /// Adds that the parent of a profile is none of the profiles with some names.
 fn add_unknown_parent(
     refused: &mut Refused<'_, '_>,
@@ -60,60 +34,60 @@ fn add_unknown_parent(
     wrong: &str,
 ) -> Result<(), AllocError> {
     let alloc = refused.alloc;
-    let mut found = refused.at(Code::UnknownParent, &parent_path(profile), wrong)?;
-    found.expected = Some(quoted(alloc, names, " or ")?);
-    found.help = near_hint(alloc, parent, names)?;
-    refused.add_finding(found)
+    let help = near_hint(alloc, parent, names)?;
+    let expected = quoted(alloc, names, " or ")?;
+    let code = Code::UnknownParent;
+    refused.add_value(code, &parent_path(profile), wrong, expected.as_str(), help)
 }
 
-/// What is wrong with a parent, where profiles have some names.
+/// What is wrong with a parent, in words.
+fn parent_text(alloc: Global, error: &InheritsError) -> Result<String, AllocError> {
+    match error {
+        InheritsError::DefaultProfileInheritance(profile) => {
+            let profile = profile.as_str();
+            format!(in alloc;
+                "profile `{profile}` has `inherits`, but may not inherit from another profile"
+            )
+        }
+        InheritsError::SelfReferentialInheritance(_) | InheritsError::UnknownInheritance(..) => {
+            error.to_string(alloc)
+        }
+        InheritsError::InheritanceCycle(_) => Ok(String::new(alloc)),
+    }
+}
+
+/// Adds that profiles inherit in cycles.
+fn add_cycles(refused: &mut Refused<'_, '_>, cycles: &[Vec<String>]) -> Result<(), AllocError> {
+    for cycle in cycles {
+        add_cycle(refused, cycle)?;
+    }
+    Ok(())
+}
+
+/// Adds what is wrong with a parent, where profiles have some names.
 fn add_parent(
     refused: &mut Refused<'_, '_>,
     names: &[&str],
     error: &InheritsError,
 ) -> Result<(), AllocError> {
     let alloc = refused.alloc;
-    let code = parent_code(error);
+    let wrong = parent_text(alloc, error)?;
+    let wrong = wrong.as_str();
     match error {
         InheritsError::DefaultProfileInheritance(profile) => {
-            let profile = profile.as_str();
-            let wrong = format!(in alloc;
-                "profile `{profile}` has `inherits`, but may not inherit from another profile"
-            )?;
-            add_no_parent(
-                refused,
-                code,
-                profile,
-                wrong.as_str(),
-                "no `inherits` in this profile",
-            )
+            let path = parent_path(profile.as_str());
+            let expected = "no `inherits` in this profile";
+            refused.add_value(Code::DefaultInherits, &path, wrong, expected, None)
         }
         InheritsError::SelfReferentialInheritance(profile) => {
-            let wrong = error.to_string(alloc)?;
-            add_no_parent(
-                refused,
-                code,
-                profile.as_str(),
-                wrong.as_str(),
-                "the name of another profile",
-            )
+            let path = parent_path(profile.as_str());
+            let expected = "the name of another profile";
+            refused.add_value(Code::InheritsItself, &path, wrong, expected, None)
         }
         InheritsError::UnknownInheritance(profile, parent) => {
-            let wrong = error.to_string(alloc)?;
-            add_unknown_parent(
-                refused,
-                names,
-                profile.as_str(),
-                parent.as_str(),
-                wrong.as_str(),
-            )
+            add_unknown_parent(refused, names, profile.as_str(), parent.as_str(), wrong)
         }
-        InheritsError::InheritanceCycle(cycles) => {
-            for cycle in cycles {
-                add_cycle(refused, cycle)?;
-            }
-            Ok(())
-        }
+        InheritsError::InheritanceCycle(cycles) => add_cycles(refused, cycles),
     }
 }
 

@@ -5,19 +5,19 @@ use crate::expressions::add_refused_texts;
 use crate::features::add_features;
 use crate::findings::SourceAt;
 use crate::foreign::{ScriptFault, add_groups, add_scripts};
-use crate::left_out::LeftOut;
 use crate::not_toml::add_no_document;
 use crate::parents::add_parents;
 use crate::refused::Refused;
 use crate::unknown_names::{add_script_errors, add_unknown_groups};
 use nextest_config::{
-    ConfigCompileError, ConfigCompileErrorKind, ConfigCompileSection, ConfigParseError,
-    ConfigParseErrorKind, ConfigPath, IdentifierOwner, ReadOutcome, ToolName,
+    ConfigCompileError, ConfigCompileErrorKind, ConfigParseError, ConfigParseErrorKind, ConfigPath,
+    IdentifierOwner, ReadOutcome, ToolName,
 };
 use nextest_places::Step;
+use rinqebo_faults::{LeftOut, section_path};
 use rinqebo_load::Session;
 use rinqebo_report::{Code, Finding};
-use rinqebo_request::{Layer, place_at};
+use rinqebo_request::{Layer, SpanPart, place_at};
 use std::alloc::{AllocError, Global};
 
 /// The result of reading a file.
@@ -31,29 +31,6 @@ fn add_outcome(refused: &mut Refused<'_, '_>, outcome: &ReadOutcome) -> Result<(
         ),
         ReadOutcome::Failed(message) => refused.add_whole(Code::UnreadableFile, message.as_str()),
     }
-}
-
-/// The path of a section of a profile.
-pub fn section_path<'p>(
-    alloc: Global,
-    profile: &'p str,
-    section: ConfigCompileSection,
-) -> Result<Vec<Step<'p>>, AllocError> {
-    let mut path = Vec::new(alloc);
-    path.push(Step::Key("profile"))?;
-    path.push(Step::Key(profile))?;
-    match section {
-        ConfigCompileSection::DefaultFilter => path.push(Step::Key("default-filter"))?,
-        ConfigCompileSection::Override(index) => {
-            path.push(Step::Key("overrides"))?;
-            path.push(Step::Position(index))?;
-        }
-        ConfigCompileSection::Script(index) => {
-            path.push(Step::Key("scripts"))?;
-            path.push(Step::Position(index))?;
-        }
-    }
-    Ok(path)
 }
 
 /// The code of what is wrong with a whole section.
@@ -80,7 +57,8 @@ fn add_compile(
     }
     let path = section_path(alloc, profile, section)?;
     let wrong = error.kind.to_string(alloc)?;
-    refused.add_at(section_code(&error.kind), &path, wrong.as_str(), None)
+    let code = section_code(&error.kind);
+    refused.add_fault(code, &path, SpanPart::Value, wrong.as_str(), None, None)
 }
 
 /// A second file of a tool.
@@ -97,10 +75,14 @@ fn add_second_file(
 fn add_both_keys(refused: &mut Refused<'_, '_>) -> Result<(), AllocError> {
     let alloc = refused.alloc;
     let help = String::from_str(alloc, "move the scripts of `script` to `scripts.setup`")?;
-    refused.add_key_at(
+    let wrong = "there are `scripts` and its old form, `script`";
+    let path = [Step::Key("scripts")];
+    refused.add_fault(
         Code::TwoScriptTables,
-        &[Step::Key("scripts")],
-        "there are `scripts` and its old form, `script`",
+        &path,
+        SpanPart::Key,
+        wrong,
+        None,
         Some(help),
     )
 }

@@ -4,9 +4,9 @@ ghost use Rattle.rinqebo_request.specs.Files.Origins.{IsPartPlace};
 ghost use Rattle.rinqebo_findings.specs.Placed.{IsPlaceIn, IsPlacedAt};
 ghost use Rattle.rinqebo_findings.specs.Subjects.{error_at, subject};
 
-use crate::findings::{Label, SourceAt, finding, finding_at};
-use crate::left_out::LeftOut;
+use crate::findings::{Label, SourceAt, finding, finding_at, with_note};
 use nextest_places::Step;
+use rinqebo_faults::{LeftOut, owned};
 use rinqebo_report::{Code, FilePlace, Finding, Level};
 use rinqebo_request::{Layer, SpanPart, part_place};
 use std::alloc::{AllocError, Global};
@@ -82,35 +82,68 @@ impl Refused<'_, '_> {
         finding(self.alloc, Level::Error, label, self.source, message)
     }
 
+    /// Adds what is wrong with the value at a path or with its key, what is expected there, if that
+    /// is known, and what to do.
+    pub fn add_fault(
+        &mut self,
+        code: Code,
+        path: &[Step<'_>],
+        part: SpanPart,
+        wrong: &str,
+        expected: Option<&str>,
+        help: Option<String>,
+    ) -> Result<(), AllocError> {
+        let expected = owned(self.alloc, expected)?;
+        let mut found = self.part_at(code, path, part, wrong)?;
+        found.expected = expected;
+        found.help = help;
+        self.add_finding(found)
+    }
+
+    /// Adds what is wrong with the value at a path, what is expected there, and what to do.
+    pub fn add_value(
+        &mut self,
+        code: Code,
+        path: &[Step<'_>],
+        wrong: &str,
+        expected: &str,
+        help: Option<String>,
+    ) -> Result<(), AllocError> {
+        self.add_fault(code, path, SpanPart::Value, wrong, Some(expected), help)
+    }
+
+    /// Adds what is wrong with the key at the end of a path, what is expected there, and what to do.
+    pub fn add_key(
+        &mut self,
+        code: Code,
+        path: &[Step<'_>],
+        wrong: &str,
+        expected: &str,
+        help: Option<String>,
+    ) -> Result<(), AllocError> {
+        self.add_fault(code, path, SpanPart::Key, wrong, Some(expected), help)
+    }
+
+    /// Adds a finding with one more note.
+    pub fn add_noted(&mut self, found: Finding, note: String) -> Result<(), AllocError> {
+        let noted = with_note(found, Some(note))?;
+        self.add_finding(noted)
+    }
+
+    /// The place of the value at a path, as its findings have it.
+    pub fn place_at(&self, path: &[Step<'_>]) -> Option<FilePlace> {
+        let part = SpanPart::Value;
+        written_place(
+            self.source.layers,
+            self.source.place_at(path, part),
+            path,
+            part,
+        )
+    }
+
     /// Adds what is wrong with the whole source.
     pub fn add_whole(&mut self, code: Code, wrong: &str) -> Result<(), AllocError> {
         let found = self.finding(code, String::from_str(self.alloc, wrong)?)?;
-        self.add_finding(found)
-    }
-
-    /// Adds what is wrong with the value at a path, and what to do.
-    pub fn add_at(
-        &mut self,
-        code: Code,
-        path: &[Step<'_>],
-        wrong: &str,
-        help: Option<String>,
-    ) -> Result<(), AllocError> {
-        let mut found = self.at(code, path, wrong)?;
-        found.help = help;
-        self.add_finding(found)
-    }
-
-    /// Adds what is wrong with the key at the end of a path, and what to do.
-    pub fn add_key_at(
-        &mut self,
-        code: Code,
-        path: &[Step<'_>],
-        wrong: &str,
-        help: Option<String>,
-    ) -> Result<(), AllocError> {
-        let mut found = self.part_at(code, path, SpanPart::Key, wrong)?;
-        found.help = help;
         self.add_finding(found)
     }
 }

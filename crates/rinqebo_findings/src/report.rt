@@ -6,9 +6,9 @@ ghost use Rattle.rinqebo_findings.specs.Faults.{ShowsFaults};
 
 use crate::excerpts::with_lines;
 use crate::nextest_forms::nextest_findings;
-use crate::order::in_order;
 use crate::search::{Found, all_findings};
 use nextest_config::{ConfigParseError, DefaultConfigWarnings};
+use rinqebo_faults::in_order;
 use rinqebo_load::Session;
 use rinqebo_report::{Content, Finding, Report, Unreached};
 use rinqebo_request::sources_of;

@@ -3,24 +3,21 @@
 ghost use Rattle.std.specs.Prelude.{IfOk};
 ghost use Rattle.rinqebo_findings.specs.Faults.{ReportAll};
 
-use crate::checks::{Check, Scope, check_of, scope_of};
 use crate::edited_files::Reading;
-use crate::edits::Edits;
-use crate::element_repairs::leave_out_setting;
 use crate::file_values::value_findings;
 use crate::findings::other_warning_findings;
-use crate::refusal_repairs::{
-    leave_out_foreign_groups, leave_out_groups, leave_out_old_scripts, leave_out_parents,
-    leave_out_script_rules, leave_out_scripts, leave_out_sections,
-};
 use crate::refusals::{refusal_findings, refused_place};
-use crate::unreached::{names_after, only};
 use nextest_config::{
     ConfigExperimental, ConfigParseError, ConfigParseErrorKind, DefaultConfigWarnings, Tree,
 };
 use nextest_documents::{TextFault, lay_over, tree_from_text};
 use nextest_shape::file_faults;
 use nextest_tables::default_tree;
+use rinqebo_faults::{
+    Check, Edits, Scope, check_of, leave_out_foreign_groups, leave_out_groups,
+    leave_out_old_scripts, leave_out_parents, leave_out_script_rules, leave_out_scripts,
+    leave_out_sections, leave_out_setting, names_after, only, scope_of,
+};
 use rinqebo_load::Session;
 use rinqebo_report::{Code, Finding, Unreached};
 use std::alloc::{AllocError, Global};
@@ -126,7 +123,10 @@ impl<'s, 'g> Search<'s, 'g> {
 
     /// Adds that a source does not reach the checks behind those that need no other source.
     fn add_unreached(&mut self, place: usize) -> Result<(), AllocError> {
-        let reached = self.tree_at(place).map(|_| Check::Elements);
+        let reached = match self.tree_at(place) {
+            Some(_) => Some(Check::Elements),
+            None => None,
+        };
         let checks = names_after(self.alloc, reached)?;
         self.unreached.push(Unreached {
             source: place,

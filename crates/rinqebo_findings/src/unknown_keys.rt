@@ -3,12 +3,12 @@
 ghost use Rattle.std.specs.Prelude.{IfOk, IsTrue};
 ghost use Rattle.rinqebo_findings.specs.Faults.{IsInPlace, IsInPlaceOf, IsKeyFinding, ReportFaults};
 
-use crate::edits::{mark_below, mark_of};
 use crate::findings::{SourceAt, unknown_key_at};
 use crate::value_faults::{ValueFault, is_key_in};
 use nextest_config::ElementCause;
 use nextest_places::Step;
 use nextest_shape::FoundFault;
+use rinqebo_faults::{mark_below, mark_of};
 use rinqebo_load::Session;
 use rinqebo_report::Finding;
 use std::alloc::{AllocError, Global};

@@ -1,10 +1,10 @@
 //! Findings of rules that name groups and scripts which they may not.
-use crate::hints::{names_of, near_hint};
-use crate::namings::Namings;
 use crate::refused::Refused;
-use crate::words::quoted;
-use nextest_config::{ProfileScriptErrors, UnknownTestGroupError};
+use nextest_config::{
+    ProfileScriptErrors, ProfileWrongConfigScriptTypeError, UnknownTestGroupError,
+};
 use nextest_places::Step;
+use rinqebo_faults::{Namings, is_among, names_of, near_hint, quoted};
 use rinqebo_report::Code;
 use std::alloc::{AllocError, Global};
 use std::collections::BTreeSet;
@@ -21,10 +21,18 @@ const GLOBAL_GROUP: &str = "@global";
 /// The names of groups that a rule may set.
 fn group_names<'k>(alloc: Global, known: &'k BTreeSet<String>) -> Result<Vec<&'k str>, AllocError> {
     let mut names = names_of(alloc, known)?;
-    if !names.iter().any(|name| *name == GLOBAL_GROUP) {
+    if !is_among(&names, GLOBAL_GROUP) {
         names.push(GLOBAL_GROUP)?;
     }
     Ok(names)
+}
+
+/// The known names, in words, if there are some.
+fn one_of(alloc: Global, known: &[&str]) -> Result<Option<String>, AllocError> {
+    if known.is_empty() {
+        return Ok(None);
+    }
+    Ok(Some(quoted(alloc, known, " or ")?))
 }
 
 /// Adds that a name at a path is none of some known ones.
@@ -37,11 +45,11 @@ fn add_unknown(
     known: &[&str],
 ) -> Result<(), AllocError> {
     let alloc = refused.alloc;
+    let help = near_hint(alloc, name, known)?;
+    let expected = one_of(alloc, known)?;
     let mut found = refused.at(code, path, wrong)?;
-    if !known.is_empty() {
-        found.expected = Some(quoted(alloc, known, " or ")?);
-    }
-    found.help = near_hint(alloc, name, known)?;
+    found.expected = expected;
+    found.help = help;
     refused.add_finding(found)
 }
 
@@ -85,6 +93,26 @@ pub fn add_unknown_groups(
     Ok(())
 }
 
+/// Adds that a script is not known, which rules of a profile name.
+fn add_unknown_script(
+    refused: &mut Refused<'_, '_>,
+    namings: &Namings,
+    profile: &str,
+    name: &str,
+    known: &[&str],
+) -> Result<(), AllocError> {
+    let path = namings.path_of(profile, &SCRIPT_USES, name)?;
+    let wrong = format!(in refused.alloc; "unknown script `{name}`")?;
+    add_unknown(
+        refused,
+        Code::UnknownScript,
+        &path,
+        wrong.as_str(),
+        name,
+        known,
+    )
+}
+
 /// Adds the scripts that are not known, which rules name, but those whose definitions are refused.
 fn add_unknown_scripts(
     refused: &mut Refused<'_, '_>,
@@ -96,21 +124,10 @@ fn add_unknown_scripts(
     let names = names_of(alloc, known)?;
     for error in &errors.unknown_scripts {
         let name = error.name.to_string(alloc)?;
-        let name = name.as_str();
-        if refused.left_out.scripts.has(name) {
-            continue;
+        if !refused.left_out.scripts.has(name.as_str()) {
+            let profile = error.profile_name.as_str();
+            add_unknown_script(refused, namings, profile, name.as_str(), &names)?;
         }
-        let profile = error.profile_name.as_str();
-        let path = namings.path_of(profile, &SCRIPT_USES, name)?;
-        let wrong = format!(in alloc; "unknown script `{name}`")?;
-        add_unknown(
-            refused,
-            Code::UnknownScript,
-            &path,
-            wrong.as_str(),
-            name,
-            &names,
-        )?;
     }
     Ok(())
 }
@@ -126,6 +143,23 @@ fn other_use(alloc: Global, key: &str, name: &str) -> Result<(&'static str, Stri
     Ok(("a wrapper script", help))
 }
 
+/// Adds that a rule names a script of the wrong kind.
+fn add_wrong_kind(
+    refused: &mut Refused<'_, '_>,
+    namings: &Namings,
+    error: &ProfileWrongConfigScriptTypeError,
+    name: &str,
+) -> Result<(), AllocError> {
+    let alloc = refused.alloc;
+    let key = error.attempted.to_string(alloc)?;
+    let key = key.as_str();
+    let path = namings.path_of(error.profile_name.as_str(), &[key], name)?;
+    let (expected, help) = other_use(alloc, key, name)?;
+    let wrong = format!(in alloc; "`{name}` is a {} script", error.actual)?;
+    let code = Code::WrongScriptKind;
+    refused.add_value(code, &path, wrong.as_str(), expected, Some(help))
+}
+
 /// Adds that a rule names scripts of the wrong kind, but those whose definitions are refused.
 fn add_wrong_kinds(
     refused: &mut Refused<'_, '_>,
@@ -135,21 +169,27 @@ fn add_wrong_kinds(
     let alloc = refused.alloc;
     for error in &errors.wrong_script_types {
         let name = error.name.to_string(alloc)?;
-        let name = name.as_str();
-        if refused.left_out.scripts.has(name) {
-            continue;
+        if !refused.left_out.scripts.has(name.as_str()) {
+            add_wrong_kind(refused, namings, error, name.as_str())?;
         }
-        let key = error.attempted.to_string(alloc)?;
-        let key = key.as_str();
-        let wrong = format!(in alloc; "`{name}` is a {} script", error.actual)?;
-        let path = namings.path_of(error.profile_name.as_str(), &[key], name)?;
-        let mut found = refused.at(Code::WrongScriptKind, &path, wrong.as_str())?;
-        let (expected, help) = other_use(alloc, key, name)?;
-        found.expected = Some(String::from_str(alloc, expected)?);
-        found.help = Some(help);
-        refused.add_finding(found)?;
     }
     Ok(())
+}
+
+/// Adds that a rule of a profile with a filter on tests names a wrapper of lists.
+fn add_list_wrapper(
+    refused: &mut Refused<'_, '_>,
+    namings: &Namings,
+    profile: &str,
+    name: &str,
+) -> Result<(), AllocError> {
+    let path = namings.path_of(profile, &["list-wrapper"], name)?;
+    let wrong = format!(in refused.alloc;
+        "`{name}` is a list wrapper, and the filter of its rule has a predicate such as `test(..)`"
+    )?;
+    let expected = "a filter on packages and binaries, whose tests are not known yet";
+    let code = Code::ListWrapperFilter;
+    refused.add_value(code, &path, wrong.as_str(), expected, None)
 }
 
 /// Adds that rules with filters on tests name wrappers of lists.
@@ -161,16 +201,7 @@ fn add_list_wrappers(
     let alloc = refused.alloc;
     for error in &errors.list_scripts_using_run_filters {
         let name = error.name.to_string(alloc)?;
-        let name = name.as_str();
-        let wrong = format!(in alloc;
-            "`{name}` is a list wrapper, and the filter of its rule has a predicate such as `test(..)`"
-        )?;
-        let profile = error.profile_name.as_str();
-        let path = namings.path_of(profile, &["list-wrapper"], name)?;
-        let mut found = refused.at(Code::ListWrapperFilter, &path, wrong.as_str())?;
-        let expected = "a filter on packages and binaries, whose tests are not known yet";
-        found.expected = Some(String::from_str(alloc, expected)?);
-        refused.add_finding(found)?;
+        add_list_wrapper(refused, namings, error.profile_name.as_str(), name.as_str())?;
     }
     Ok(())
 }

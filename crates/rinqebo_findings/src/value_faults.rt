@@ -9,13 +9,11 @@ ghost use Rattle.rinqebo_findings.specs.declared.value_faults.ValueFault.{ValueF
 use crate::elements::fault_finding;
 use crate::excerpts::text_of;
 use crate::findings::SourceAt;
-use crate::given::tree_at;
-use crate::left_out::LeftOut;
 use crate::refused::Refused;
-use crate::tables::stray_key;
 use nextest_config::{ElementCause, Tree};
 use nextest_places::Step;
 use nextest_shape::FoundFault;
+use rinqebo_faults::{LeftOut, stray_key, tree_at};
 use rinqebo_load::Session;
 use rinqebo_report::Finding;
 use std::alloc::{AllocError, Global};

@@ -6,14 +6,14 @@ use nextest_config::run::{ResolveFault, TestRow, resolve};
 use nextest_config::{
     BuildPlatforms, DefaultConfigWarnings, NextestRunMode, ParseContext, TestQuery,
 };
+use nextest_explain::engines::filters::{ToyFilters, ToyTally};
+use nextest_explain::engines::platforms::ToySpecs;
 use nextest_explain::{ExplainFault, explain_all};
 use std::alloc::Global;
 use std::collections::BTreeSet;
 use std::io::{self, ErrorKind, Write};
 use std::process::Abort;
 use std::test::Fail;
-use toy_engines::filters::{ToyFilters, ToyTally};
-use toy_engines::platforms::ToySpecs;
 
 /// Two overrides, of which the first holds for both tests and the second for one.
 const FILE: &str =

@@ -1,11 +1,11 @@
 //! A sink that has memory for so many warnings.
 use crate::loads::{ends_by_room, load_text};
 use nextest_config::{ConfigSource, ConfigWarnings, DefaultConfigWarnings, ParseContext};
+use nextest_explain::engines::filters::ToyFilters;
+use nextest_explain::engines::platforms::ToySpecs;
 use std::alloc::{AllocError, Global};
 use std::collections::BTreeSet;
 use std::test::Fail;
-use toy_engines::filters::ToyFilters;
-use toy_engines::platforms::ToySpecs;
 
 /// The engines of a load.
 const ENGINES: ParseContext<'static, ToyFilters, ToySpecs> = ParseContext {

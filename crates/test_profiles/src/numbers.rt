@@ -3,7 +3,7 @@ use crate::lines::Lines;
 use crate::run::Profile;
 use crate::setup::Setup;
 use nextest_config::{BinaryQuery, NextestRunMode, TestQuery};
-use toy_engines::filters::ToyTally;
+use nextest_explain::engines::filters::ToyTally;
 
 /// Adds the numbers of the rules whose filters are evaluated for each test, in both modes, and for
 /// each binary.

@@ -3,9 +3,9 @@ use crate::lines::{Call, Lines, once_more, override_text};
 use crate::run::{ENGINES, Run};
 use nextest_config::run::{Inputs, PlainSource, ResolveFault, TestRow, resolve};
 use nextest_config::{DefaultConfigWarnings, NextestRunMode, Setting};
+use nextest_explain::engines::filters::ToyTally;
 use std::alloc::{AllocError, Global};
 use std::fmt::Debug;
-use toy_engines::filters::ToyTally;
 
 /// Adds how many rows the tests of a case have, and what some settings of each are.
 pub fn add_rows(run: &Run<'_>, lines: &mut Lines<'_>) {

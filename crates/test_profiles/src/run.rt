@@ -4,10 +4,10 @@ use nextest_config::{
     BuildPlatforms, ConfigExperimental, ConfigFileSelection, EarlyProfile, EvaluatableProfile,
     NextestConfig, ParseContext,
 };
+use nextest_explain::engines::filters::ToyFilters;
+use nextest_explain::engines::platforms::ToySpecs;
 use std::alloc::{AllocError, Global};
 use std::collections::BTreeSet;
-use toy_engines::filters::ToyFilters;
-use toy_engines::platforms::ToySpecs;
 
 pub type Config = NextestConfig<ToyFilters, ToySpecs>;
 

@@ -6,10 +6,10 @@ use nextest_config::{
     OverrideId, PrecomputedGroupMembership, SettingSource, SetupScript, TestQuery, TestSettings,
     WrapperScriptConfig,
 };
+use nextest_explain::engines::filters::{ToyFilters, ToyTally};
+use nextest_explain::engines::platforms::ToySpecs;
 use std::alloc::{AllocError, Global};
 use std::fmt::Debug;
-use toy_engines::filters::{ToyFilters, ToyTally};
-use toy_engines::platforms::ToySpecs;
 
 type Source<'cfg> = SettingSource<'cfg, ToyFilters, ToySpecs>;
 

@@ -1,8 +1,10 @@
 //! Profiles on the platforms of a build.
-ghost use Rattle.std.specs.Prelude.{◌≡◌, ◌++◌, ℕ, List, Some, IfOk, map, option_map, string_bytes};
+ghost use Rattle.std.specs.Prelude.{◌≡◌, ◌++◌, ◌∷◌, [], ℕ, List, Some, IfOk, is_some, length, map, option_map, string_bytes};
 ghost use Rattle.nextest_engines.specs.Engines.{test_view, binary_view};
 ghost use Rattle.nextest_load.specs.ConfigView.{groups_view, scripts_view};
 ghost use Rattle.nextest_rules.specs.Rules.{at_name};
+ghost use Rattle.nextest_settings.specs.Binaries.{AreAnswersOf, EvaluatesOpen, answered_binary};
+ghost use Rattle.nextest_settings.specs.Deciding.{asked_from};
 ghost use Rattle.nextest_settings.specs.FilterView.{filter_view};
 ghost use Rattle.nextest_settings.specs.GroupView.{membership_group};
 ghost use Rattle.nextest_settings.specs.Queries.{query_in, binary_query, evaluated_for_test, list_wrapper_of, listing_rule, evaluated_for_list, enabled_scripts, group_of, AnswerForBinaries};
@@ -16,6 +18,7 @@ ghost use Rattle.nextest_settings.specs.Profiles.Known.{KnowsScripts, evaluated_
 ghost use Rattle.nextest_settings.specs.Profiles.Meaning.{profile_meaning};
 ghost use Rattle.nextest_settings.specs.Profiles.SettingsOf.{AreSettingsOf};
 
+use crate::binary_answers::BinaryAnswers;
 use crate::default_filter::CompiledDefaultFilter;
 use crate::evaluated::EvaluatedRules;
 use crate::groups::PrecomputedGroupMembership;
@@ -293,6 +296,53 @@ impl<'cfg, F: Filters, S: Specs> EvaluatableProfile<'cfg, F, S> {
         let values = *self.facts.values();
         self.rules
             .settings_for(values, self.facts.scripts(), mode, query, tally)
+    }
+
+    /// Whether the rules hold for each test of a binary, where the binary alone decides that. Each
+    /// filter whose platforms hold is evaluated once.
+    pub fn binary_answers(
+        &self,
+        alloc: Global,
+        query: &BinaryQuery<'_>,
+        tally: &mut F::Tally,
+    ) -> Result<BinaryAnswers, AllocError>
+        ensures answers { let profile = profile_meaning F.meaning self.now in
+            IfOk result (AreAnswersOf F.holds_binary profile) }
+        ensures binary { IfOk result (λ answers. answered_binary answers ≡ binary_view query.now) }
+    {
+        BinaryAnswers::of(alloc, &self.rules, query, tally)
+    }
+
+    /// The settings of a test, each with what decides it, by what its binary decides of overrides:
+    /// filters are evaluated of the overrides that the binary leaves open, and of script rules.
+    pub fn settings_by_answers(
+        &self,
+        mode: NextestRunMode,
+        query: &TestQuery<'_>,
+        answers: &BinaryAnswers,
+        tally: &mut F::Tally,
+    ) -> TestSettings<'cfg, F, S, SettingSource<'cfg, F, S>>
+        ensures settings { let profile = profile_meaning F.meaning self.now in
+            let test = test_view query.now in
+            AreAnswersOf F.holds_binary profile answers.now
+            → answered_binary answers.now ≡ test.binary
+            → AreSettingsOf F.meaning (query_in F.holds profile test) mode profile result }
+        ensures tally { let profile = profile_meaning F.meaning self.now in
+            let test = query_in F.holds profile (test_view query.now) in
+            EvaluatesOpen answers.now.overrides.items
+            (asked_from ((λ w. is_some w.scripts.run_wrapper) ∷ []) (length profile.overrides) test
+            [] profile.script_rules)
+            (F.Tally.numbers tally.old) (F.Tally.numbers tally.new) }
+    {
+        let values = *self.facts.values();
+        self.rules.open_settings_for(
+            values,
+            self.facts.scripts(),
+            mode,
+            query,
+            answers.overrides(),
+            tally,
+        )
     }
 
     /// The settings of a binary that lists its tests. Script rules whose filters are evaluated go

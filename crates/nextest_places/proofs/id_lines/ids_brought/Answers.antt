@@ -1,19 +1,11 @@
-use Rattle.std.proofs.Common.{◌≡◌, ◌∙◌, refl, sym, inl, inr}
-use Rattle.toml_parser.specs.Reading.{path_view}
-use Rattle.nextest_places.specs.Entries.{aim_along}
-use Rattle.nextest_places.proofs.IdAims.{brings_counted, brings_none, brings_one, brings_rest}
+use Rattle.std.proofs.Common.{◌∙◌, refl, sym}
+use Rattle.nextest_places.proofs.IdAims.{brings_none, brings_one, brings_rest}
 use Rattle.nextest_places.proofs.id_lines.ids_brought.Goals as goal
 
 pub returns-in-Elsewhere : goal.returns-in-Elsewhere
 returns-in-Elsewhere c = λ keys id.
-    let kind = c.args.entry.now.kind in
-    let parts = c.args.entry.now.parts.items in
-    let table = c.args.table.now in
-    let aim : c.aim_of.result ≡ aim_along kind (path_view parts) 0 0 table = rw c.deref.ensures.value at c.aim_of.ensures in
-    elim c.in-Elsewhere.is [
-      | inl none ↦ brings_none kind parts table keys id (sym none ∙ aim)
-      | inr counts ↦ brings_counted kind parts table keys id counts.0 counts.1 (sym counts.2 ∙ aim)
-    ]
+    brings_none c.args.entry.now.kind c.args.entry.now.parts.items c.args.table.now keys id
+    (rw c.deref.ensures.value at c.in-Elsewhere.ensures)
 
 pub returns-in-Some : goal.returns-in-Some
 returns-in-Some c = λ keys id.

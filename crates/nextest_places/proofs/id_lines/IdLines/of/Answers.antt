@@ -6,7 +6,7 @@ use Rattle.std.specs.Option.{option_or}
 use Rattle.std.specs.Str.{bytes_eq}
 use Rattle.nextest_places.specs.declared.step.Step.TheVariants.{Key}
 use Rattle.nextest_places.specs.Marks.{fresh}
-use Rattle.nextest_places.proofs.IdAims.{meets, next_entry, now_kept, passes, scan_over, still_kept}
+use Rattle.nextest_places.proofs.IdAims.{keys_more, meets, next_entry, now_kept, passes, scan_over, still_kept}
 use Rattle.nextest_places.proofs.id_lines.IdLines.of.Goals as goal
 use Rattle.nextest_places.proofs.id_lines.IdLines.of.Goals.{in-Nothing, in-OneId+then-not-contains_key+in_ok-insert-in-OneId, in-OneId+else-not-contains_key}
 
@@ -27,7 +27,7 @@ loop-entry-preserved c = λ id.
       | in-Nothing w ↦
           rw w.own-is (
           next_entry entries i entry here c.entry-item.is o o (fresh path)
-          (passes entry path o (w.in-Nothing.ensures c.requires id))
+          (passes entry path o (keys_more c.args.table.now c.requires id) (w.in-Nothing.ensures c.requires id))
           ∙ c.loop-entry.invariant id
           )
       | in-OneId+then-not-contains_key+in_ok-insert-in-OneId w ↦
@@ -41,7 +41,7 @@ loop-entry-preserved c = λ id.
           ∙ ap (λ n. is_some (get_by (λ k. slice_cmp nat_cmp n k.now) old)) (sym same)) in
           rw w.own-is (
           next_entry entries i entry here c.entry-item.is o new (fresh path)
-          (now_kept entry path id.now key o (w.in-OneId.ensures c.requires id) new none now)
+          (now_kept entry path (keys_more c.args.table.now c.requires id) id.now key o (w.in-OneId.ensures c.requires id) new none now)
           ∙ c.loop-entry.invariant id
           )
       | in-OneId+else-not-contains_key w ↦
@@ -50,7 +50,7 @@ loop-entry-preserved c = λ id.
           ap (λ n. is_some (get_by (λ k. slice_cmp nat_cmp n k.now) old)) same ∙ sym w.if-not-contains_key.ensures in
           rw w.own-is (
           next_entry entries i entry here c.entry-item.is o o (fresh path)
-          (still_kept entry path id.now key o (w.in-OneId.ensures c.requires id) some)
+          (still_kept entry path (keys_more c.args.table.now c.requires id) id.now key o (w.in-OneId.ensures c.requires id) some)
           ∙ c.loop-entry.invariant id
           )
     ]

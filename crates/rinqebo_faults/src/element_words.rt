@@ -1,0 +1,176 @@
+//! What is wrong with values that a file may not have, in words.
+use crate::expected::{expected_at, expected_name, expected_text};
+use crate::given::kind_words;
+use crate::headers::header_text;
+use crate::hints::word_hint;
+use crate::shapes::shape_at;
+use crate::spellings::spelling;
+use crate::tables::{called, keys_note, unknown_key_help, unknown_key_text};
+use nextest_config::{ElementCause, Tree};
+use nextest_places::Step;
+use nextest_shape::file_shape;
+use std::alloc::{AllocError, Global};
+
+/// What is wrong with a value of a wrong kind: the kind that it has.
+fn wrong_kind(alloc: Global, name: &str, given: Option<&Tree>) -> Result<String, AllocError> {
+    match given {
+        Some(tree) => {
+            let kind = kind_words(tree);
+            format!(in alloc; "{name} is {kind}")
+        }
+        None => format!(in alloc; "{name} has the wrong kind"),
+    }
+}
+
+/// What is wrong with a value that is out of its range: the value.
+fn out_of_range(alloc: Global, name: &str, given: Option<&Tree>) -> Result<String, AllocError> {
+    match given {
+        Some(Tree::Int(number)) => format!(in alloc; "{name} is {number}"),
+        Some(Tree::Array(items)) if items.is_empty() => format!(in alloc; "{name} is empty"),
+        Some(Tree::Text(text)) => {
+            let text = text.as_str();
+            format!(in alloc; "{name} is `{text}`")
+        }
+        _ => format!(in alloc; "{name} is out of range"),
+    }
+}
+
+/// What is wrong with a text that is not taken: the text, or the name that it is.
+fn bad_text(
+    alloc: Global,
+    name: &str,
+    given: &str,
+    found: Option<&Tree>,
+) -> Result<String, AllocError> {
+    match found {
+        Some(Tree::Text(text)) if text.as_str() == given => {
+            if given.is_empty() {
+                return format!(in alloc; "{name} is empty");
+            }
+            format!(in alloc; "{name} is `{given}`")
+        }
+        _ => format!(in alloc; "`{given}` is not a valid name here"),
+    }
+}
+
+/// What is wrong with the value at a path, if there is one.
+pub fn wrong_element(
+    alloc: Global,
+    found: Option<&Tree>,
+    cause: &ElementCause,
+    path: &[Step<'_>],
+) -> Result<String, AllocError> {
+    let name = called(alloc, path)?;
+    let name = name.as_str();
+    match cause {
+        ElementCause::WrongKind => wrong_kind(alloc, name, found),
+        ElementCause::Missing(key) => format!(in alloc; "{name} needs `{key}`"),
+        ElementCause::BadValue { given, .. } => bad_text(alloc, name, given.as_str(), found),
+        ElementCause::OutOfRange => out_of_range(alloc, name, found),
+        ElementCause::UnknownField => unknown_key_text(alloc, path),
+        ElementCause::Memory => String::from_str(alloc, "out of memory"),
+    }
+}
+
+/// What is expected in place of a text that is refused, as the shape of a file has it, or else as a
+/// reader words it. The text is the value at the path, or else the key that ends it.
+fn wanted_text(
+    alloc: Global,
+    found: Option<&Tree>,
+    path: &[Step<'_>],
+    given: &str,
+    expected: &str,
+) -> Result<Option<String>, AllocError> {
+    let words = match found {
+        Some(Tree::Text(text)) if text.as_str() == given => expected_text(alloc, path)?,
+        _ => expected_name(alloc, path)?,
+    };
+    match words {
+        Some(words) => Ok(Some(words)),
+        None => Ok(Some(String::from_str(alloc, expected)?)),
+    }
+}
+
+/// What is expected in place of a value that is refused: the one at a path, if there is one.
+pub fn wanted(
+    alloc: Global,
+    found: Option<&Tree>,
+    cause: &ElementCause,
+    path: &[Step<'_>],
+) -> Result<Option<String>, AllocError> {
+    match cause {
+        ElementCause::BadValue { given, expected } => {
+            wanted_text(alloc, found, path, given.as_str(), *expected)
+        }
+        ElementCause::WrongKind
+        | ElementCause::Missing(_)
+        | ElementCause::OutOfRange
+        | ElementCause::UnknownField
+        | ElementCause::Memory => expected_at(alloc, cause, path),
+    }
+}
+
+/// How the value at a path is meant to be spelled, where that is plain.
+fn spelled(
+    alloc: Global,
+    found: Option<&Tree>,
+    path: &[Step<'_>],
+) -> Result<Option<String>, AllocError> {
+    let file = file_shape(alloc)?;
+    let header = header_text(alloc, path)?;
+    match (shape_at(&file, path), found) {
+        (Some(shape), Some(tree)) => spelling(alloc, shape, tree, header.as_str()),
+        _ => Ok(None),
+    }
+}
+
+/// What to do about a value that is refused: the one at a path, if there is one.
+pub fn advice(
+    alloc: Global,
+    found: Option<&Tree>,
+    cause: &ElementCause,
+    path: &[Step<'_>],
+) -> Result<Option<String>, AllocError> {
+    if let ElementCause::BadValue { given, .. } = cause {
+        if let Some(hint) = word_hint(alloc, given.as_str(), path)? {
+            return Ok(Some(hint));
+        }
+    }
+    if let ElementCause::UnknownField = cause {
+        let (help, _place) = unknown_key_help(alloc, path)?;
+        return Ok(help);
+    }
+    spelled(alloc, found, path)
+}
+
+/// The notes about a value that is refused: the keys that its table has, where it is a key.
+pub fn element_notes(
+    alloc: Global,
+    cause: &ElementCause,
+    path: &[Step<'_>],
+) -> Result<Vec<String>, AllocError> {
+    let mut notes = Vec::new(alloc);
+    if let (ElementCause::UnknownField, Some((_key, table))) = (cause, path.split_last()) {
+        if let Some(note) = keys_note(alloc, table)? {
+            notes.push(note)?;
+        }
+    }
+    Ok(notes)
+}
+
+/// That the table at a path lacks a key, and may have another one in its place.
+pub fn lack_text(
+    alloc: Global,
+    key: &str,
+    table: &[Step<'_>],
+    stray: Option<&str>,
+) -> Result<String, AllocError> {
+    let name = called(alloc, table)?;
+    match stray {
+        Some(stray) => format!(in alloc; "{name} needs `{key}`, not `{stray}`"),
+        None if key == "delay" => {
+            format!(in alloc; "{name} needs `delay`, as `backoff` is `exponential`")
+        }
+        None => format!(in alloc; "{name} needs `{key}`"),
+    }
+}

@@ -1,0 +1,80 @@
+//! Features that are not enabled: what needs them, and how to switch them on.
+use nextest_config::{ConfigExperimental, Tree};
+use nextest_places::Step;
+use std::alloc::{AllocError, Global};
+
+/// The value at a key of a tree, if there is one.
+fn value_of<'t>(tree: Option<&'t Tree>, key: &str) -> Option<&'t Tree> {
+    tree?.get(key)
+}
+
+/// The kind of scripts that a feature switches on.
+fn kind_of_feature(feature: &str) -> &str {
+    feature.strip_suffix("-scripts").unwrap_or(feature)
+}
+
+/// The path of the table whose scripts need a feature: the old one where it is alone.
+pub fn feature_path<'p>(
+    alloc: Global,
+    tree: Option<&Tree>,
+    feature: &'p str,
+) -> Result<Vec<Step<'p>>, AllocError> {
+    let mut path = Vec::new(alloc);
+    let Some(scripts) = value_of(tree, "scripts") else {
+        path.push(Step::Key("script"))?;
+        return Ok(path);
+    };
+    path.push(Step::Key("scripts"))?;
+    let kind = kind_of_feature(feature);
+    if scripts.get(kind).is_some() {
+        path.push(Step::Key(kind))?;
+    }
+    Ok(path)
+}
+
+/// Adds a name in quotes to a list.
+fn add_quoted(alloc: Global, list: &mut String, name: &str) -> Result<(), AllocError> {
+    if !list.is_empty() {
+        list.push_str(", ")?;
+    }
+    let quoted = format!(in alloc; "\"{name}\"")?;
+    list.push_str(quoted.as_str())
+}
+
+/// The features that a file lists, and those that it lacks, as an array of TOML has them.
+fn feature_list(
+    alloc: Global,
+    listed: Option<&Tree>,
+    missing: &[ConfigExperimental],
+) -> Result<String, AllocError> {
+    let mut list = String::new(alloc);
+    if let Some(Tree::Array(items)) = listed {
+        for item in items {
+            if let Some(name) = item.as_str() {
+                add_quoted(alloc, &mut list, name)?;
+            }
+        }
+    }
+    for feature in missing {
+        let name = feature.to_string(alloc)?;
+        add_quoted(alloc, &mut list, name.as_str())?;
+    }
+    Ok(list)
+}
+
+/// How to switch on a feature, of several that are missing in a file.
+pub fn feature_help(
+    alloc: Global,
+    tree: Option<&Tree>,
+    feature: &str,
+    missing: &[ConfigExperimental],
+) -> Result<String, AllocError> {
+    let listed = value_of(tree, "experimental");
+    if let Some(Tree::Table(_)) = listed {
+        return format!(in alloc;
+            "write `experimental.{feature} = true`, or pass `--experimental {feature}`"
+        );
+    }
+    let list = feature_list(alloc, listed, missing)?;
+    format!(in alloc; "write `experimental = [{list}]`, or pass `--experimental {feature}`")
+}

@@ -1,0 +1,188 @@
+//! Where the rules of profiles name groups and scripts.
+use crate::given::profiles_of;
+use crate::paths::profile_path;
+use crate::tables::longer;
+use nextest_config::Tree;
+use nextest_places::Step;
+use std::alloc::{AllocError, Global};
+use std::collections::BTreeMap;
+
+/// A rule of a profile that has a name.
+#[derive(Clone, Copy)]
+struct Naming {
+    /// The key at which it has the name.
+    key: &'static str,
+    /// Its position in the list of the profile.
+    rule: usize,
+    /// The position of the name in the array at the key, if it is in one.
+    item: Option<usize>,
+}
+
+impl Naming {
+    /// The path of the name in the list at a path.
+    fn path_below<'p>(self, alloc: Global, list: &[Step<'p>]) -> Result<Vec<Step<'p>>, AllocError> {
+        let rule = [Step::Position(self.rule), Step::Key(self.key)];
+        let path = longer(alloc, list, &rule)?;
+        match self.item {
+            Some(place) => longer(alloc, &path, &[Step::Position(place)]),
+            None => Ok(path),
+        }
+    }
+}
+
+/// Whether a rule comes before another one, if there is one.
+fn is_before(naming: Naming, other: Option<Naming>) -> bool {
+    match other {
+        Some(other) => naming.rule < other.rule,
+        None => true,
+    }
+}
+
+/// The text by which a name is found that rules of a profile have at a key.
+pub fn naming_mark(
+    alloc: Global,
+    profile: &str,
+    key: &str,
+    name: &str,
+) -> Result<String, AllocError> {
+    let length = profile.len();
+    format!(in alloc; "{length}:{profile} {key} {name}")
+}
+
+/// The names that the rules of the profiles of a file have at some keys, each with the first rule of
+/// a profile that has it there.
+#[derive(Drop)]
+pub struct Namings {
+    alloc: Global,
+    /// The key of the profiles at which their rules are.
+    list: &'static str,
+    firsts: BTreeMap<String, Naming>,
+}
+
+impl Namings {
+    /// The names that the rules of a list of each profile of a file have at some keys.
+    pub fn of(
+        alloc: Global,
+        tree: Option<&Tree>,
+        list: &'static str,
+        keys: &[&'static str],
+    ) -> Result<Namings, AllocError> {
+        let mut namings = Namings {
+            alloc,
+            list,
+            firsts: BTreeMap::new(alloc),
+        };
+        if let Some(profiles) = profiles_of(tree) {
+            for (profile, table) in profiles.iter() {
+                namings.add_profile(profile.as_str(), table, keys)?;
+            }
+        }
+        Ok(namings)
+    }
+
+    /// Adds the names that the rules of a profile have.
+    fn add_profile(
+        &mut self,
+        profile: &str,
+        table: &Tree,
+        keys: &[&'static str],
+    ) -> Result<(), AllocError> {
+        let Some(list) = table.get(self.list) else {
+            return Ok(());
+        };
+        let Some(rules) = list.as_array() else {
+            return Ok(());
+        };
+        for (position, rule) in rules.iter().enumerate() {
+            self.add_rule(profile, position, rule, keys)?;
+        }
+        Ok(())
+    }
+
+    /// Adds the names that the rule at a position has.
+    fn add_rule(
+        &mut self,
+        profile: &str,
+        position: usize,
+        rule: &Tree,
+        keys: &[&'static str],
+    ) -> Result<(), AllocError> {
+        for key in keys {
+            if let Some(written) = rule.get(*key) {
+                let naming = Naming {
+                    key: *key,
+                    rule: position,
+                    item: None,
+                };
+                self.add_written(profile, naming, written)?;
+            }
+        }
+        Ok(())
+    }
+
+    /// Adds the names that a rule has at a key: the text there, or those of the array there.
+    fn add_written(
+        &mut self,
+        profile: &str,
+        naming: Naming,
+        written: &Tree,
+    ) -> Result<(), AllocError> {
+        if let Some(name) = written.as_str() {
+            return self.add(profile, name, naming);
+        }
+        let Some(items) = written.as_array() else {
+            return Ok(());
+        };
+        for (place, item) in items.iter().enumerate() {
+            if let Some(name) = item.as_str() {
+                let item = Some(place);
+                self.add(profile, name, Naming { item, ..naming })?;
+            }
+        }
+        Ok(())
+    }
+
+    /// Adds a rule of a profile that has a name, unless an earlier one has it at the same key.
+    fn add(&mut self, profile: &str, name: &str, naming: Naming) -> Result<(), AllocError> {
+        let mark = naming_mark(self.alloc, profile, naming.key, name)?;
+        if !self.firsts.contains_key(mark.as_str()) {
+            drop(self.firsts.insert(mark, naming)?);
+        }
+        Ok(())
+    }
+
+    /// The first rule of a profile that has a name at one of some keys.
+    fn first(
+        &self,
+        profile: &str,
+        keys: &[&str],
+        name: &str,
+    ) -> Result<Option<Naming>, AllocError> {
+        let mut first = None;
+        for key in keys {
+            let mark = naming_mark(self.alloc, profile, *key, name)?;
+            if let Some(naming) = self.firsts.get(mark.as_str()) {
+                if is_before(*naming, first) {
+                    first = Some(*naming);
+                }
+            }
+        }
+        Ok(first)
+    }
+
+    /// The path at which the first rule of a profile has a name at one of some keys. It is that of
+    /// the list where none does.
+    pub fn path_of<'p>(
+        &self,
+        profile: &'p str,
+        keys: &[&str],
+        name: &str,
+    ) -> Result<Vec<Step<'p>>, AllocError> {
+        let alloc = self.alloc;
+        let list = profile_path(profile, self.list);
+        match self.first(profile, keys, name)? {
+            Some(naming) => naming.path_below(alloc, &list),
+            None => Vec::from_slice(alloc, &list),
+        }
+    }
+}

@@ -1,0 +1,77 @@
+//! Positions in texts, and the parts of refused texts, as reports have them.
+use nextest_places::offsets_of;
+use rinqebo_report::{CharSpan, Position, Range as ReportRange, RefusedExpression};
+use std::alloc::{AllocError, Global};
+use std::ops::Range;
+
+/// How many characters are before a byte of a text.
+fn characters_before(text: &str, byte: usize) -> usize {
+    text.char_indices().filter(|(at, _)| *at < byte).count()
+}
+
+/// A refused text, and the part of it that is at fault.
+pub fn expression(
+    alloc: Global,
+    text: &str,
+    bytes: &Range<usize>,
+) -> Result<RefusedExpression, AllocError> {
+    Ok(RefusedExpression {
+        text: String::from_str(alloc, text)?,
+        span: Some(CharSpan {
+            from: characters_before(text, bytes.start),
+            to: characters_before(text, bytes.end),
+        }),
+    })
+}
+
+/// Returns the position behind a text that starts at a position.
+fn position_behind(start: Position, text: &str) -> Position {
+    let mut behind = start;
+    for c in text.chars() {
+        behind = match c {
+            '\n' => Position {
+                line: behind.line.saturating_add(1),
+                column: 1,
+            },
+            _ => Position {
+                line: behind.line,
+                column: behind.column.saturating_add(1),
+            },
+        };
+    }
+    behind
+}
+
+/// Returns the position at which a token writes the character of its string at a place, given the
+/// bytes at which it writes each.
+fn position_of(start: Position, token: &str, offsets: &[usize], place: usize) -> Option<Position> {
+    Some(position_behind(start, token.get(..*offsets.get(place)?)?))
+}
+
+/// Returns the range in which the token of a string writes some of its characters, where the token
+/// starts at a position.
+pub fn range_in(
+    alloc: Global,
+    start: Position,
+    token: &str,
+    span: CharSpan,
+) -> Result<Option<ReportRange>, AllocError> {
+    let Some(offsets) = offsets_of(alloc, token)? else {
+        return Ok(None);
+    };
+    match (
+        position_of(start, token, &offsets, span.from),
+        position_of(start, token, &offsets, span.to),
+    ) {
+        (Some(start), Some(end)) => Ok(Some(ReportRange { start, end })),
+        _ => Ok(None),
+    }
+}
+
+/// The characters of a text between two bytes.
+pub fn char_span(text: &str, start: usize, end: usize) -> CharSpan {
+    CharSpan {
+        from: characters_before(text, start),
+        to: characters_before(text, end),
+    }
+}

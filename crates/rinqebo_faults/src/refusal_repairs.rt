@@ -1,0 +1,251 @@
+//! What files are read without where a later check refuses them.
+use crate::edits::Edits;
+use crate::given::profiles_of;
+use crate::namings::naming_mark;
+use crate::paths::{parent_path, path_with, profile_path, section_path};
+use nextest_config::{
+    ConfigCompileError, ConfigCompileErrorKind, ConfigCompileSection, CustomTestGroup,
+    InheritsError, ProfileScriptErrors, ScriptId, Tree, UnknownTestGroupError,
+};
+use nextest_places::Step;
+use std::alloc::{AllocError, Global};
+use std::collections::{BTreeMap, BTreeSet};
+
+/// Any filter, in place of one that is refused.
+const FILTER: &str = "\"all()\"";
+
+/// Any platform, in place of one that is refused.
+const PLATFORM: &str = "\"cfg(unix)\"";
+
+/// Any platform, for a rule that has no condition.
+const CONDITION: &str = "platform = \"cfg(unix)\"";
+
+/// The key at which an override sets a group.
+const GROUP_KEY: &str = "test-group";
+
+/// Leaves out groups of a source.
+pub fn leave_out_foreign_groups(
+    alloc: Global,
+    edits: &mut Edits,
+    place: usize,
+    groups: &BTreeSet<CustomTestGroup>,
+) -> Result<(), AllocError> {
+    for group in groups.iter() {
+        let name = group.to_string(alloc)?;
+        edits.remove(place, &[Step::Key("test-groups"), Step::Key(name.as_str())])?;
+        edits.left_out.groups.add(name.as_str())?;
+    }
+    Ok(())
+}
+
+/// Leaves out scripts of a source.
+pub fn leave_out_scripts(
+    alloc: Global,
+    edits: &mut Edits,
+    place: usize,
+    scripts: &BTreeSet<ScriptId>,
+) -> Result<(), AllocError> {
+    for script in scripts.iter() {
+        let name = script.to_string(alloc)?;
+        let name = name.as_str();
+        for kind in ["setup", "wrapper"] {
+            edits.remove(
+                place,
+                &[Step::Key("scripts"), Step::Key(kind), Step::Key(name)],
+            )?;
+        }
+        edits.remove(place, &[Step::Key("script"), Step::Key(name)])?;
+        edits.left_out.scripts.add(name)?;
+    }
+    Ok(())
+}
+
+/// The old table of scripts of a file.
+fn old_scripts(tree: Option<&Tree>) -> Option<&BTreeMap<String, Tree>> {
+    tree?.get("script")?.as_table()
+}
+
+/// Leaves out the old table of scripts of a source.
+pub fn leave_out_old_scripts(
+    edits: &mut Edits,
+    place: usize,
+    tree: Option<&Tree>,
+) -> Result<(), AllocError> {
+    if let Some(scripts) = old_scripts(tree) {
+        for name in scripts.keys() {
+            edits.left_out.scripts.add(name.as_str())?;
+        }
+    }
+    edits.remove(place, &[Step::Key("script")])
+}
+
+/// Leaves out the parent of a profile, in any source.
+fn leave_out_parent(edits: &mut Edits, sources: usize, profile: &str) -> Result<(), AllocError> {
+    for place in 0..sources {
+        edits.remove(place, &parent_path(profile))?;
+    }
+    Ok(())
+}
+
+/// Leaves out parents that profiles may not have.
+pub fn leave_out_parents(
+    edits: &mut Edits,
+    sources: usize,
+    errors: &[InheritsError],
+) -> Result<(), AllocError> {
+    for error in errors {
+        match error {
+            InheritsError::DefaultProfileInheritance(profile)
+            | InheritsError::SelfReferentialInheritance(profile)
+            | InheritsError::UnknownInheritance(profile, _) => {
+                leave_out_parent(edits, sources, profile.as_str())?;
+            }
+            InheritsError::InheritanceCycle(cycles) => {
+                for cycle in cycles {
+                    for profile in cycle {
+                        leave_out_parent(edits, sources, profile.as_str())?;
+                    }
+                }
+            }
+        }
+    }
+    Ok(())
+}
+
+/// Reads something in place of what does not compile.
+fn leave_out_section(
+    alloc: Global,
+    edits: &mut Edits,
+    place: usize,
+    error: &ConfigCompileError,
+) -> Result<(), AllocError> {
+    let section = section_path(alloc, error.profile_name.as_str(), error.section)?;
+    if let ConfigCompileSection::DefaultFilter = error.section {
+        return edits.replace(place, &section, FILTER);
+    }
+    match &error.kind {
+        ConfigCompileErrorKind::ConstraintsNotSpecified { .. } => {
+            edits.add(place, &section, CONDITION)
+        }
+        ConfigCompileErrorKind::FilterAndDefaultFilterSpecified => {
+            edits.remove_key(place, &section, "filter")
+        }
+        ConfigCompileErrorKind::Parse {
+            host_parse_error,
+            target_parse_error,
+            filter_parse_error,
+            default_filter_parse_error,
+        } => {
+            if host_parse_error.is_some() || target_parse_error.is_some() {
+                edits.replace(place, &path_with(alloc, &section, "platform")?, PLATFORM)?;
+            }
+            if filter_parse_error.is_some() {
+                edits.replace(place, &path_with(alloc, &section, "filter")?, FILTER)?;
+            }
+            if default_filter_parse_error.is_some() {
+                let path = path_with(alloc, &section, "default-filter")?;
+                edits.replace(place, &path, FILTER)?;
+            }
+            Ok(())
+        }
+    }
+}
+
+/// Reads something in place of all that does not compile.
+pub fn leave_out_sections(
+    alloc: Global,
+    edits: &mut Edits,
+    place: usize,
+    errors: &[ConfigCompileError],
+) -> Result<(), AllocError> {
+    for error in errors {
+        leave_out_section(alloc, edits, place, error)?;
+    }
+    Ok(())
+}
+
+/// The group that an override sets.
+fn group_of(rule: &Tree) -> Option<&str> {
+    rule.get(GROUP_KEY)?.as_str()
+}
+
+/// The overrides of a profile.
+fn overrides_of(profile: &Tree) -> Option<&[Tree]> {
+    profile.get("overrides")?.as_array()
+}
+
+/// Leaves out the groups that overrides of a profile set and that are among those with some marks.
+fn leave_out_groups_of(
+    alloc: Global,
+    edits: &mut Edits,
+    place: usize,
+    profile: (&str, &Tree),
+    marks: &BTreeSet<String>,
+) -> Result<(), AllocError> {
+    let (name, table) = profile;
+    let Some(overrides) = overrides_of(table) else {
+        return Ok(());
+    };
+    for (index, rule) in overrides.iter().enumerate() {
+        let Some(group) = group_of(rule) else {
+            continue;
+        };
+        let mark = naming_mark(alloc, name, GROUP_KEY, group)?;
+        if marks.contains(mark.as_str()) {
+            let path = [
+                Step::Key("profile"),
+                Step::Key(name),
+                Step::Key("overrides"),
+                Step::Position(index),
+                Step::Key(GROUP_KEY),
+            ];
+            edits.remove(place, &path)?;
+        }
+    }
+    Ok(())
+}
+
+/// Leaves out groups that overrides set and no file defines.
+pub fn leave_out_groups(
+    alloc: Global,
+    edits: &mut Edits,
+    place: usize,
+    tree: Option<&Tree>,
+    errors: &[UnknownTestGroupError],
+) -> Result<(), AllocError> {
+    let mut marks = BTreeSet::new(alloc);
+    for error in errors {
+        let name = error.name.to_string(alloc)?;
+        let profile = error.profile_name.as_str();
+        marks.insert(naming_mark(alloc, profile, GROUP_KEY, name.as_str())?)?;
+    }
+    if let Some(profiles) = profiles_of(tree) {
+        for (name, table) in profiles.iter() {
+            leave_out_groups_of(alloc, edits, place, (name.as_str(), table), &marks)?;
+        }
+    }
+    Ok(())
+}
+
+/// Leaves out the script rules of a profile.
+fn leave_out_rules(edits: &mut Edits, place: usize, profile: &str) -> Result<(), AllocError> {
+    edits.remove(place, &profile_path(profile, "scripts"))
+}
+
+/// Leaves out the script rules of the profiles in which a rule names a script that it may not.
+pub fn leave_out_script_rules(
+    edits: &mut Edits,
+    place: usize,
+    errors: &ProfileScriptErrors,
+) -> Result<(), AllocError> {
+    for error in &errors.unknown_scripts {
+        leave_out_rules(edits, place, error.profile_name.as_str())?;
+    }
+    for error in &errors.wrong_script_types {
+        leave_out_rules(edits, place, error.profile_name.as_str())?;
+    }
+    for error in &errors.list_scripts_using_run_filters {
+        leave_out_rules(edits, place, error.profile_name.as_str())?;
+    }
+    Ok(())
+}

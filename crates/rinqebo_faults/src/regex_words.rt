@@ -1,0 +1,149 @@
+//! What is wrong with regular expressions, where that is plain.
+use std::alloc::{AllocError, Global};
+
+/// What is wrong with a regular expression.
+#[derive(Clone, Copy)]
+enum Flaw {
+    /// A group is not closed.
+    OpenGroup,
+    /// A parenthesis closes no group.
+    StrayClose,
+    /// A class is not closed.
+    OpenClass,
+    /// A range of a class ends before it starts.
+    Range(char, char),
+}
+
+/// What was read of a regular expression.
+#[derive(Clone, Copy)]
+struct Scan {
+    /// How many groups are open.
+    depth: usize,
+    /// Whether a class is open.
+    in_class: bool,
+    /// Whether the last character was a backslash.
+    is_escaped: bool,
+    /// The last character of a class.
+    last: Option<char>,
+    /// The character with which a range of a class starts.
+    from: Option<char>,
+}
+
+impl Scan {
+    /// Reads a character of a class.
+    fn within(self, c: char) -> Result<Scan, Flaw> {
+        let mut next = self;
+        if c == '-' {
+            next.from = self.last;
+            next.last = None;
+            return Ok(next);
+        }
+        next.in_class = c != ']';
+        next.last = Some(c);
+        next.from = None;
+        match self.from {
+            Some(from) if next.in_class && from > c => Err(Flaw::Range(from, c)),
+            _ => Ok(next),
+        }
+    }
+
+    /// Reads a character outside classes.
+    fn without(self, c: char) -> Result<Scan, Flaw> {
+        let mut next = self;
+        if c == '[' {
+            next.in_class = true;
+            next.last = None;
+            next.from = None;
+        } else if c == '(' {
+            next.depth = self.depth.saturating_add(1);
+        } else if c == ')' {
+            if self.depth == 0 {
+                return Err(Flaw::StrayClose);
+            }
+            next.depth = self.depth.saturating_sub(1);
+        }
+        Ok(next)
+    }
+
+    /// Reads a character.
+    fn read(self, c: char) -> Result<Scan, Flaw> {
+        let mut next = self;
+        if self.is_escaped || c == '\\' {
+            next.is_escaped = !self.is_escaped;
+            next.last = None;
+            next.from = None;
+            return Ok(next);
+        }
+        if self.in_class {
+            self.within(c)
+        } else {
+            self.without(c)
+        }
+    }
+
+    /// What is wrong at the end.
+    fn end(self) -> Option<Flaw> {
+        if self.in_class {
+            return Some(Flaw::OpenClass);
+        }
+        if self.depth > 0 {
+            return Some(Flaw::OpenGroup);
+        }
+        None
+    }
+}
+
+/// What is wrong with a regular expression, where that is plain.
+fn flaw_of(pattern: &str) -> Option<Flaw> {
+    let mut scan = Scan {
+        depth: 0,
+        in_class: false,
+        is_escaped: false,
+        last: None,
+        from: None,
+    };
+    for c in pattern.chars() {
+        match scan.read(c) {
+            Ok(next) => scan = next,
+            Err(flaw) => return Some(flaw),
+        }
+    }
+    scan.end()
+}
+
+/// What is wrong with a regular expression that has a flaw, in words behind it.
+fn flaw_words(flaw: Option<Flaw>) -> &'static str {
+    match flaw {
+        Some(Flaw::OpenGroup) => "has a group that is not closed",
+        Some(Flaw::StrayClose) => "has a `)` that closes no group",
+        Some(Flaw::OpenClass) => "has a class that is not closed",
+        Some(Flaw::Range(_, _)) | None => "is not a regular expression",
+    }
+}
+
+/// A flaw of a regular expression, in words.
+fn flaw_message(alloc: Global, pattern: &str, flaw: Option<Flaw>) -> Result<String, AllocError> {
+    if let Some(Flaw::Range(from, to)) = flaw {
+        return format!(in alloc; "the range `{from}-{to}` ends before it starts");
+    }
+    let words = flaw_words(flaw);
+    format!(in alloc; "`{pattern}` {words}")
+}
+
+/// What is expected in place of a regular expression that is refused.
+fn flaw_expected(flaw: Option<Flaw>) -> &'static str {
+    match flaw {
+        Some(Flaw::OpenGroup) => "a regular expression with a closing `)`",
+        Some(Flaw::StrayClose) => "a regular expression with a `(` for each `)`",
+        Some(Flaw::OpenClass) => "a regular expression with a closing `]`",
+        Some(Flaw::Range(_, _)) => "a regular expression whose ranges ascend",
+        None => "a regular expression",
+    }
+}
+
+/// What is wrong with a regular expression that is refused, and what is expected instead.
+pub fn regex_fault(alloc: Global, pattern: &str) -> Result<(String, &'static str), AllocError> {
+    let flaw = flaw_of(pattern);
+    let message = flaw_message(alloc, pattern, flaw)?;
+    Ok((message, flaw_expected(flaw)))
+}

@@ -1,0 +1,100 @@
+//! Lines of texts that are not TOML: where they are at fault, and which ones are shown.
+use crate::lines::{Mark, indent_of, lines_of};
+use crate::meant::{BadLine, first_definition};
+use nextest_places::TextPosition;
+use rinqebo_report::{Position, Range, Sign, SourceLine};
+use std::alloc::{AllocError, Global};
+
+/// A text on one line.
+pub fn on_one_line(alloc: Global, text: &str) -> Result<String, AllocError> {
+    let mut joined = String::new(alloc);
+    for line in text.lines() {
+        if !joined.is_empty() {
+            joined.push(' ')?;
+        }
+        joined.push_str(line)?;
+    }
+    Ok(joined)
+}
+
+/// A line or a column as users count it, from 1, of one that is counted from 0.
+fn from_one(count: usize) -> u64 {
+    (count as u64).saturating_add(1)
+}
+
+/// The line of a text, from 0, that is at fault.
+pub fn line_at(text: Option<&str>, line: usize) -> Option<&str> {
+    text?.lines().nth(line)
+}
+
+/// The range of some characters of a line from a position on.
+pub fn range_from(start: Position, len: usize) -> Range {
+    Range {
+        start,
+        end: Position {
+            line: start.line,
+            column: start.column.saturating_add(len as u64),
+        },
+    }
+}
+
+/// A position as users count it, of one that is counted from 0.
+pub fn start_of(position: TextPosition) -> Position {
+    Position {
+        line: from_one(position.line),
+        column: from_one(position.column),
+    }
+}
+
+/// The range of a line, from 0, without the blanks around it.
+fn line_range(line: &str, place: usize) -> Range {
+    let start = Position {
+        line: from_one(place),
+        column: from_one(indent_of(line)),
+    };
+    range_from(start, line.trim().chars().count())
+}
+
+/// The lines of a text that show a range and the line, from 0, that first defines what it does, if
+/// one does.
+pub fn lines_with_first(
+    alloc: Global,
+    text: &str,
+    fault: Range,
+    first: Option<usize>,
+) -> Result<Vec<SourceLine>, AllocError> {
+    let Some(first) = first else {
+        return Ok(Vec::new(alloc));
+    };
+    let line = line_at(Some(text), first).unwrap_or("");
+    let marks = [
+        Mark {
+            sign: Sign::Related,
+            range: line_range(line, first),
+        },
+        Mark {
+            sign: Sign::Fault,
+            range: fault,
+        },
+    ];
+    lines_of(alloc, text, &marks)
+}
+
+/// The note that names the line, from 0, that first defines what another one does.
+pub fn first_note(alloc: Global, first: Option<usize>) -> Result<Option<String>, AllocError> {
+    match first {
+        Some(first) => {
+            let number = from_one(first);
+            Ok(Some(format!(in alloc; "it is first defined in line {number}")?))
+        }
+        None => Ok(None),
+    }
+}
+
+/// The line, from 0, that first defines what the line of a text at a position defines, if one does.
+pub fn earlier_definition(text: &str, position: TextPosition, bad: BadLine<'_>) -> Option<usize> {
+    if !bad.is_second() {
+        return None;
+    }
+    first_definition(text, position.line, bad.defined())
+}
