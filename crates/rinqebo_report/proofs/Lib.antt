@@ -14,3 +14,6 @@ pub mod ReadDurations
 pub mod Exact
 pub mod ExactDocuments
 pub mod Nearest
+pub mod GroupMembers
+pub mod TestGroups
+pub mod GroupRuns

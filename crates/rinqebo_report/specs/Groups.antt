@@ -1,5 +1,5 @@
 -- Pages that put tests together where they show the same of them.
-use Rattle.std.specs.Prelude.{ℕ, List, [], ◌∷◌, ◌++◌, Bool, Option, None, Some, option_map, length, filter, flat_map, fold, codes, string_bytes, if◌then◌else◌}
+use Rattle.std.specs.Prelude.{ℕ, zero, suc, List, [], ◌∷◌, ◌++◌, Bool, Option, None, Some, option_map, length, filter, map, flat_map, fold, codes, string_bytes, if◌then◌else◌}
 use Rattle.std.specs.List.{list_any}
 use Rattle.std.specs.Str.{bytes_eq}
 use Rattle.rinqebo_report.specs.declared.origin.Origin.{Origin}
@@ -49,6 +49,17 @@ with_first found test =
 abbrev pub firsts : List TestRows → List TestRows
 firsts tests = fold with_first [] tests
 
+-- the tests of each group: all of which a page shows the same, in the order of the first of each
+abbrev pub test_groups : List TestRows → List (List TestRows)
+test_groups tests =
+    map (λ first. filter (has_reported (reported_text first)) tests) (firsts tests)
+
+-- groups, after one more comes last in the group at an index, or in a new group behind them
+abbrev pub with_member : {A : Type 0} → List (List A) → ℕ → A → List (List A)
+with_member [] n more = (more ∷ []) ∷ []
+with_member (group ∷ groups) zero more = (group ++ more ∷ []) ∷ groups
+with_member (group ∷ groups) (suc n) more = group ∷ with_member groups n more
+
 -- a test of a group, indented by four spaces
 abbrev pub grouped_test_runs : TestRows → List Run
 grouped_test_runs test =
@@ -59,6 +70,12 @@ abbrev pub group_runs : List TestRows → TestRows → List Run
 group_runs tests first =
     reported_runs first
     ++ flat_map grouped_test_runs (filter (has_reported (reported_text first)) tests)
+
+-- the tests of a group: what a page shows of the first, and each of them
+abbrev pub members_runs : List TestRows → List Run
+members_runs [] = []
+members_runs (first ∷ others) =
+    reported_runs first ++ flat_map grouped_test_runs (first ∷ others)
 
 -- tests in groups, in the order of the first test of each
 abbrev pub groups_runs : List TestRows → List Run

@@ -1,7 +1,6 @@
 //! The page of groups: a group has the tests for which pages show the same.
-ghost use Rattle.std.specs.Prelude.{◌≡◌, ◌++◌, Some, IfOk, OnOk, filter, flat_map, map, string_bytes};
-ghost use Rattle.std.specs.List.{list_any};
-ghost use Rattle.rinqebo_report.specs.Groups.{reported_line_runs, reported_row_runs, reported_runs, reported_text, has_reported, firsts, grouped_test_runs, group_runs, groups_runs, grouped_runs};
+ghost use Rattle.std.specs.Prelude.{◌≡◌, ◌≤◌, ◌++◌, Some, IfOk, OnOk, length, map, string_bytes};
+ghost use Rattle.rinqebo_report.specs.Groups.{reported_line_runs, reported_row_runs, reported_runs, reported_text, test_groups, with_member, grouped_test_runs, members_runs, groups_runs, grouped_runs};
 ghost use Rattle.rinqebo_report.specs.Pages.{runs_shown};
 ghost use Rattle.rinqebo_report.specs.Pieces.{page_text};
 
@@ -12,6 +11,7 @@ use crate::origin::{Origin, Source};
 use crate::piece::{Colour, Piece, Style, add_pieces};
 use crate::report::{Asked, SettingRow, TestRows};
 use crate::toml_text::canonical_text;
+use indexmap::IndexSet;
 use std::alloc::{AllocError, Global};
 
 /// Writes a setting and its value.
@@ -99,39 +99,38 @@ fn reported_text(alloc: Global, test: &TestRows) -> Result<String, AllocError>
     Ok(text)
 }
 
-/// Whether a text is what pages show of a test.
-fn has_reported(alloc: Global, test: &TestRows, text: &str) -> Result<bool, AllocError>
-    ensures { IfOk result (λ has. has ≡ has_reported text.now test.now) }
+/// Puts a test last in the group with a number, or in a new group behind the others.
+fn add_member<'t>(
+    alloc: Global,
+    groups: &mut Vec<Vec<&'t TestRows>>,
+    number: usize,
+    test: &'t TestRows,
+) -> Result<(), AllocError>
+    requires { number ≤ length groups.old.items }
+    ensures { OnOk result (map (λ group. map (λ test. test.now) group.items) groups.new.items
+        ≡ with_member (map (λ group. map (λ test. test.now) group.items) groups.old.items)
+        number test.now) }
 {
-    let shown = reported_text(alloc, test)?;
-    Ok(shown.as_str() == text)
-}
-
-/// Whether a text is what pages show of one of some tests.
-fn any_reported(alloc: Global, tests: &[&TestRows], text: &str) -> Result<bool, AllocError>
-    ensures { IfOk result (λ is. is
-        ≡ list_any (has_reported text.now) (map (λ test. test.now) tests.now)) }
-{
-    for test in tests {
-        if has_reported(alloc, *test, text)? {
-            return Ok(true);
-        }
+    if number == groups.len() {
+        groups.push(Vec::new(alloc))?;
     }
-    Ok(false)
+    groups[number].push(test)?;
+    Ok(())
 }
 
-/// The first test of each group.
-fn firsts<'t>(alloc: Global, tests: &'t [TestRows]) -> Result<Vec<&'t TestRows>, AllocError>
-    ensures { IfOk result (λ found. map (λ test. test.now) found.items ≡ firsts tests.now) }
+/// The tests of each group, in the order of the first test of each.
+fn groups_of<'t>(alloc: Global, tests: &'t [TestRows]) -> Result<Vec<Vec<&'t TestRows>>, AllocError>
+    ensures { IfOk result (λ groups.
+        map (λ group. map (λ test. test.now) group.items) groups.items ≡ test_groups tests.now) }
 {
-    let mut found: Vec<&'t TestRows> = Vec::new(alloc);
+    let mut texts: IndexSet<String> = IndexSet::new(alloc);
+    let mut groups: Vec<Vec<&'t TestRows>> = Vec::new(alloc);
     for test in tests {
         let text = reported_text(alloc, test)?;
-        if !any_reported(alloc, &found, text.as_str())? {
-            found.push(test)?;
-        }
+        let (number, _) = texts.insert_full(text)?;
+        add_member(alloc, &mut groups, number, test)?;
     }
-    Ok(found)
+    Ok(groups)
 }
 
 /// Writes a test of a group.
@@ -143,39 +142,24 @@ fn add_grouped_test(out: &mut String, colour: Colour, test: &TestRows) -> Result
     add_test_line(out, colour, test.binary.as_str(), test.name.as_str())
 }
 
-/// Writes the tests for which pages show a text.
-fn add_grouped_tests(
-    alloc: Global,
-    out: &mut String,
-    colour: Colour,
-    tests: &[TestRows],
-    text: &str,
-) -> Result<(), AllocError>
-    ensures { OnOk result (string_bytes out.new ≡ string_bytes out.old ++ page_text colour
-        (flat_map grouped_test_runs (filter (has_reported text.now) tests.now))) }
-{
-    for test in tests {
-        if has_reported(alloc, test, text)? {
-            add_grouped_test(out, colour, test)?;
-        }
-    }
-    Ok(())
-}
-
-/// Writes the group of a test.
+/// Writes a group of tests.
 fn add_group(
     alloc: Global,
     out: &mut String,
     colour: Colour,
-    tests: &[TestRows],
-    first: &TestRows,
+    group: &[&TestRows],
 ) -> Result<(), AllocError>
     ensures { OnOk result (string_bytes out.new ≡ string_bytes out.old
-        ++ page_text colour (group_runs tests.now first.now)) }
+        ++ page_text colour (members_runs (map (λ test. test.now) group.now))) }
 {
-    let text = reported_text(alloc, first)?;
-    add_reported(alloc, out, colour, first)?;
-    add_grouped_tests(alloc, out, colour, tests, text.as_str())
+    let Some(first) = group.first() else {
+        return Ok(());
+    };
+    add_reported(alloc, out, colour, *first)?;
+    for test in group {
+        add_grouped_test(out, colour, *test)?;
+    }
+    Ok(())
 }
 
 /// Writes tests in groups.
@@ -188,8 +172,8 @@ fn add_groups(
     ensures { OnOk result (string_bytes out.new ≡ string_bytes out.old
         ++ page_text colour (groups_runs tests.now)) }
 {
-    for first in &firsts(alloc, tests)? {
-        add_group(alloc, out, colour, tests, *first)?;
+    for group in &groups_of(alloc, tests)? {
+        add_group(alloc, out, colour, group)?;
     }
     Ok(())
 }

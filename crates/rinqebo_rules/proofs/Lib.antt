@@ -8,7 +8,7 @@ pub mod ReportedOf
 pub mod Items
 pub mod OriginNodes
 pub mod Copies
-pub mod Listing
+pub mod ListedTests
 pub mod NoneHold
 pub mod RowsMore
 pub mod FilterRules
@@ -23,3 +23,4 @@ pub mod OpenFilters
 pub mod Moved
 pub mod Passing
 pub mod Marked
+pub mod BinaryRules

@@ -5,7 +5,7 @@ use Rattle.nextest_rules.specs.declared.overrides.CompiledOverride.{CompiledOver
 use Rattle.nextest_settings.specs.Profile.{EvaluatableModel}
 use Rattle.nextest_settings.specs.View.{evaluated_override_meaning, evaluated_override_view, meant_override}
 use Rattle.nextest_settings.specs.declared.platforms.EvaluatedRule.{EvaluatedRule as EvaluatedRule'}
-use Rattle.rinqebo_rules.proofs.Listing.{made_twice}
+use Rattle.rinqebo_rules.proofs.ListedTests.{made_twice}
 
 -- the overrides of a profile, by what their filters mean
 pub meant_overrides : {F S E T N P M : Type 0} (f : E → M) (profile : EvaluatableModel E)

@@ -37,7 +37,7 @@ some_alike f g (Some x) None same = absurd cc
 some_alike f g (Some x) (Some y) same = refl
 
 -- what holds of two lists holds of what they have at a place
-zip_at : {A B : Type 0} (R : A → B → Type 0) (xs : List A) (ys : List B) (k : ℕ) (x : A) (y : B) → AllZip R xs ys
+pub zip_at : {A B : Type 0} (R : A → B → Type 0) (xs : List A) (ys : List B) (k : ℕ) (x : A) (y : B) → AllZip R xs ys
     → slice_get xs k ≡ Some x → slice_get ys k ≡ Some y → R x y
 zip_at R [] ys k x y all here there = absurd cc
 zip_at R (a ∷ xs) [] k x y all here there = absurd all

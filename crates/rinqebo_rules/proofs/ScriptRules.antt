@@ -13,7 +13,7 @@ use Rattle.nextest_settings.specs.Queries.{list_wrapper_of}
 use Rattle.nextest_settings.specs.View.{evaluated_script_rule_meaning, evaluated_script_rule_view, meant_script_rule}
 use Rattle.nextest_settings.specs.declared.platforms.EvaluatedRule.{EvaluatedRule as EvaluatedRule'}
 use Rattle.nextest_tables.specs.Written.{Name}
-use Rattle.rinqebo_rules.proofs.Listing.{made_twice}
+use Rattle.rinqebo_rules.proofs.ListedTests.{made_twice}
 use Rattle.rinqebo_rules.specs.Scripts.{binary_in, wrapper_at, wrapper_view}
 use Rattle.rinqebo_report.specs.declared.report.ListWrapper.{ListWrapper}
 

@@ -25,3 +25,4 @@ pub mod Rows
 pub mod Scripts
 pub mod SpelledLeaves
 pub mod Passed
+pub mod BinaryRules

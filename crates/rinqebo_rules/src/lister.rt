@@ -1,14 +1,14 @@
 //! Lists what a profile gives to tests, one test after another.
-ghost use Rattle.std.specs.Prelude.{◌≡◌, ◌++◌, ◌∷◌, [], IfOk, List, map};
+ghost use Rattle.std.specs.Prelude.{◌≡◌, [], IfOk, map};
 ghost use Rattle.nextest_engines.specs.Engines.{test_view};
 ghost use Rattle.filter_inputs.specs.Lists.ListView.{list_test_view};
 ghost use Rattle.nextest_settings.specs.Profiles.Meaning.{profile_meaning};
 ghost use Rattle.nextest_settings.specs.Profiles.SettingsOf.{AreSettingsOf};
-ghost use Rattle.nextest_settings.specs.Deciding.{QueryContext};
 ghost use Rattle.nextest_settings.specs.Queries.{query_in};
 ghost use Rattle.rinqebo_rules.specs.Rows.{AreTestsReported, IsTestReported};
 ghost use Rattle.rinqebo_rules.specs.Unused.{AreUnusedIn, AreUsedIn};
 
+use crate::listing::Listing;
 use crate::origins::Origins;
 use crate::progress::Progress;
 use crate::rows::rows_of;
@@ -53,7 +53,7 @@ pub fn reported_platform(platform: BuildPlatform) -> BuiltFor {
 
 impl<'l, 'c, F: Filters, S: Specs> Lister<'l, 'c, F, S> {
     /// Returns whether a test runs, and the settings that the profile gives it.
-    fn rows_by(
+    pub(crate) fn rows_by(
         &self,
         alloc: Global,
         test: &ListedTest<'_>,
@@ -110,33 +110,11 @@ impl<'l, 'c, F: Filters, S: Specs> Lister<'l, 'c, F, S> {
         UsedRules::new(alloc, self.profile, self.mode)
     }
 
-    /// Returns whether a test runs, and its settings, and adds the test to those for which rules
-    /// hold.
-    pub fn next_test(
-        &self,
-        alloc: Global,
-        test: &ListedTest<'_>,
-        used: &mut UsedRules,
-        tally: &mut F::Tally,
-        origins: &mut Origins<'_, '_, 'c>,
-    ) -> Result<TestRows, AllocError>
-        ensures same { origins.new ≡ origins.old }
-        ensures told { let profile = profile_meaning F.meaning self.now.profile.now in
-            IfOk result (IsTestReported origins.old
-            (query_in F.holds profile (test_view test.now.query))
-            self.now.mode profile self.now.asked.now (list_test_view test.now)) }
-        ensures used { (tests : List (QueryContext F.Meaning))
-            → let profile = profile_meaning F.meaning self.now.profile.now in
-            let query = query_in F.holds profile (test_view test.now.query) in
-            AreUsedIn tests self.now.mode profile used.old
-            → IfOk result (λ _. AreUsedIn (tests ++ query ∷ []) self.now.mode profile used.new) }
+    /// Lists tests in turn.
+    pub fn in_turn(&self) -> Listing<'l, 'c, F, S>
+        ensures { result.lister ≡ self.now }
     {
-        let settings = self
-            .profile
-            .settings_with_source_for(self.mode, &test.query, tally);
-        used.add(alloc, self.profile, &test.query, &settings, tally)?;
-        let rows = self.rows_by(alloc, test, &settings, tally, origins)?;
-        Ok(rows)
+        Listing::new(*self)
     }
 
     /// Returns the rows of tests, one test after another, and the rules of the profile that hold
@@ -158,8 +136,9 @@ impl<'l, 'c, F: Filters, S: Specs> Lister<'l, 'c, F, S> {
     {
         let mut tests = Vec::new(alloc);
         let mut used = self.before_tests(alloc)?;
+        let mut listing = self.in_turn();
         for test in listed {
-            tests.push(self.next_test(alloc, test, &mut used, tally, origins)?)?;
+            tests.push(listing.next_test(alloc, test, &mut used, tally, origins)?)?;
             progress.asked(tests.len(), listed.len());
         }
         let unused = used.unused(alloc, self.profile)?;

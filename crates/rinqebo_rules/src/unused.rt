@@ -1,15 +1,17 @@
 //! The rules of a profile that hold for none of the tests of a list.
-ghost use Rattle.std.specs.Prelude.{◌≡◌, ◌++◌, ◌∷◌, [], ◌||◌, ◌+◌, ◌<◌, ◌^◌, IfOk, OnOk, List, false, length, map, option_and_then, replicate, slice_get, unwrap_or};
+ghost use Rattle.std.specs.Prelude.{◌≡◌, ◌++◌, ◌∷◌, [], ◌||◌, ◌+◌, ◌<◌, ◌^◌, IfOk, IfSome, OnOk, List, false, length, map, option_and_then, option_map, replicate, slice_get, unwrap_or};
 ghost use Rattle.std.specs.List.{AllZip};
 ghost use Rattle.nextest_engines.specs.Engines.{test_view};
 ghost use Rattle.nextest_settings.specs.Profiles.Meaning.{profile_meaning};
 ghost use Rattle.nextest_settings.specs.Profiles.SettingsOf.{AreSettingsOf};
+ghost use Rattle.nextest_settings.specs.Binaries.{IsKnownFor};
 ghost use Rattle.nextest_rules.specs.View.{id_view, script_rule_id_view};
 ghost use Rattle.nextest_settings.specs.Deciding.{QueryContext, rule_holds};
 ghost use Rattle.nextest_settings.specs.Engines.{test_query_by};
 ghost use Rattle.nextest_settings.specs.Queries.{query_in};
 ghost use Rattle.nextest_settings.specs.Settings.{settings as all_settings};
 ghost use Rattle.nextest_settings.specs.View.{meant_override, meant_script_rule};
+ghost use Rattle.rinqebo_rules.specs.BinaryRules.{AreAnswersAt, AreKnownIn, known_overrides, known_script_rules};
 ghost use Rattle.rinqebo_rules.specs.Passed.{IsPassed, IsRuledOut, IsWritten};
 ghost use Rattle.rinqebo_rules.specs.Unused.{AreUsedIn, AreUnusedIn, is_used, unused_among};
 
@@ -19,7 +21,9 @@ use crate::values::SourcedSettings;
 use nextest_elements::NextestRunMode;
 use nextest_engines::{EvalContext, Filters, Specs, TestQuery};
 use nextest_rules::{OverrideId, ScriptRuleId};
-use nextest_settings::{EvaluatableProfile, EvaluatedOverride, EvaluatedScriptRule, Setting};
+use nextest_settings::{
+    BinaryAnswers, EvaluatableProfile, EvaluatedOverride, EvaluatedScriptRule, Setting,
+};
 use std::alloc::{AllocError, Global};
 
 /// The ids of the rules of a profile that hold for none of some tests.
@@ -63,9 +67,9 @@ fn written_at(written: &[Option<Setting>], number: usize) -> Option<Setting>
     written.get(number).copied().flatten()
 }
 
-/// Whether an override holds for some of the tests, after one more. It is evaluated only if it
-/// held for none so far, and what decides the settings of the test leaves open whether it holds.
-fn is_override_used<F: Filters, S: Specs>(
+/// Whether an override of which the binary of a test does not decide whether it holds holds for
+/// some of the tests, after this one.
+fn is_open_override_used<F: Filters, S: Specs>(
     rule: &EvaluatedOverride<'_, F, S>,
     number: usize,
     held: bool,
@@ -84,11 +88,45 @@ fn is_override_used<F: Filters, S: Specs>(
         && override_holds(rule, number, query, cx, tally))
 }
 
+/// What is known of the rule of a number: whether it holds for a test.
+fn known_at(known: &[Option<bool>], number: usize) -> Option<bool>
+    ensures { result ≡ option_and_then (λ holds. holds) (slice_get known.now number) }
+{
+    known.get(number).copied().flatten()
+}
+
+/// Whether an override holds for some of the tests, after one more. It is evaluated only if it
+/// held for none so far, and neither the binary nor what decides the settings of the test says
+/// whether it holds.
+fn is_override_used<F: Filters, S: Specs>(
+    rule: &EvaluatedOverride<'_, F, S>,
+    number: usize,
+    held: bool,
+    known: Option<bool>,
+    written: Option<Setting>,
+    passed: &[usize],
+    query: &TestQuery<'_>,
+    cx: &EvalContext<'_, F::Expr>,
+    tally: &mut F::Tally,
+) -> bool
+    ensures { let query = test_query_by F.Filters cx.now.default_filter.now query.now in
+        let rule = meant_override F.meaning rule.now in
+        IsKnownFor query rule known
+        → (IsRuledOut written number passed.now → rule_holds query rule ≡ false)
+        → result ≡ (held || rule_holds query rule) }
+{
+    match known {
+        Some(holds) => held || holds,
+        None => is_open_override_used(rule, number, held, written, passed, query, cx, tally),
+    }
+}
+
 /// Which overrides hold for some of the tests, after one more.
 fn overrides_after<F: Filters, S: Specs>(
     alloc: Global,
     rules: &[EvaluatedOverride<'_, F, S>],
     used: &[bool],
+    known: &[Option<bool>],
     written: &[Option<Setting>],
     passed: &[usize],
     query: &TestQuery<'_>,
@@ -100,6 +138,7 @@ fn overrides_after<F: Filters, S: Specs>(
         let rules = map (meant_override F.meaning) rules.now in
         AllZip (IsWritten mode) rules written.now
         → AllZip (IsPassed query mode rules) all_settings passed.now
+        → AreKnownIn query rules known.now
         → (tests : List (QueryContext F.Meaning))
         → used.now ≡ map (is_used tests) rules
         → IfOk result (λ after. after.items ≡ map (is_used (tests ++ query ∷ [])) rules) }
@@ -107,35 +146,45 @@ fn overrides_after<F: Filters, S: Specs>(
     let mut after = Vec::new(alloc);
     for (number, rule) in rules.iter().enumerate() {
         let held = is_marked(used, number);
+        let holds = known_at(known, number);
         let setting = written_at(written, number);
-        after.push(is_override_used(rule, number, held, setting, passed, query, cx, tally))?;
+        let is_used = is_override_used(
+            rule, number, held, holds, setting, passed, query, cx, tally,
+        );
+        after.push(is_used)?;
     }
     Ok(after)
 }
 
 /// Whether a script rule holds for some of the tests, after one more. It is evaluated only if it
-/// held for none so far.
+/// held for none so far, and the binary does not decide whether it holds.
 fn is_script_rule_used<F: Filters, S: Specs>(
     rule: &EvaluatedScriptRule<'_, F, S>,
     number: usize,
     held: bool,
+    known: Option<bool>,
     query: &TestQuery<'_>,
     cx: &EvalContext<'_, F::Expr>,
     tally: &mut F::Tally,
 ) -> bool
     ensures { let query = test_query_by F.Filters cx.now.default_filter.now query.now in
-        result ≡ (held || rule_holds query (meant_script_rule F.meaning rule.now)) }
+        let rule = meant_script_rule F.meaning rule.now in
+        IsKnownFor query rule known → result ≡ (held || rule_holds query rule) }
 {
-    held || script_rule_holds(rule, number, query, cx, tally)
+    match known {
+        Some(holds) => held || holds,
+        None => held || script_rule_holds(rule, number, query, cx, tally),
+    }
 }
 
-/// Which script rules hold for some of the tests, after one more. They are numbered on from the first
-/// number.
+/// Which script rules hold for some of the tests, after one more. They are numbered on from the
+/// first number.
 fn script_rules_after<F: Filters, S: Specs>(
     alloc: Global,
     rules: &[EvaluatedScriptRule<'_, F, S>],
     first: usize,
     used: &[bool],
+    known: &[Option<bool>],
     query: &TestQuery<'_>,
     cx: &EvalContext<'_, F::Expr>,
     tally: &mut F::Tally,
@@ -143,15 +192,37 @@ fn script_rules_after<F: Filters, S: Specs>(
     requires { first + length rules.now < 2 ^ 64 }
     ensures { let query = test_query_by F.Filters cx.now.default_filter.now query.now in
         let rules = map (meant_script_rule F.meaning) rules.now in
-        (tests : List (QueryContext F.Meaning)) → used.now ≡ map (is_used tests) rules
+        AreKnownIn query rules known.now
+        → (tests : List (QueryContext F.Meaning)) → used.now ≡ map (is_used tests) rules
         → IfOk result (λ after. after.items ≡ map (is_used (tests ++ query ∷ [])) rules) }
 {
     let mut after = Vec::new(alloc);
     for (number, rule) in rules.iter().enumerate() {
         let held = is_marked(used, number);
-        after.push(is_script_rule_used(rule, first + number, held, query, cx, tally))?;
+        let holds = known_at(known, number);
+        after.push(is_script_rule_used(rule, first + number, held, holds, query, cx, tally))?;
     }
     Ok(after)
+}
+
+/// What a binary decides of each override, if that is known.
+fn override_answers<'a>(answers: Option<&'a BinaryAnswers>) -> &'a [Option<bool>]
+    ensures { result.now ≡ known_overrides (option_map (λ known. known.now) answers.entry) }
+{
+    match answers {
+        Some(answers) => answers.overrides(),
+        None => &[],
+    }
+}
+
+/// What a binary decides of each script rule, if that is known.
+fn script_rule_answers<'a>(answers: Option<&'a BinaryAnswers>) -> &'a [Option<bool>]
+    ensures { result.now ≡ known_script_rules (option_map (λ known. known.now) answers.entry) }
+{
+    match answers {
+        Some(answers) => answers.script_rules(),
+        None => &[],
+    }
 }
 
 /// The ids of the overrides that are not marked, in their order.
@@ -212,19 +283,24 @@ impl UsedRules {
         })
     }
 
-    /// Adds a test, to which a profile gives some settings.
+    /// Adds a test, to which a profile gives some settings, by what its binary decides of the
+    /// rules, if that is known.
     pub(crate) fn add<'c, F: Filters, S: Specs>(
         &mut self,
         alloc: Global,
         profile: &EvaluatableProfile<'c, F, S>,
         query: &TestQuery<'_>,
+        answers: Option<&BinaryAnswers>,
         settings: &SourcedSettings<'c, F, S>,
         tally: &mut F::Tally,
     ) -> Result<(), AllocError>
         ensures { (tests : List (QueryContext F.Meaning)) (mode : NextestRunMode)
             → let profile = profile_meaning F.meaning profile.now in
-            let query = query_in F.holds profile (test_view query.now) in
-            AreSettingsOf F.meaning query mode profile settings.now
+            let test = test_view query.now in
+            let query = query_in F.holds profile test in
+            IfSome answers.entry
+            (λ known. AreAnswersAt F.holds_binary profile test.binary known.now)
+            → AreSettingsOf F.meaning query mode profile settings.now
             → AreUsedIn tests mode profile self.old
             → OnOk result (AreUsedIn (tests ++ query ∷ []) mode profile self.new) }
     {
@@ -236,6 +312,7 @@ impl UsedRules {
             alloc,
             &rules.overrides,
             &self.overrides,
+            override_answers(answers),
             &self.written,
             &passed,
             query,
@@ -247,6 +324,7 @@ impl UsedRules {
             &rules.script_rules,
             first,
             &self.script_rules,
+            script_rule_answers(answers),
             query,
             &cx,
             tally,

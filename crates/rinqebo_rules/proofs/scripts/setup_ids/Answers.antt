@@ -6,7 +6,7 @@ use Rattle.nextest_scripts.specs.ScriptTexts.{SetupScriptText}
 use Rattle.nextest_settings.specs.Queries.{enabled_scripts, query_in}
 use Rattle.nextest_settings.specs.SetupView.{named_setup_script_view, script_id_view, scripts_left_view}
 use Rattle.nextest_tables.specs.Written.{Name}
-use Rattle.rinqebo_rules.proofs.Listing.{made_twice}
+use Rattle.rinqebo_rules.proofs.ListedTests.{made_twice}
 use Rattle.rinqebo_rules.proofs.scripts.setup_ids.Goals as goal
 
 pub returns : goal.returns

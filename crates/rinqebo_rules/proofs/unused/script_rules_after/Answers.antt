@@ -1,4 +1,5 @@
-use Rattle.std.proofs.Common.{◌≡◌, ◌∙◌, ◌++◌, ◌∷◌, ◌||◌, [], Some, ap, map, slice_get, subst}
+use Rattle.std.proofs.Common.{◌≡◌, ◌∙◌, ◌++◌, ◌∷◌, ◌||◌, [], Some, ap, map, slice_get, subst, sym}
+use Rattle.nextest_settings.specs.Binaries.{IsKnownFor}
 use Rattle.nextest_settings.specs.Deciding.{rule_holds}
 use Rattle.nextest_settings.specs.Engines.{test_query_by}
 use Rattle.nextest_settings.specs.View.{meant_script_rule}
@@ -7,7 +8,7 @@ use Rattle.rinqebo_rules.specs.Unused.{is_used}
 use Rattle.rinqebo_rules.proofs.unused.script_rules_after.Goals as goal
 
 pub loop-number-preserved : goal.loop-number-preserved
-loop-number-preserved g c = λ tests are.
+loop-number-preserved g c = λ known tests are.
     let F = g.F.Filters in
     let meant = meant_script_rule F.meaning in
     let rules = map meant c.args.rules.now in
@@ -16,13 +17,16 @@ loop-number-preserved g c = λ tests are.
     let query = test_query_by F c.args.cx.now.default_filter.now c.args.query.now in
     let stands : slice_get rules n ≡ Some rule =
     mapped_at meant c.args.rules.now n _ _ c.loop-number-test.true c.index-rules-number.is in
-    marks_more tests rules n rule query stands c.args.used.now are _ _ _ (c.loop-number.invariant tests are)
-    (c.is_script_rule_used.ensures ∙ ap (λ b. b || rule_holds query rule) c.is_marked-held.ensures)
+    let known_here : IsKnownFor query rule c.known_at-holds.result =
+    subst (IsKnownFor query rule) (sym c.known_at-holds.ensures) (known n rule stands) in
+    marks_more tests rules n rule query stands c.args.used.now are _ _ _ (c.loop-number.invariant known tests are)
+    (c.is_script_rule_used.ensures known_here ∙ ap (λ b. b || rule_holds query rule) c.is_marked-held.ensures)
     c.in_ok-push.ensures.items
 
 pub returns : goal.returns
-returns g c = λ tests are.
+returns g c = λ known tests are.
     let F = g.F.Filters in
     let query = test_query_by F c.args.cx.now.default_filter.now c.args.query.now in
     subst (λ some. c.loop-number.after.items ≡ map (is_used (tests ++ query ∷ [])) some)
-    (all_mapped (meant_script_rule F.meaning) c.args.rules.now c.loop-number.number c.loop-number-test.false) (c.loop-number.invariant tests are)
+    (all_mapped (meant_script_rule F.meaning) c.args.rules.now c.loop-number.number c.loop-number-test.false)
+    (c.loop-number.invariant known tests are)

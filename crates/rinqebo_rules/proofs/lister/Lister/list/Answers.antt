@@ -6,7 +6,7 @@ use Rattle.nextest_settings.specs.Profiles.Meaning.{profile_meaning}
 use Rattle.nextest_settings.specs.Queries.{query_in}
 use Rattle.rinqebo_rules.specs.Rows.{IsTestReported}
 use Rattle.rinqebo_rules.specs.Unused.{AreUnusedIn, AreUsedIn}
-use Rattle.rinqebo_rules.proofs.Listing.{zip_mapped}
+use Rattle.rinqebo_rules.proofs.ListedTests.{zip_mapped}
 use Rattle.rinqebo_rules.proofs.Marked.{map_more, twice}
 use Rattle.rinqebo_rules.proofs.RowsMore.{zip_more_by}
 use Rattle.rinqebo_rules.proofs.lister.Lister.list.Goals as goal
@@ -18,14 +18,17 @@ loop-test-preserved g c =
     let profile = profile_meaning F.meaning self.profile.now in
     let before = c.loop-test.invariant in
     record {
+      lister = c.next_test.ensures.lister ∙ before.lister;
       same = c.next_test.ensures.same ∙ before.same;
       told = zip_more_by (λ basis test. IsTestReported basis (query_in F.holds profile (list_test_view test).test) self.mode profile
           self.asked.now (list_test_view test)) c.args.origins.now c.loop-test.origins before.same c.args.listed.now
-          c.loop-test.test-index _ _ c.loop-test-test.true refl _ _ _ before.told c.in_ok-next_test.ensures.told
+          c.loop-test.test-index _ _ c.loop-test-test.true refl _ _ _ before.told
+          (rw before.lister at c.in_ok-next_test.ensures.told)
           c.in_ok-push.ensures.items;
       marked = subst (λ tests. AreUsedIn tests self.mode profile c.next_test.new.used)
           (map_more (λ test. query_in F.holds profile (list_test_view test).test) c.args.listed.now
-          c.loop-test.test-index _ _ c.loop-test-test.true refl) (c.in_ok-next_test.ensures.used _ before.marked);
+          c.loop-test.test-index _ _ c.loop-test-test.true refl)
+          ((rw before.lister at c.in_ok-next_test.ensures.used) _ before.marked);
     }
 
 pub returns-clause-tests : goal.returns-clause-tests

@@ -13,6 +13,7 @@ invariant-loop-test g l =
     let F = g.F.Filters in
     let profile = profile_meaning F.meaning l.self.profile.now in
     record {
+      lister : l.listing.lister ≡ l.self;
       same : l.origins ≡ l.initial.origins;
       told : AllZip (λ test. IsTestReported l.initial.origins (query_in F.holds profile (list_test_view test).test)
           l.self.mode profile l.self.asked.now (list_test_view test)) (take l.test-index l.listed) l.tests.items;

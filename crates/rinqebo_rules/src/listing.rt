@@ -1,0 +1,142 @@
+//! Lists what a profile gives to tests in turn, by what their binaries decide.
+ghost use Rattle.std.specs.Prelude.{◌≡◌, ◌++◌, ◌∷◌, [], IfOk, IfSome, List};
+ghost use Rattle.std.specs.Option.{ForSome};
+ghost use Rattle.nextest_engines.specs.Engines.{binary_view, test_view};
+ghost use Rattle.filter_inputs.specs.Lists.ListView.{list_test_view};
+ghost use Rattle.nextest_settings.specs.Binaries.{AreAnswersOf};
+ghost use Rattle.nextest_settings.specs.Deciding.{QueryContext};
+ghost use Rattle.nextest_settings.specs.Profiles.Meaning.{profile_meaning};
+ghost use Rattle.nextest_settings.specs.Profiles.SettingsOf.{AreSettingsOf};
+ghost use Rattle.nextest_settings.specs.Queries.{query_in};
+ghost use Rattle.rinqebo_rules.specs.BinaryRules.{AreAnswersAt};
+ghost use Rattle.rinqebo_rules.specs.Rows.{IsTestReported};
+ghost use Rattle.rinqebo_rules.specs.Unused.{AreUsedIn};
+
+use crate::lister::Lister;
+use crate::origins::Origins;
+use crate::unused::UsedRules;
+use crate::values::SourcedSettings;
+use filter_inputs::ListedTest;
+use nextest_elements::NextestRunMode;
+use nextest_engines::{BinaryQuery, Filters, Specs, TestQuery};
+use nextest_settings::{BinaryAnswers, EvaluatableProfile};
+use rinqebo_report::TestRows;
+use std::alloc::{AllocError, Global};
+
+/// Lists the settings of tests in turn. What the binary of a test decides of the rules is found out
+/// once for the tests of the binary that follow one another.
+#[derive(Drop)]
+pub struct Listing<'l, 'c, F: Filters, S: Specs> {
+    /// Which settings of tests are listed, and by which profile.
+    pub lister: Lister<'l, 'c, F, S>,
+    /// What the binary of the last test decides, after the first test.
+    answers: Option<BinaryAnswers>,
+    /// It is so of the rules of the profile.
+    ghost are_answers: { ForSome answers
+        (AreAnswersOf F.holds_binary (profile_meaning F.meaning lister.profile.now)) },
+}
+
+/// The settings of a test, by what its binary decides, if that is known.
+fn settings_by<'c, F: Filters, S: Specs>(
+    profile: &EvaluatableProfile<'c, F, S>,
+    mode: NextestRunMode,
+    query: &TestQuery<'_>,
+    answers: Option<&BinaryAnswers>,
+    tally: &mut F::Tally,
+) -> SourcedSettings<'c, F, S>
+    ensures { let profile = profile_meaning F.meaning profile.now in
+        let test = test_view query.now in
+        IfSome answers.entry (λ known. AreAnswersAt F.holds_binary profile test.binary known.now)
+        → AreSettingsOf F.meaning (query_in F.holds profile test) mode profile result }
+{
+    match answers {
+        Some(answers) => profile.settings_by_answers(mode, query, answers, tally),
+        None => profile.settings_with_source_for(mode, query, tally),
+    }
+}
+
+impl<'l, 'c, F: Filters, S: Specs> Listing<'l, 'c, F, S> {
+    /// No test was listed so far.
+    pub(crate) fn new(lister: Lister<'l, 'c, F, S>) -> Listing<'l, 'c, F, S>
+        ensures { result.lister ≡ lister.entry }
+    {
+        Listing {
+            lister,
+            answers: None,
+        }
+    }
+
+    /// What a binary decides of the rules, if that was found out for the last test.
+    fn answers_at(&self, query: &BinaryQuery<'_>) -> Option<&BinaryAnswers>
+        ensures { let profile = profile_meaning F.meaning self.now.lister.profile.now in
+            IfSome result (λ known. AreAnswersAt F.holds_binary profile (binary_view query.now)
+            known.now) }
+    {
+        match &self.answers {
+            Some(answers) => {
+                if answers.is_of(query) {
+                    Some(answers)
+                } else {
+                    None
+                }
+            }
+            None => None,
+        }
+    }
+
+    /// Finds out what a binary decides of the rules, unless the last test was one of its tests.
+    fn turn_to(
+        &mut self,
+        alloc: Global,
+        query: &BinaryQuery<'_>,
+        tally: &mut F::Tally,
+    ) -> Result<(), AllocError>
+        ensures { self.new.lister ≡ self.old.lister }
+    {
+        if self.answers_at(query).is_none() {
+            let answers = self.lister.profile.binary_answers(alloc, query, tally)?;
+            self.answers = Some(answers);
+        }
+        Ok(())
+    }
+
+    /// Returns whether a test runs, and its settings, and adds the test to those for which rules
+    /// hold. Filters are evaluated that its binary leaves open.
+    pub fn next_test(
+        &mut self,
+        alloc: Global,
+        test: &ListedTest<'_>,
+        used: &mut UsedRules,
+        tally: &mut F::Tally,
+        origins: &mut Origins<'_, '_, 'c>,
+    ) -> Result<TestRows, AllocError>
+        ensures lister { self.new.lister ≡ self.old.lister }
+        ensures same { origins.new ≡ origins.old }
+        ensures told { let lister = self.old.lister in
+            let profile = profile_meaning F.meaning lister.profile.now in
+            IfOk result (IsTestReported origins.old
+            (query_in F.holds profile (test_view test.now.query))
+            lister.mode profile lister.asked.now (list_test_view test.now)) }
+        ensures used { (tests : List (QueryContext F.Meaning))
+            → let lister = self.old.lister in
+            let profile = profile_meaning F.meaning lister.profile.now in
+            let query = query_in F.holds profile (test_view test.now.query) in
+            AreUsedIn tests lister.mode profile used.old
+            → IfOk result (λ _. AreUsedIn (tests ++ query ∷ []) lister.mode profile used.new) }
+    {
+        self.turn_to(alloc, &test.query.binary_query, tally)?;
+        let lister = self.lister;
+        let answers = self.answers_at(&test.query.binary_query);
+        let settings = settings_by(lister.profile, lister.mode, &test.query, answers, tally);
+        used.add(
+            alloc,
+            lister.profile,
+            &test.query,
+            answers,
+            &settings,
+            tally,
+        )?;
+        let rows = lister.rows_by(alloc, test, &settings, tally, origins)?;
+        Ok(rows)
+    }
+}
