@@ -39,12 +39,15 @@ use platform_language::TargetSpecs;
 use rinqebo_load::{Config, Session, chain_of_profile};
 use rinqebo_report::{Asked, Paper, Report, render_list_end, render_list_head, render_listed};
 use rinqebo_request::RequestedSettings;
-use rinqebo_rules::{Lister, Origins, Progress, UnusedRules, UsedRules};
+use rinqebo_rules::{Lister, Listing, Origins, Progress, UnusedRules, UsedRules};
 use std::alloc::{AllocError, Global};
 use std::io::Write;
 
 /// Resolves the tests of a list.
 type TestLister<'l, 'c> = Lister<'l, 'c, NextestFilters, TargetSpecs>;
+
+/// Resolves the tests of a list in turn.
+type TestListing<'l, 'c> = Listing<'l, 'c, NextestFilters, TargetSpecs>;
 
 /// The request of a list.
 #[derive(Clone, Copy)]
@@ -95,26 +98,28 @@ impl<'c> ListPage<'c, '_> {
     fn test_text(
         &self,
         alloc: Global,
-        asking: &TestLister<'_, 'c>,
+        listing: &mut TestListing<'_, 'c>,
         test: &ListedTest<'_>,
         used: &mut UsedRules,
         tally: &mut NextestTally,
         origins: &mut Origins<'_, '_, 'c>,
     ) -> Result<String, AllocError>
+        ensures lister { listing.new.lister ≡ listing.old.lister }
         ensures same { origins.new ≡ origins.old }
-        ensures shown { let profile = profile_meaning (marks_view names_of)
-            asking.now.profile.now in
+        ensures shown { let asking = listing.old.lister in
+            let profile = profile_meaning (marks_view names_of) asking.profile.now in
             IfOk result (λ text. ShowsTest origins.old
-            (query_in filter_holds profile (test_view test.now.query)) asking.now.mode profile
-            asking.now.asked.now (list_test_view test.now) self.now.head.now self.now.paper
+            (query_in filter_holds profile (test_view test.now.query)) asking.mode profile
+            asking.asked.now (list_test_view test.now) self.now.head.now self.now.paper
             (string_bytes text)) }
         ensures used { (tests : List (QueryContext Filter))
-            → let profile = profile_meaning (marks_view names_of) asking.now.profile.now in
+            → let asking = listing.old.lister in
+            let profile = profile_meaning (marks_view names_of) asking.profile.now in
             let query = query_in filter_holds profile (test_view test.now.query) in
-            AreUsedIn tests asking.now.mode profile used.old
-            → IfOk result (λ _. AreUsedIn (tests ++ query ∷ []) asking.now.mode profile used.new) }
+            AreUsedIn tests asking.mode profile used.old
+            → IfOk result (λ _. AreUsedIn (tests ++ query ∷ []) asking.mode profile used.new) }
     {
-        let rows = asking.next_test(alloc, test, used, tally, origins)?;
+        let rows = listing.next_test(alloc, test, used, tally, origins)?;
         let text = render_listed(alloc, self.head, self.paper, &rows)?;
         Ok(text)
     }
@@ -145,8 +150,9 @@ impl<'c> ListPage<'c, '_> {
     {
         let mut tally = NextestTally::new();
         let mut used = asking.before_tests(alloc)?;
+        let mut listing = asking.in_turn();
         for (place, test) in listed.iter().enumerate() {
-            let text = self.test_text(alloc, asking, test, &mut used, &mut tally, origins)?;
+            let text = self.test_text(alloc, &mut listing, test, &mut used, &mut tally, origins)?;
             write_text(text.as_str(), out)?;
             progress.asked(place + 1, listed.len());
         }

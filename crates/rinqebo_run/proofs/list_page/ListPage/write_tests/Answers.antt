@@ -10,7 +10,7 @@ use Rattle.nextest_settings.specs.Profiles.Meaning.{profile_meaning}
 use Rattle.nextest_settings.specs.Queries.{query_in}
 use Rattle.rinqebo_rules.specs.Rows.{IsTestReported}
 use Rattle.rinqebo_rules.specs.Unused.{AreUnusedIn, AreUsedIn}
-use Rattle.rinqebo_rules.proofs.Listing.{zip_mapped}
+use Rattle.rinqebo_rules.proofs.ListedTests.{zip_mapped}
 use Rattle.rinqebo_rules.proofs.Marked.{map_more, twice}
 use Rattle.rinqebo_rules.proofs.RowsMore.{zip_more_by}
 use Rattle.rinqebo_run.specs.declared.list_fault.ListFault.TheVariants as faults
@@ -21,6 +21,7 @@ use Rattle.rinqebo_run.proofs.list_page.ListPage.write_tests.Goals as goal
 
 pub loop-place-init : goal.loop-place-init
 loop-place-init g c = record {
+  lister = c.in_turn-listing.ensures;
   same = refl;
   rows = [];
   told = tt;
@@ -34,8 +35,9 @@ loop-place-preserved g c =
     let profile = profile_meaning (marks_view names_of) asking.profile.now in
     let listed = c.args.listed.now in
     let before = c.loop-place.invariant in
-    let shows = c.in_ok-text.ensures.shown in
+    let shows = rw before.lister at c.in_ok-text.ensures.shown in
     record {
+      lister = c.test_text.ensures.lister ∙ before.lister;
       same = c.test_text.ensures.same ∙ before.same;
       rows = before.rows ++ shows.rows ∷ [];
       told = zip_more_by (λ basis test. IsTestReported basis (query_in filter_holds profile (list_test_view test).test)
@@ -48,7 +50,7 @@ loop-place-preserved g c =
       marked = subst (λ tests. AreUsedIn tests asking.mode profile c.test_text.new.used)
           (map_more (λ test. query_in filter_holds profile (list_test_view test).test) listed c.loop-place.place _ _
           c.loop-place-test.true refl)
-          (c.in_ok-text.ensures.used _ before.marked);
+          ((rw before.lister at c.in_ok-text.ensures.used) _ before.marked);
     }
 
 pub returns-clause-tests : goal.returns-clause-tests
@@ -84,7 +86,7 @@ returns-in_err-write_text-clause-err g c =
     let self = c.args.self.now in
     let listed = c.args.listed.now in
     let before = c.loop-place.invariant in
-    let shows = c.in_ok-text.ensures.shown in
+    let shows = rw before.lister at c.in_ok-text.ensures.shown in
     let old = g.O.Write.contents c.args.out.now in
     let mid = g.O.Write.contents c.loop-place.out in
     let new = g.O.Write.contents c.write_text.new.out in
