@@ -1,3 +1,7 @@
+pub mod Encoded
+pub mod OneLine
+pub mod PageLines
+pub mod GithubLines
 pub mod Lists
 pub mod Files
 pub mod Places
@@ -15,3 +19,8 @@ pub mod Profiles
 pub mod ProfileRules
 pub mod Agreement
 pub mod WhyAgreement
+pub mod SchemaMembers
+pub mod SchemaValues
+pub mod SchemaTables
+pub mod SchemaValidates
+pub mod Meanings

@@ -1,5 +1,8 @@
+pub mod Lines
 pub mod Shown
 pub mod Rows
 pub mod Reasons
 pub mod Runs
 pub mod Verdicts
+pub mod Validation
+pub mod Matching
