@@ -1,3 +1,4 @@
+pub mod Prefixes
 pub mod Statuses
 pub mod Refused
 pub mod Loads
@@ -12,6 +13,8 @@ pub mod InForce
 pub mod Gathering
 pub mod Listing
 pub mod Showing
+pub mod Stops
 pub mod Writing
 pub mod Documents
+pub mod Received
 pub mod LookedUp

@@ -4,7 +4,7 @@ use Rattle.std.specs.List.{AllZip, zip}
 use Rattle.nextest_settings.specs.Platforms.{rule_on}
 use Rattle.rinqebo_request.specs.declared.files.layers.Layer.{Layer}
 use Rattle.rinqebo_report.specs.declared.report.Rule.{Rule}
-use Rattle.rinqebo_rules.proofs.Listing.{made_twice}
+use Rattle.rinqebo_rules.proofs.ListedTests.{made_twice}
 use Rattle.rinqebo_rules.proofs.VerdictsOf.{verdicts-facts}
 use Rattle.rinqebo_rules.specs.Conditions.{is_met_by}
 use Rattle.rinqebo_rules.specs.RuleAnswers.{Judged, answers_by, requested_query, judged_here}

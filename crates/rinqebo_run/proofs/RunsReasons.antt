@@ -45,7 +45,7 @@ use Rattle.rinqebo_rules.specs.Reported.{value_view}
 use Rattle.rinqebo_rules.specs.VerdictsBy.{verdicts_by}
 use Rattle.rinqebo_rules.specs.declared.chain_rules.SettingRule.{SettingRule}
 use Rattle.rinqebo_rules.specs.declared.verdict.RuleVerdict.{RuleVerdict}
-use Rattle.rinqebo_rules.proofs.Listing.{made_twice}
+use Rattle.rinqebo_rules.proofs.ListedTests.{made_twice}
 use Rattle.rinqebo_run.proofs.Gathering.{why_moved}
 use Rattle.rinqebo_run.proofs.Meant.{condition_meant, read_meets, specs_meant}
 use Rattle.rinqebo_run.proofs.Pairs.{zip_moved}

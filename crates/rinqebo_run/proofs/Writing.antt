@@ -1,16 +1,18 @@
 -- Lists that are written as their tests are asked.
-use Rattle.std.proofs.Common.{◌≡◌, ◌∙◌, ◌⊎◌, ◌<◌, ◌^◌, inl, inr, ℕ, List, [], ◌∷◌, ◌++◌, Option, None, Result, Ok, Err, IfErr, IsErrAnd, ap, arith, flat_map, length, map, refl, string_bytes, subst, sym, take}
+use Rattle.std.proofs.Common.{◌≡◌, ◌∙◌, ◌⊎◌, ◌<◌, ◌^◌, inl, inr, ℕ, List, [], ◌∷◌, ◌++◌, Option, None, ap, arith, flat_map, length, map, refl, string_bytes, subst, sym, take}
 use Rattle.std.proofs.KnownBytes.{Appends-nil, Appends-trans}
 use Rattle.std.proofs.lemmas.Grind.{flat_map-append}
 use Rattle.std.proofs.lemmas.List.{append-nil, take-map, take_all}
+use Rattle.std.proofs.lemmas.Slice.Zip.{AllZip-long}
 use Rattle.std.specs.Io.KnownBytes.{Appends}
 use Rattle.std.specs.List.{AllZip}
+use Rattle.std.specs.declared.alloc.Global.{Global}
 use Rattle.std.specs.declared.vec.Vec.{Vec}
 use Rattle.filter_language.specs.Filtersets.{marks_view}
 use Rattle.filter_language.specs.declared.filterset.Filterset.{Filterset}
 use Rattle.nextest_elements.specs.declared.run_mode.NextestRunMode.{NextestRunMode}
 use Rattle.filter_engine.specs.Compiling.{names_of}
-use Rattle.filter_engine.specs.Engine.{Filter, filter_holds}
+use Rattle.filter_engine.specs.Engine.{Filter, filter_holds, filter_holds_binary}
 use Rattle.filter_engine.specs.declared.compiling.FieldMatcher.{FieldMatcher}
 use Rattle.nextest_inheritance.specs.Parents.{parents_in}
 use Rattle.nextest_load.specs.Config.{ConfigModel, config_parents}
@@ -24,6 +26,9 @@ use Rattle.nextest_tables.specs.Written.{Name}
 use Rattle.rinqebo_request.specs.declared.files.gathering.Gathered.{Gathered}
 use Rattle.rinqebo_rules.specs.TestOrigins.{Basis}
 use Rattle.rinqebo_rules.specs.Rows.{AreTestsReported, IsTestReported}
+use Rattle.rinqebo_rules.specs.Scripts.{AreScriptsReported}
+use Rattle.rinqebo_rules.specs.Unused.{AreUnusedIn}
+use Rattle.rinqebo_rules.specs.declared.unused.UnusedRules.{UnusedRules}
 use Rattle.rinqebo_report.specs.Headers.{list_head_runs}
 use Rattle.rinqebo_report.specs.Pages.{list_end_runs, list_runs, listed_runs}
 use Rattle.rinqebo_report.specs.Pieces.{painted, page_text}
@@ -34,6 +39,7 @@ use Rattle.rinqebo_report.specs.declared.layout.Paper.{Paper}
 use Rattle.rinqebo_report.specs.declared.report.Asked.{Asked}
 use Rattle.rinqebo_report.specs.declared.report.Content.{Content}
 use Rattle.rinqebo_report.specs.declared.report.Content.TheVariants as contents
+use Rattle.rinqebo_report.specs.declared.report.ListScripts.{ListScripts}
 use Rattle.rinqebo_report.specs.declared.report.Report.{Report}
 use Rattle.rinqebo_report.specs.declared.report.TestRows.{TestRows}
 use Rattle.rinqebo_request.specs.declared.request.RequestedSettings.{RequestedSettings}
@@ -43,40 +49,33 @@ use Rattle.rinqebo_request.specs.declared.request.Request.{Request}
 use Rattle.platform_language.specs.Expressions.{Spec, spec_view}
 use Rattle.platform_language.specs.declared.expression.TargetSpec.{TargetSpec}
 use Rattle.filter_inputs.specs.Lists.ListView.{list_test_view, list_view}
-use Rattle.filter_inputs.specs.Lists.Lists.{ListTest, list_tests}
+use Rattle.filter_inputs.specs.Lists.Lists.{ListTest, all_binaries, all_tests, list_tests}
 use Rattle.filter_inputs.specs.declared.lists.list.ListedTest.{ListedTest}
 use Rattle.rinqebo_run.proofs.Documents.{text_or_json}
-use Rattle.rinqebo_run.proofs.Listing.{given_means, tells_tests, zip_mapped}
+use Rattle.rinqebo_run.proofs.Listing.{given_means, listed_here, tells_tests, zip_mapped}
 use Rattle.rinqebo_run.proofs.Refused.{failure_reported}
 use Rattle.rinqebo_run.proofs.Statuses.{failed_silent, failed_status}
+use Rattle.rinqebo_run.proofs.Stops.{stops_so}
 use Rattle.rinqebo_run.specs.Answered.{AnswersQuestion, Reports}
 use Rattle.rinqebo_run.specs.Begun.{tests_text, AreFirstOf, AreFirstWritten, AreWritten, BeginsList, BeginsPage, IsBegun}
 use Rattle.rinqebo_load.specs.Accepted.{AreAccepted}
 use Rattle.rinqebo_rules.specs.Conditions.{is_met_by}
 use Rattle.rinqebo_run.specs.Listed.{IsProfileOn, ReportsTests}
-use Rattle.rinqebo_run.specs.ListedBy.{basis_of, read_by}
+use Rattle.rinqebo_run.specs.ListedBy.{basis_of, places_of, read_by}
 use Rattle.rinqebo_run.specs.Requested.{IsRequestedOf}
-use Rattle.rinqebo_run.proofs.Requests.{requested_on}
 use Rattle.rinqebo_run.specs.Refused.{Fails, IsFailureIn, IsReportedBy}
 use Rattle.rinqebo_run.specs.LookedUp.{AreLookedUp, IsFailureOn, IsLookedUp}
 use Rattle.rinqebo_load.specs.SessionOf.{IsSessionOf}
 use Rattle.rinqebo_load.specs.Sessions.{files_view, readings, IsLoadedFrom}
 use Rattle.rinqebo_run.specs.Statuses.{IsAnswerStatus, IsStatus}
 use Rattle.rinqebo_findings.specs.Reports.{IsReportOf}
-use Rattle.rinqebo_run.specs.Written.{AreFirstBy, AsksList, IsStopStatus, StopsList, WritesList, WritesPage}
+use Rattle.rinqebo_run.specs.Written.{AreFirstBy, AsksList, EndsPage, HasPage, IsStopStatus, StopsList, WritesList, WritesPage, WritesRest}
 use Rattle.rinqebo_load.specs.declared.failure.Failure.{Failure}
 use Rattle.rinqebo_load.specs.declared.failure.Failure.TheVariants as failures
 use Rattle.rinqebo_run.specs.declared.list_fault.ListFault.{ListFault}
 use Rattle.rinqebo_run.specs.declared.list_fault.ListFault.TheVariants as faults
-use Rattle.rinqebo_run.specs.declared.list_page.BesideTests.{BesideTests}
 use Rattle.rinqebo_run.specs.declared.list_page.RequestedList.{RequestedList}
 use Rattle.rinqebo_load.specs.declared.session.Session.{Session}
-
--- a fault is passed on
-pub passed_stop : {A : Type 0} (P : ListFault → Type 0) (r : Result A ListFault) (fault : ListFault)
-    → IsErrAnd r (λ told. told ≡ fault) → P fault → IfErr r P
-passed_stop P (Ok answer) fault same is = tt
-passed_stop P (Err told) fault same is = subst P (sym same) is
 
 -- the lines of tests, and those of one more
 pub tests_text-push : (head : Report) (paper : Paper) (tests : List TestRows) (rows : TestRows)
@@ -168,31 +167,82 @@ none_first basis mode profile asked head paper list old new same = record {
 -- what is asked and the first tests went out by a configuration that was loaded
 pub first_here : (session : Session) (loaded : Loaded (Filterset FieldMatcher) TargetSpec) (name : Name)
     (mode : NextestRunMode) (asked : RequestedSettings) (on : EvaluatableModel (Filterset FieldMatcher))
-    (names chain headed : List Name) (header : Asked) (head : Report) (paper : Paper)
-    (old mid new : Option (List ℕ))
+    (chain : List Name) (header : Asked) (head : Report) (paper : Paper) (old mid new : Option (List ℕ))
     → IsProfileOn is_met_by session.engines.platforms (read_by session loaded) name on
-    → IsChainAndDefault (parents_in (config_parents loaded.config)) name names → chain ≡ names → headed ≡ names
-    → IsRequestedOf session name mode headed header → Appends old mid (page_text paper.colour (list_head_runs paper.columns header))
-    → AreFirstWritten (basis_of session chain) (readings session.engines.filters).matches_test mode
-    (profile_meaning (marks_view names_of) on) asked (list_tests (list_view session.tests)) head paper mid new
+    → IsChainAndDefault (parents_in (config_parents loaded.config)) name chain
+    → IsRequestedOf session name mode chain header → Appends old mid (page_text paper.colour (list_head_runs paper.columns header))
+    → AreFirstWritten (basis_of session chain) filter_holds mode (profile_meaning (marks_view names_of) on) asked
+    (list_tests (list_view session.tests)) head paper mid new
     → AreFirstBy session loaded name mode asked paper old new
-first_here session loaded name mode asked on names chain headed header head paper old mid new is ends same same_header
-    is_asked opening first = record {
-      head = head;
-      profile = profile_meaning (marks_view names_of) on;
-      is_profile = given_means (marks_view names_of) spec_view (readings session.engines.filters).meets
-          session.engines.platforms (read_by session loaded) name on is;
-      chain = names;
+first_here session loaded name mode asked on chain header head paper old mid new is ends is_asked opening first = record {
+  head = head;
+  profile = profile_meaning (marks_view names_of) on;
+  is_profile = given_means (marks_view names_of) spec_view (readings session.engines.filters).meets
+      session.engines.platforms (read_by session loaded) name on is;
+  chain = chain;
+  is_chain = ends;
+  header = header;
+  is_asked = is_asked;
+  count = first.count;
+  tests = first.tests;
+  are_reported = first.are_reported;
+  page = Appends-trans old mid new (page_text paper.colour (list_head_runs paper.columns header))
+      (tests_text head paper first.tests) opening first.page;
+}
+
+-- the tests went out, and then what is behind them
+pub rest_here : (session : Session) (chain : List Name) (profile : EvaluatableModel Filter) (mode : NextestRunMode)
+    (asked : RequestedSettings) (head : Report) (paper : Paper) (rules : UnusedRules) (scripts : ListScripts) (count : ℕ)
+    (old tested new : Option (List ℕ))
+    → AreWritten (basis_of session chain) filter_holds mode profile asked (list_tests (list_view session.tests)) head paper
+    old tested
+    → count ≡ length (list_tests (list_view session.tests)) → count < 2 ^ 63
+    → AreUnusedIn (map (query_in filter_holds profile) (all_tests (list_view session.tests))) profile rules
+    → AreScriptsReported filter_holds filter_holds_binary profile (all_tests (list_view session.tests))
+    (all_binaries (list_view session.tests)) scripts
+    → EndsPage session head paper count (places_of rules) tested new
+    → WritesRest session chain profile mode asked head paper old new
+rest_here session chain profile mode asked head paper rules scripts count old tested new written counted fits unused
+    scripted end = record {
+      tested = tested;
+      tests = written;
+      count = count;
+      counted = counted;
+      fits = fits;
+      rules = rules;
+      are_unused = unused;
+      scripts = scripts;
+      are_scripts = scripted;
+      end = end;
+    }
+
+-- the page of a list, where the tests and what is behind them followed the header
+pub page_here : (session : Session) (loaded : Loaded (Filterset FieldMatcher) TargetSpec) (name : Name)
+    (mode : NextestRunMode) (asked : RequestedSettings) (on : EvaluatableModel (Filterset FieldMatcher))
+    (chain : List Name) (header : Asked) (head : Report) (paper : Paper) (old mid whole : Option (List ℕ))
+    → IsProfileOn is_met_by session.engines.platforms (read_by session loaded) name on
+    → IsChainAndDefault (parents_in (config_parents loaded.config)) name chain
+    → IsRequestedOf session name mode chain header → Appends old mid (page_text paper.colour (list_head_runs paper.columns header))
+    → WritesRest session chain (profile_meaning (marks_view names_of) on) mode asked head paper mid whole
+    → WritesPage session loaded name mode asked head paper old whole
+page_here session loaded name mode asked on chain header head paper old mid whole is ends is_asked opening rest =
+    let written = rest.tests in
+    let long : length (list_tests (list_view session.tests)) ≡ length written.tests =
+    sym (AllZip-long _ (list_tests (list_view session.tests)) written.tests written.are_reported) in
+    let all : rest.count ≡ length written.tests = rest.counted ∙ long in
+    record {
+      tests = written.tests;
+      fit = subst (λ n. n < 2 ^ 63) all rest.fits;
+      unused = rest.end.unused;
+      scripts = rest.scripts;
+      told = listed_here session loaded name mode asked on chain chain rest.rules written.tests rest.end.unused.items
+          rest.scripts None is ends refl written.are_reported rest.are_unused rest.end.are_origins rest.are_scripts tt;
+      chain = chain;
       is_chain = ends;
       header = header;
-      is_asked = requested_on session name mode headed names header same_header is_asked;
-      count = first.count;
-      tests = first.tests;
-      are_reported = subst (λ ns. AreTestsReported (basis_of session ns) (readings session.engines.filters).matches_test mode
-          (profile_meaning (marks_view names_of) on) asked (take first.count (list_tests (list_view session.tests)))
-          first.tests) same first.are_reported;
-      page = Appends-trans old mid new (page_text paper.colour (list_head_runs paper.columns header)) (tests_text head paper first.tests) opening
-          first.page;
+      requested = is_asked;
+      page = whole_page head paper header written.tests rest.end.unused.items rest.count old mid rest.tested whole all
+          opening written.page rest.end.page;
     }
 
 -- the page of a list was begun by what was loaded
@@ -219,6 +269,14 @@ begins_list session profile mode asked paper loaded old new accepted from there 
       first = subst First from.means first;
     }
 
+-- the page of a list went out under the header of a report of a session
+pub has_page : (session : Session) (loaded : Loaded (Filterset FieldMatcher) TargetSpec) (profile : Name)
+    (mode : NextestRunMode) (asked : RequestedSettings) (head : Report) (paper : Paper) (old new : Option (List ℕ))
+    → IsReportOf session head → WritesPage session loaded profile mode asked head paper old new
+    → HasPage session loaded profile mode asked paper old new
+has_page session loaded profile mode asked head paper old new about writes =
+    record { head = head; about = about; writes = writes }
+
 -- a list of values in the room of another one
 vec_of : {A B Z : Type 0} (room : Vec B Z) (xs : List A) → length xs < 2 ^ 63 → Vec A Z
 vec_of room xs fit = record {
@@ -232,47 +290,28 @@ vec_of room xs fit = record {
 }
 
 -- what a report lists whose page went out
-abbrev content_of : BesideTests → (tests : List TestRows) → length tests < 2 ^ 63 → Content
-content_of beside tests fit =
-    contents.List beside.asked (vec_of beside.unused tests fit) beside.unused beside.scripts None
+abbrev content_of : Asked → (tests : List TestRows) → length tests < 2 ^ 63 → Vec Origin Global → ListScripts → Content
+content_of header tests fit unused scripts = contents.List header (vec_of unused tests fit) unused scripts None
 
 -- the page of a list went out by what was loaded
 pub writes_list : (session : Session) (profile : Name) (mode : NextestRunMode) (asked : RequestedSettings) (paper : Paper)
-    (head : Report) (beside : BesideTests) (loaded : Loaded (Filterset FieldMatcher) TargetSpec)
-    (old new : Option (List ℕ)) → AreAccepted session
+    (loaded : Loaded (Filterset FieldMatcher) TargetSpec) (old new : Option (List ℕ)) → AreAccepted session
     → IsLoadedFrom (readings session.engines.filters) (files_view session.gathered.now) loaded
-    → IsIn (names_in loaded.config.profiles) profile → IsReportOf session head
-    → IsLookedUp session profile → WritesPage session loaded profile mode asked head paper old new beside
-    → WritesList session profile mode asked paper old new
+    → IsIn (names_in loaded.config.profiles) profile → IsLookedUp session profile
+    → HasPage session loaded profile mode asked paper old new → WritesList session profile mode asked paper old new
 unfolding vec_of
-writes_list session profile mode asked paper head beside loaded old new accepted from there about looked writes =
-    let content = content_of beside writes.tests writes.fit in
+writes_list session profile mode asked paper loaded old new accepted from there looked page =
+    let head = page.head in
+    let writes = page.writes in
+    let content = content_of writes.header writes.tests writes.fit writes.unused writes.scripts in
     record {
       report = record head { content = content };
-      about = record { root = about.root; sources = about.sources };
+      about = record { root = page.about.root; sources = page.about.sources };
       tells = tells_tests session profile mode asked (record head { content = content }) content loaded accepted from there
           refl writes.told (record { chain = writes.chain; is_chain = writes.is_chain; requested = writes.requested });
       looked_up = looked;
       page = writes.page;
     }
-
--- why a list was not written whole, in other words
-pub stops_so : (refuses others : Failure → Type 0) (begun more : Type 0) (old new : Option (List ℕ))
-    (fault : ListFault) → ((failure : Failure) → refuses failure → others failure) → (begun → more)
-    → StopsList refuses begun old new fault → StopsList others more old new fault
-stops_so refuses others begun more old new (faults.Refused failure) told first stop = (told failure stop.0, stop.1)
-stops_so refuses others begun more old new faults.Memory told first (inl is) = inl (first is)
-stops_so refuses others begun more old new faults.Memory told first (inr same) = inr same
-stops_so refuses others begun more old new faults.Write told first stop = tt
-
--- why a list was not written whole of which something was written before
-pub stops_behind : (more begun : Type 0) (old mid new : Option (List ℕ)) (fault : ListFault)
-    → (more → begun) → (mid ≡ new → begun) → StopsList (λ _. ⊥) more mid new fault
-    → StopsList (λ _. ⊥) begun old new fault
-stops_behind more begun old mid new (faults.Refused failure) further first stop = absurd stop.0
-stops_behind more begun old mid new faults.Memory further first (inl is) = inl (further is)
-stops_behind more begun old mid new faults.Memory further first (inr same) = inl (first (sym same))
-stops_behind more begun old mid new faults.Write further first stop = tt
 
 -- a question that asks for a list is answered by what tells its tests
 answers_list : (q : Question) (list : RequestedList) (session : Session) (report : Report) → AsksList q list
@@ -337,23 +376,27 @@ pub list_stopped : (request : Request) (gathered : Gathered) (list : RequestedLi
     (old new : Option (List ℕ)) (fault : ListFault) → IsSessionOf request gathered session
     → AsksList request.question list → request.format ≡ formats.Text
     → StopsList (IsFailureOn session list.profile.now)
-    (BeginsList session list.profile.now list.mode list.settings.now request.paper old new) old new fault
-    → StopsList (Fails request gathered) (IsBegun request gathered old new) old new fault
+    (BeginsList session list.profile.now list.mode list.settings.now request.paper old)
+    (WritesList session list.profile.now list.mode list.settings.now request.paper old) old new fault
+    → StopsList (Fails request gathered) (IsBegun request gathered old) (Reports request gathered 0 old) old new fault
 list_stopped request gathered list session old new fault begun asks is_text stop =
     stops_so (IsFailureOn session list.profile.now) (Fails request gathered)
-    (BeginsList session list.profile.now list.mode list.settings.now request.paper old new)
-    (IsBegun request gathered old new) old new fault
+    (BeginsList session list.profile.now list.mode list.settings.now request.paper old)
+    (IsBegun request gathered old)
+    (WritesList session list.profile.now list.mode list.settings.now request.paper old)
+    (Reports request gathered 0 old) old new fault
     (λ failure cause. inr (record {
       session = session;
       begun = begun;
       cause = fails_about request.question list session failure asks cause;
     }))
-    (λ begins. record {
+    (λ whole begins. record {
       session = session;
       of_request = begun;
       is_text = is_text;
-      page = begins_page request.question list session request.paper old new asks begins;
-    }) stop
+      page = begins_page request.question list session request.paper old whole asks begins;
+    })
+    (λ whole writes. inr (list_reported request gathered list session old whole begun asks is_text writes)) stop
 
 -- what a run ends with whose list was not written whole is a status
 pub stop_status : (q : Question) (fault : ListFault) (n : ℕ) → IsStopStatus fault n → IsStatus q n
@@ -363,7 +406,7 @@ stop_status q faults.Write n ends = failed_status q failures.Memory n (inr (inr 
 
 -- what went out of a list that was not written whole
 pub stop_quiet : (request : Request) (gathered : Gathered) (old new : Option (List ℕ)) (fault : ListFault) (n : ℕ)
-    → StopsList (Fails request gathered) (IsBegun request gathered old new) old new fault → IsStopStatus fault n
+    → StopsList (Fails request gathered) (IsBegun request gathered old) (Reports request gathered 0 old) old new fault → IsStopStatus fault n
     → IsAnswerStatus request.question n ⊎ (n ≡ 6) ⊎ (new ≡ old) ⊎ ((n ≡ 5) × IsBegun request gathered old new)
 stop_quiet request gathered old new (faults.Refused failure) n stop ends = inr (inr (inl stop.1))
 stop_quiet request gathered old new faults.Memory n (inl begun) (inl five) = inr (inr (inr (five, begun)))
@@ -374,7 +417,7 @@ stop_quiet request gathered old new faults.Write n stop ends = inr (inl ends)
 -- a list that was not written whole has no status of an answer
 pub stop_silent : {X : Type 0} (request : Request) (gathered : Gathered) (old new : Option (List ℕ))
     (fault : ListFault) (n : ℕ)
-    → StopsList (Fails request gathered) (IsBegun request gathered old new) old new fault → IsStopStatus fault n
+    → StopsList (Fails request gathered) (IsBegun request gathered old) (Reports request gathered 0 old) old new fault → IsStopStatus fault n
     → IsAnswerStatus request.question n → X
 stop_silent request gathered old new (faults.Refused failure) n stop ends is =
     failed_silent request gathered failure n stop.0 ends is
@@ -385,7 +428,7 @@ stop_silent request gathered old new faults.Write n stop ends is =
 
 -- the status of a run whose list was not written whole tells of files
 pub stop_reported : (request : Request) (gathered : Gathered) (old new : Option (List ℕ)) (fault : ListFault) (n : ℕ)
-    → StopsList (Fails request gathered) (IsBegun request gathered old new) old new fault → IsStopStatus fault n
+    → StopsList (Fails request gathered) (IsBegun request gathered old) (Reports request gathered 0 old) old new fault → IsStopStatus fault n
     → IsReportedBy request gathered n
 stop_reported request gathered old new (faults.Refused failure) n stop ends =
     failure_reported request gathered failure n stop.0 ends

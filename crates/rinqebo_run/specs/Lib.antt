@@ -1,3 +1,4 @@
+pub mod Prefixes
 pub mod Statuses
 pub mod Requested
 pub mod Explained
@@ -15,4 +16,5 @@ pub mod InForce
 pub mod ShownConfig
 pub mod Begun
 pub mod Written
+pub mod Received
 pub mod LookedUp

@@ -78,13 +78,14 @@ fn accepted(
         ≡ accepted_status deny_warnings answer.report.findings.items) }
     ensures about { IfOk result (λ answer. IsReportOf session.now answer.report) }
 {
+    let note = open_filters_note(alloc, session, config)?;
     let findings = accepted_findings(alloc, session, warnings)?;
     let report = report_of(alloc, session, findings, Vec::new(alloc), Content::Check)?;
     let status = status_of(&report.findings, deny_warnings);
     Ok(Answer {
         report,
         status,
-        note: open_filters_note(alloc, session, config)?,
+        note,
     })
 }
 

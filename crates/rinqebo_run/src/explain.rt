@@ -11,14 +11,11 @@ ghost use Rattle.rinqebo_run.specs.Requested.{IsRequestedIn};
 
 use crate::answer::Answer;
 use crate::asked::requested_of;
-use crate::id_note::id_note;
-use crate::idle::findings_on;
 use crate::list::profile_on;
 use crate::looked_up::config_looked_up;
-use crate::status::Status;
+use crate::reporting::answer_on_test;
 use filter_engine::NextestTally;
 use nextest_config::DefaultConfigWarnings;
-use rinqebo_findings::report_of;
 use rinqebo_load::{Config, Failure, FoundTest, Session, chain_of_profile};
 use rinqebo_report::Content;
 use rinqebo_request::RequestedSettings;
@@ -76,12 +73,6 @@ pub fn explain(
     let mut warnings = DefaultConfigWarnings::new(alloc);
     let config = config_looked_up(alloc, session, profile, &mut warnings)?;
     let content = explained(alloc, &*session, &config, profile, test, asked)?;
-    let findings = findings_on(alloc, session, &warnings, &content)?;
-    let note = id_note(alloc, session, &config, profile, test)?;
-    let report = report_of(alloc, session, findings, Vec::new(alloc), content)?;
-    Ok(Answer {
-        report,
-        status: Status::Success as u8,
-        note,
-    })
+    let answer = answer_on_test(alloc, session, &config, &warnings, profile, test, content)?;
+    Ok(answer)
 }

@@ -142,10 +142,10 @@ pub fn list<P: Progress>(
 {
     let mut warnings = DefaultConfigWarnings::new(alloc);
     let config = config_looked_up(alloc, session, profile, &mut warnings)?;
+    let findings = warning_findings(alloc, &session.layers, &warnings)?;
     let content = listed(
         alloc, &*session, &config, &warnings, profile, mode, asked, progress,
     )?;
-    let findings = warning_findings(alloc, &session.layers, &warnings)?;
     let report = report_of(alloc, session, findings, Vec::new(alloc), content)?;
     Ok(report)
 }

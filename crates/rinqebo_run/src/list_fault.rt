@@ -1,4 +1,5 @@
 //! Why the program did not write the text of a list whole.
+use crate::streams::WriteFault;
 use rinqebo_load::Failure;
 use std::alloc::AllocError;
 
@@ -9,7 +10,7 @@ pub enum ListFault {
     Refused(Failure),
     /// Memory ran out. What was written ends with a whole test.
     Memory,
-    /// A write failed.
+    /// A write failed. A beginning of the page was written.
     Write,
 }
 
@@ -32,5 +33,16 @@ impl From<Failure> for ListFault {
 
     fn from(failure: Failure) -> ListFault {
         ListFault::Refused(failure)
+    }
+}
+
+impl From<WriteFault> for ListFault {
+    ghost use Rattle.std.specs.Prelude.{◌≡◌};
+    ghost use Rattle.rinqebo_run.specs.declared.list_fault.ListFault.TheVariants.{Write};
+
+    ghost from_gives = { λ _ fault. fault ≡ Write };
+
+    fn from(_fault: WriteFault) -> ListFault {
+        ListFault::Write
     }
 }

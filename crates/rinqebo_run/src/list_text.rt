@@ -1,10 +1,11 @@
 //! Writes a list as a text, test after test, as the program resolves them.
 ghost use Rattle.std.specs.Prelude.{◌≡◌, ◌⊎◌, IfErr, IfOk, OnOk};
+ghost use Rattle.nextest_tables.specs.FileTexts.{names_in, IsIn};
 ghost use Rattle.rinqebo_run.specs.Answered.{Reports};
 ghost use Rattle.rinqebo_run.specs.Refused.{Fails};
 ghost use Rattle.rinqebo_run.specs.LookedUp.{IsFailureOn};
 ghost use Rattle.rinqebo_run.specs.Begun.{BeginsList, IsBegun};
-ghost use Rattle.rinqebo_run.specs.Written.{AsksList, StopsList, WritesList};
+ghost use Rattle.rinqebo_run.specs.Written.{AreFirstBy, AsksList, HasPage, StopsList, WritesList};
 ghost use Rattle.rinqebo_run.specs.declared.list_fault.ListFault.TheVariants as faults;
 ghost use Rattle.rinqebo_findings.specs.Reports.{IsReportOf};
 ghost use Rattle.rinqebo_report.specs.declared.format.Format.TheVariants as formats;
@@ -15,7 +16,7 @@ use crate::looked_up::config_looked_up;
 use crate::progress::ProgressLine;
 use nextest_config::DefaultConfigWarnings;
 use rinqebo_findings::{report_of, warning_findings};
-use rinqebo_load::Session;
+use rinqebo_load::{Config, Session};
 use rinqebo_report::{Colour, Content, Paper, Report, render_findings};
 use rinqebo_request::{Gathered, Request};
 use std::alloc::Global;
@@ -40,8 +41,43 @@ fn begin<E: Write>(
     Ok(head)
 }
 
-/// Writes a list of a session. Warnings go to standard error, and then, where it is shown, how far
-/// the list is.
+/// Writes a list of a session by a configuration that was loaded with warnings. These go to
+/// standard error, and then, where it is shown, how far the list is.
+fn write_by<O: Write, E: Write>(
+    alloc: Global,
+    session: &Session<'_>,
+    config: &Config,
+    warnings: &DefaultConfigWarnings,
+    list: &RequestedList<'_>,
+    paper: Paper,
+    shows_progress: bool,
+    out: &mut O,
+    err: &mut E,
+) -> Result<(), ListFault>
+    requires { IsIn (names_in config.now.config.profiles) list.now.profile.now }
+    ensures ok { OnOk result (HasPage session.now config.now list.now.profile.now list.now.mode
+        list.now.settings.now paper (O.contents out.old) (O.contents out.new)) }
+    ensures err { IfErr result (StopsList (λ _. ⊥)
+        (AreFirstBy session.now config.now list.now.profile.now list.now.mode
+        list.now.settings.now paper (O.contents out.old))
+        (HasPage session.now config.now list.now.profile.now list.now.mode list.now.settings.now
+        paper (O.contents out.old)) (O.contents out.old) (O.contents out.new)) }
+{
+    let head = begin(alloc, session, warnings, paper.colour, err)?;
+    let page = ListPage {
+        session,
+        config,
+        list: *list,
+        head: &head,
+        paper,
+    };
+    let mut progress = ProgressLine::new(&mut *err, shows_progress);
+    let written = page.write(alloc, &mut progress, out);
+    progress.clear();
+    written
+}
+
+/// Writes a list of a session.
 fn write_in<O: Write, E: Write>(
     alloc: Global,
     session: &Session<'_>,
@@ -54,27 +90,24 @@ fn write_in<O: Write, E: Write>(
     ensures ok { OnOk result (WritesList session.now list.now.profile.now list.now.mode
         list.now.settings.now paper (O.contents out.old) (O.contents out.new)) }
     ensures err { IfErr result (StopsList (IsFailureOn session.now list.now.profile.now)
-        (BeginsList session.now list.now.profile.now list.now.mode list.now.settings.now
-        paper (O.contents out.old) (O.contents out.new))
+        (BeginsList session.now list.now.profile.now list.now.mode list.now.settings.now paper
+        (O.contents out.old)) (WritesList session.now list.now.profile.now list.now.mode
+        list.now.settings.now paper (O.contents out.old))
         (O.contents out.old) (O.contents out.new)) }
 {
     let mut warnings = DefaultConfigWarnings::new(alloc);
     let config = config_looked_up(alloc, session, list.profile, &mut warnings)?;
-    let head = begin(alloc, session, &warnings, paper.colour, err)?;
-    let page = ListPage {
+    write_by(
+        alloc,
         session,
-        config: &config,
-        list: *list,
-        head: &head,
+        &config,
+        &warnings,
+        list,
         paper,
-    };
-    let mut progress = ProgressLine::new(&mut *err, shows_progress);
-    let written = page.write(alloc, &mut progress, out);
-    progress.clear();
-    match written {
-        Ok(_) => Ok(()),
-        Err(fault) => Err(fault),
-    }
+        shows_progress,
+        out,
+        err,
+    )
 }
 
 /// Writes the list of a request over the files that it names, as a text.
@@ -91,7 +124,8 @@ pub fn write_list<O: Write, E: Write>(
     ensures ok { OnOk result
         (Reports request.now gathered.now 0 (O.contents out.old) (O.contents out.new)) }
     ensures err { IfErr result (StopsList (Fails request.now gathered.now)
-        (IsBegun request.now gathered.now (O.contents out.old) (O.contents out.new))
+        (IsBegun request.now gathered.now (O.contents out.old))
+        (Reports request.now gathered.now 0 (O.contents out.old))
         (O.contents out.old) (O.contents out.new)) }
 {
     let session = Session::new(alloc, request, gathered)?;

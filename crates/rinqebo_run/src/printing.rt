@@ -1,55 +1,40 @@
 //! Writes texts to the streams of a run, and returns exit statuses.
-ghost use Rattle.std.specs.Prelude.{◌≡◌, ◌⊎◌, IsOk, OnOk, flat_map};
+ghost use Rattle.std.specs.Prelude.{◌≡◌, ◌⊎◌, flat_map};
 ghost use Rattle.std.specs.Io.KnownBytes.{Appends};
+ghost use Rattle.rinqebo_run.specs.Prefixes.{AppendsPrefix};
 
 use crate::status::Status;
+use crate::streams::{write_texts, write_whole};
 use rinqebo_report::{Colour, Report, render_findings};
 use std::alloc::{AllocError, Global};
-use std::io::{self, Write};
+use std::io::Write;
 
-/// The status, unless the last write failed.
-fn status_of_write(written: io::Result<()>, status: u8) -> u8
+/// Writes a text, and returns a status, or 6 where a write fails. A prefix of the text went out
+/// then.
+pub fn print_text<W: Write>(text: &str, status: u8, out: &mut W) -> u8
     ensures status { (result ≡ status) ⊎ (result ≡ 6) }
-    ensures failed { (result ≡ 6) ⊎ IsOk written }
+    ensures written { (result ≡ 6) ⊎ Appends (W.contents out.old) (W.contents out.new) text.now }
+    ensures begun { AppendsPrefix (W.contents out.old) (W.contents out.new) text.now }
 {
-    match written {
+    match write_whole(text, out) {
         Ok(()) => status,
         Err(_) => Status::Write as u8,
     }
 }
 
-/// Writes a text, and returns a status, or 6 where a write fails.
-pub fn print_text<W: Write>(text: &str, status: u8, out: &mut W) -> u8
-    ensures status { (result ≡ status) ⊎ (result ≡ 6) }
-    ensures written { (result ≡ 6) ⊎ Appends (W.contents out.old) (W.contents out.new) text.now }
-{
-    if out.write_all(text.as_bytes()).is_err() {
-        return Status::Write as u8;
-    }
-    status_of_write(out.flush(), status)
-}
-
-/// Writes texts one after another.
-fn write_texts<W: Write>(texts: &[&str], out: &mut W) -> io::Result<()>
-    ensures { OnOk result (Appends (W.contents out.old) (W.contents out.new)
-        (flat_map (λ text. text.now) texts.now)) }
-{
-    for text in texts {
-        out.write_all(text.as_bytes())?;
-    }
-    Ok(())
-}
-
-/// Writes texts one after another, and returns a status, or 6 where a write fails.
+/// Writes texts one after another, and returns a status, or 6 where a write fails. A prefix of the
+/// texts went out then.
 pub fn print_texts<W: Write>(texts: &[&str], status: u8, out: &mut W) -> u8
     ensures status { (result ≡ status) ⊎ (result ≡ 6) }
     ensures written { (result ≡ 6) ⊎ Appends (W.contents out.old) (W.contents out.new)
         (flat_map (λ text. text.now) texts.now) }
+    ensures begun { AppendsPrefix (W.contents out.old) (W.contents out.new)
+        (flat_map (λ text. text.now) texts.now) }
 {
-    if write_texts(texts, out).is_err() {
-        return Status::Write as u8;
+    match write_texts(texts, out) {
+        Ok(()) => status,
+        Err(_) => Status::Write as u8,
     }
-    status_of_write(out.flush(), status)
 }
 
 /// The message of a run that ends because memory ran out.

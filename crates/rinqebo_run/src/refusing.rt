@@ -3,6 +3,8 @@ ghost use Rattle.std.specs.Prelude.{◌≡◌, ◌⊎◌, MatchOption};
 ghost use Rattle.std.specs.Io.KnownBytes.{Appends};
 ghost use Rattle.rinqebo_report.specs.Rendered.{rendered};
 ghost use Rattle.rinqebo_report.specs.declared.format.Format.TheVariants as formats;
+ghost use Rattle.rinqebo_run.specs.Prefixes.{AppendsPrefix};
+ghost use Rattle.rinqebo_run.specs.Received.{BeginsFailure};
 ghost use Rattle.rinqebo_run.specs.Refused.{HasNoReport, IsReportOfFailure, ReportsFailure};
 ghost use Rattle.rinqebo_run.specs.Statuses.{failure_status};
 
@@ -114,6 +116,9 @@ fn refuse_page<O: Write, E: Write>(
         ⊎ (O.contents out.new ≡ O.contents out.old) }
     ensures page { (result ≡ 5) ⊎ (result ≡ 6) ⊎ Appends (O.contents out.old) (O.contents out.new)
         (rendered report.now request.now.format request.now.paper) }
+    ensures begun { (O.contents out.new ≡ O.contents out.old)
+        ⊎ AppendsPrefix (O.contents out.old) (O.contents out.new)
+        (rendered report.now request.now.format request.now.paper) }
 {
     match render(alloc, report, request.format, request.paper) {
         Ok(text) => print_text(text.as_str(), status, out),
@@ -136,6 +141,8 @@ fn refuse_json<O: Write, E: Write>(
         ⊎ ReportsFailure failure.now request.now result (O.contents out.old) (O.contents out.new) }
     ensures document { (result ≡ 3) ⊎ (result ≡ 4)
         → ReportsFailure failure.now request.now result (O.contents out.old) (O.contents out.new) }
+    ensures begun { (O.contents out.new ≡ O.contents out.old)
+        ⊎ BeginsFailure failure.now request.now (O.contents out.old) (O.contents out.new) }
 {
     match report_in(failure) {
         Some(report) => {
@@ -160,6 +167,8 @@ pub fn refuse_in<O: Write, E: Write>(
         ⊎ ReportsFailure failure.now request.now result (O.contents out.old) (O.contents out.new) }
     ensures document { request.now.format ≡ formats.Json → (result ≡ 3) ⊎ (result ≡ 4)
         → ReportsFailure failure.now request.now result (O.contents out.old) (O.contents out.new) }
+    ensures begun { (O.contents out.new ≡ O.contents out.old)
+        ⊎ BeginsFailure failure.now request.now (O.contents out.old) (O.contents out.new) }
 {
     match request.format {
         Format::Json => refuse_json(alloc, failure, request, out, err),

@@ -11,6 +11,8 @@ ghost use Rattle.rinqebo_run.specs.Answered.{AnswersQuestion, HasObjectsFor, IsA
 ghost use Rattle.rinqebo_run.specs.Begun.{IsBegun};
 ghost use Rattle.rinqebo_run.specs.Explained.{Explains};
 ghost use Rattle.rinqebo_run.specs.LookedUp.{AreLookedUp, IsLookedUp};
+ghost use Rattle.rinqebo_run.specs.Prefixes.{AppendsPrefix, ReceivesPrefix};
+ghost use Rattle.rinqebo_run.specs.Received.{IsWhole};
 ghost use Rattle.rinqebo_run.specs.Refused.{Fails, IsFailureAboutTest, IsFailureIn, IsReportedBy, ReportsRefusal};
 ghost use Rattle.rinqebo_run.specs.RunsReasons.{ReportsRunsReasons};
 ghost use Rattle.rinqebo_run.specs.ReportsReasons.{ReportsReasons};
@@ -226,6 +228,9 @@ fn print_answer<O: Write, E: Write>(
         ⊎ (O.contents out.new ≡ O.contents out.old) }
     ensures page { (result ≡ 5) ⊎ (result ≡ 6) ⊎ Appends (O.contents out.old) (O.contents out.new)
         (rendered answer.now.report request.now.format request.now.paper) }
+    ensures begun { (O.contents out.new ≡ O.contents out.old)
+        ⊎ AppendsPrefix (O.contents out.old) (O.contents out.new)
+        (rendered answer.now.report request.now.format request.now.paper) }
 {
     let report = &answer.report;
     let Ok(notes) = notes_on(alloc, request, gathered, answer) else {
@@ -259,6 +264,8 @@ fn answer_whole<O: Write, E: Write>(
         → IsAnswerStatus request.now.question result
         ⊎ ReportsRefusal request.now gathered.now result (O.contents out.old) (O.contents out.new) }
     ensures cause { IsReportedBy request.now gathered.now result }
+    ensures begun { ReceivesPrefix (IsWhole request.now gathered.now (O.contents out.old))
+        (O.contents out.old) (O.contents out.new) }
 {
     let mut progress = ProgressLine::new(&mut *err, request.shows_progress);
     let answer = answer_of(alloc, request, gathered, &mut progress);
@@ -323,6 +330,8 @@ fn answer_list<O: Write, E: Write>(
     ensures page { IsAnswerStatus request.now.question result
         → Reports request.now gathered.now result (O.contents out.old) (O.contents out.new) }
     ensures cause { IsReportedBy request.now gathered.now result }
+    ensures begun { ReceivesPrefix (IsWhole request.now gathered.now (O.contents out.old))
+        (O.contents out.old) (O.contents out.new) }
 {
     match write_list(alloc, request, list, gathered, out, err) {
         Ok(()) => Status::Success as u8,
@@ -341,6 +350,9 @@ fn answer_list<O: Write, E: Write>(
 /// The program writes the text of a list as it resolves the tests: where memory runs out meanwhile,
 /// the text has the first tests, each whole. Where a request says so, standard error shows how far
 /// the list is, on a line of its own that the program erases in the end.
+///
+/// After a write that failed, standard output has a prefix of what it gets in a run in which no
+/// write fails.
 pub fn perform<O: Write, E: Write>(
     alloc: Global,
     request: &Request<'_>,
@@ -359,6 +371,8 @@ pub fn perform<O: Write, E: Write>(
         → IsAnswerStatus request.now.question result
         ⊎ ReportsRefusal request.now gathered.now result (O.contents out.old) (O.contents out.new) }
     ensures cause { IsReportedBy request.now gathered.now result }
+    ensures begun { ReceivesPrefix (IsWhole request.now gathered.now (O.contents out.old))
+        (O.contents out.old) (O.contents out.new) }
 {
     match text_list(request) {
         Some(list) => answer_list(alloc, request, &list, gathered, out, err),
@@ -372,6 +386,9 @@ pub fn print_schema<O: Write, E: Write>(alloc: Global, out: &mut O, err: &mut E)
     ensures page { result ≡ 0 → Appends (O.contents out.old) (O.contents out.new)
         (compact_text (schema_data file_form) ++ 10 ∷ []) }
     ensures quiet { result ≡ 5 → O.contents out.new ≡ O.contents out.old }
+    ensures begun { (O.contents out.new ≡ O.contents out.old)
+        ⊎ AppendsPrefix (O.contents out.old) (O.contents out.new)
+        (compact_text (schema_data file_form) ++ 10 ∷ []) }
 {
     match schema_page(alloc) {
         Ok(text) => print_text(text.as_str(), Status::Success as u8, out),
@@ -385,6 +402,8 @@ pub fn print_document_schema<O: Write>(out: &mut O) -> u8
     ensures status { (result ≡ 0) ⊎ (result ≡ 6) }
     ensures page { (result ≡ 6)
         ⊎ Appends (O.contents out.old) (O.contents out.new)
+        (flat_map (λ part. part.now) DOCUMENT_SCHEMA) }
+    ensures begun { AppendsPrefix (O.contents out.old) (O.contents out.new)
         (flat_map (λ part. part.now) DOCUMENT_SCHEMA) }
 {
     print_texts(&DOCUMENT_SCHEMA, Status::Success as u8, out)

@@ -16,13 +16,13 @@ ghost use Rattle.rinqebo_run.specs.ShownConfig.{ReportsLeaf, TellLeaves, AreShow
 
 use crate::answer::Answer;
 use crate::asked::requested_of;
-use crate::idle::findings_on;
 use crate::in_force::with_default_in_force;
 use crate::list::profile_on;
+use crate::reporting::answer_with;
 use crate::status::Status;
 use nextest_config::{DefaultConfigWarnings, NextestRunMode};
 use nextest_documents::{LayerLeaf, entries_of};
-use rinqebo_findings::{config_with, report_of};
+use rinqebo_findings::config_with;
 use rinqebo_load::{Config, Failure, Session, chain_of_profile};
 use rinqebo_report::{Content, Entry};
 use rinqebo_request::{Layer, path_place};
@@ -151,11 +151,6 @@ pub fn show(
     let config = config_with(alloc, session, profile, &mut warnings)?;
     let content = shown(alloc, &*session, &config, profile, keys, with_hidden)?;
     let status = status_of(&content);
-    let findings = findings_on(alloc, session, &warnings, &content)?;
-    let report = report_of(alloc, session, findings, Vec::new(alloc), content)?;
-    Ok(Answer {
-        report,
-        status,
-        note: None,
-    })
+    let answer = answer_with(alloc, session, &warnings, status, None, content)?;
+    Ok(answer)
 }

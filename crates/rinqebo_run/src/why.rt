@@ -24,17 +24,14 @@ ghost use Rattle.rinqebo_rules.specs.Reported.{reported_of, value_view};
 use crate::answer::Answer;
 use crate::asked::requested_of;
 use crate::condition_texts::{condition, filter_text, host_text, no_condition, target_text};
-use crate::id_note::id_note;
-use crate::idle::findings_on;
 use crate::looked_up::config_looked_up;
 use crate::profile::{Early, early_profile};
-use crate::status::Status;
+use crate::reporting::answer_on_test;
 use filter_engine::NextestFilters;
 use nextest_config::{
     BuildPlatforms, DefaultConfigWarnings, Filters, NextestRunMode, Setting, TestQuery,
 };
 use platform_language::Platform;
-use rinqebo_findings::report_of;
 use rinqebo_load::{Config, Failure, FoundTest, Session, chain_of_profile};
 use rinqebo_report::{Content, Origin, Rule, TestId, Verdict};
 use rinqebo_request::{Layer, SettingKey};
@@ -244,10 +241,10 @@ fn reasons<'c>(
         rules)) }
 {
     let chain = chain_of_profile(alloc, config, profile)?;
-    let early = early_profile(alloc, session, config, profile)?;
     let asked = requested_of(alloc, session, profile, &chain, test.mode)?;
     let named = named_test(alloc, test)?;
     let key = SettingKey::of(setting, test.mode).text(alloc)?;
+    let early = early_profile(alloc, session, config, profile)?;
     let rules = rules_and_fallback(alloc, session, &early, &chain, test, setting)?;
     Ok(Content::Why {
         asked,
@@ -276,12 +273,6 @@ pub fn why(
     let mut warnings = DefaultConfigWarnings::new(alloc);
     let config = config_looked_up(alloc, session, profile, &mut warnings)?;
     let content = reasons(alloc, &*session, &config, profile, test, setting)?;
-    let findings = findings_on(alloc, session, &warnings, &content)?;
-    let note = id_note(alloc, session, &config, profile, test)?;
-    let report = report_of(alloc, session, findings, Vec::new(alloc), content)?;
-    Ok(Answer {
-        report,
-        status: Status::Success as u8,
-        note,
-    })
+    let answer = answer_on_test(alloc, session, &config, &warnings, profile, test, content)?;
+    Ok(answer)
 }

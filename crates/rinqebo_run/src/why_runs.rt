@@ -21,14 +21,11 @@ ghost use Rattle.rinqebo_run.specs.ReportsReasons.{IfWhy, IsTestNamed};
 use crate::answer::Answer;
 use crate::asked::requested_of;
 use crate::condition_texts::{condition, default_text, host_text, no_condition, target_text};
-use crate::id_note::id_note;
-use crate::idle::findings_on;
 use crate::looked_up::config_looked_up;
 use crate::profile::{Early, early_profile};
-use crate::status::Status;
+use crate::reporting::answer_on_test;
 use crate::why::{first_and_others, named_test, reported_verdict};
 use nextest_config::DefaultConfigWarnings;
-use rinqebo_findings::report_of;
 use rinqebo_load::{Config, Failure, FoundTest, Session, chain_of_profile};
 use rinqebo_report::{ConditionAnswer, Content, Rule, Scalar, Value, Verdict};
 use rinqebo_request::{Layer, RUNS};
@@ -199,10 +196,10 @@ fn runs_reasons<'c>(
         rules)) }
 {
     let chain = chain_of_profile(alloc, config, profile)?;
-    let early = early_profile(alloc, session, config, profile)?;
     let asked = requested_of(alloc, session, profile, &chain, test.mode)?;
     let named = named_test(alloc, test)?;
     let key = String::from_str(alloc, RUNS)?;
+    let early = early_profile(alloc, session, config, profile)?;
     let rules = runs_rules(alloc, session, &early, &chain, test)?;
     Ok(Content::Why {
         asked,
@@ -230,12 +227,6 @@ pub fn why_runs(
     let mut warnings = DefaultConfigWarnings::new(alloc);
     let config = config_looked_up(alloc, session, profile, &mut warnings)?;
     let content = runs_reasons(alloc, &*session, &config, profile, test)?;
-    let findings = findings_on(alloc, session, &warnings, &content)?;
-    let note = id_note(alloc, session, &config, profile, test)?;
-    let report = report_of(alloc, session, findings, Vec::new(alloc), content)?;
-    Ok(Answer {
-        report,
-        status: Status::Success as u8,
-        note,
-    })
+    let answer = answer_on_test(alloc, session, &config, &warnings, profile, test, content)?;
+    Ok(answer)
 }

@@ -22,3 +22,11 @@ returns-clause-objects g c =
 pub returns-in_err-findings-clause-err : goal.returns-in_err-findings-clause-err
 returns-in_err-findings-clause-err g c =
     want_evaluated c.args.session.now c.args.profile.now _ c.from_residual-in_err-findings.ensures.1
+
+pub returns-in_err-content-clause-err : goal.returns-in_err-content-clause-err
+returns-in_err-content-clause-err g c =
+    want_evaluated c.args.session.now c.args.profile.now _ c.from_residual-in_err-content.ensures.1
+
+pub returns-in_err-report-clause-err : goal.returns-in_err-report-clause-err
+returns-in_err-report-clause-err g c =
+    want_evaluated c.args.session.now c.args.profile.now _ c.from_residual-in_err-report.ensures.1

@@ -1,4 +1,5 @@
 use Rattle.rinqebo_run.proofs.Documents.{document_quiet, document_reported, no_document}
+use Rattle.rinqebo_run.proofs.Received.{document_begun}
 use Rattle.rinqebo_run.proofs.refusing.refuse_json.Goals as goal
 
 pub returns-in-Some-clause-quiet : goal.returns-in-Some-clause-quiet
@@ -12,6 +13,11 @@ returns-in-Some-clause-document g c told =
     document_reported c.args.failure.now c.args.request.now c.in-Some.report.now _ _ _ _ c.requires.json
     c.in-Some.ensures c.status_of_failure-status.ensures c.refuse_page.ensures.status
     c.refuse_page.ensures.page told
+
+pub returns-in-Some-clause-begun : goal.returns-in-Some-clause-begun
+returns-in-Some-clause-begun g c =
+    document_begun c.args.failure.now c.args.request.now c.in-Some.report.now _ _ c.requires.json c.in-Some.ensures
+    c.refuse_page.ensures.begun
 
 pub returns-in-None-clause-document : goal.returns-in-None-clause-document
 returns-in-None-clause-document g c told =

@@ -1,3 +1,4 @@
+use Rattle.rinqebo_run.proofs.Received.{list_received, stop_begun}
 use Rattle.rinqebo_run.proofs.Writing.{stop_quiet, stop_silent, stop_status, stop_reported}
 use Rattle.rinqebo_run.proofs.run.answer_list.Goals as goal
 
@@ -16,3 +17,10 @@ returns-in-Err-clause-page g c answered =
 pub returns-in-Err-clause-cause : goal.returns-in-Err-clause-cause
 returns-in-Err-clause-cause g c =
     stop_reported c.args.request.now c.args.gathered.now _ _ c.in-Err.fault _ c.in-Err.ensures.err c.refuse_list.ensures
+
+pub returns-in-Ok-clause-begun : goal.returns-in-Ok-clause-begun
+returns-in-Ok-clause-begun g c = list_received c.args.request.now c.args.gathered.now _ _ c.in-Ok.ensures.ok
+
+pub returns-in-Err-clause-begun : goal.returns-in-Err-clause-begun
+returns-in-Err-clause-begun g c =
+    stop_begun c.args.request.now c.args.gathered.now _ _ c.in-Err.fault c.in-Err.ensures.err

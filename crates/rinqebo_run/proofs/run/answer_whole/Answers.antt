@@ -1,4 +1,5 @@
 use Rattle.rinqebo_run.proofs.Documents.{answer_ends, one_of_four, refusal_quiet, refusal_told}
+use Rattle.rinqebo_run.proofs.Received.{answer_begun, failure_begun}
 use Rattle.rinqebo_run.proofs.Refused.{answer_reported, failure_reported}
 use Rattle.rinqebo_run.proofs.Statuses.{answer_status, answered_status, reported_same, reported_page, tells, failed_silent, failed_status}
 use Rattle.rinqebo_run.proofs.run.answer_whole.Goals as goal
@@ -30,6 +31,11 @@ returns-in-Ok-clause-cause g c =
     answer_reported c.args.request.now c.args.gathered.now c.in-Ok.answer.report _ _ c.in-Ok.ensures.ok
     c.print_answer.ensures.status
 
+pub returns-in-Ok-clause-begun : goal.returns-in-Ok-clause-begun
+returns-in-Ok-clause-begun g c =
+    answer_begun c.args.request.now c.args.gathered.now _ _ c.in-Ok.answer.report _ c.in-Ok.ensures.ok
+    c.print_answer.ensures.begun
+
 pub returns-in-Err-clause-status : goal.returns-in-Err-clause-status
 returns-in-Err-clause-status g c = failed_status c.args.request.now.question c.in-Err.failure _ c.refuse_in.ensures.status
 
@@ -52,3 +58,8 @@ pub returns-in-Err-clause-cause : goal.returns-in-Err-clause-cause
 returns-in-Err-clause-cause g c =
     failure_reported c.args.request.now c.args.gathered.now c.in-Err.failure _ c.in-Err.ensures.err
     c.refuse_in.ensures.status
+
+pub returns-in-Err-clause-begun : goal.returns-in-Err-clause-begun
+returns-in-Err-clause-begun g c =
+    failure_begun c.args.request.now c.args.gathered.now _ _ c.in-Err.failure c.in-Err.ensures.err
+    c.refuse_in.ensures.begun

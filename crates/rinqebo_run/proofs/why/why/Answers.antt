@@ -5,18 +5,14 @@ use Rattle.rinqebo_run.proofs.why.why.Goals as goal
 pub returns-clause-ok : goal.returns-clause-ok
 returns-clause-ok c =
     let config = c.in_ok-config.ensures in
-    tells c.args.session.now c.args.profile.now c.args.test.now c.args.setting c.in_ok-report.report
-    c.in_ok-content.content c.in_ok-config.config config.accepted config.means config.known c.in_ok-report.ensures.content
+    tells c.args.session.now c.args.profile.now c.args.test.now c.args.setting c.in_ok-answer.answer.report
+    c.in_ok-content.content c.in_ok-config.config config.accepted config.means config.known c.in_ok-answer.ensures.content
     c.in_ok-content.ensures.told c.in_ok-content.ensures.requested
 
-pub returns-in_err-note-clause-err : goal.returns-in_err-note-clause-err
-returns-in_err-note-clause-err c =
-    want_evaluated c.args.session.now c.args.profile.now _ c.from_residual-in_err-note.ensures.1
+pub returns-in_err-content-clause-err : goal.returns-in_err-content-clause-err
+returns-in_err-content-clause-err c =
+    want_evaluated c.args.session.now c.args.profile.now _ c.from_residual-in_err-content.ensures.1
 
-pub returns-in_err-findings-clause-err : goal.returns-in_err-findings-clause-err
-returns-in_err-findings-clause-err c =
-    want_evaluated c.args.session.now c.args.profile.now _ c.from_residual-in_err-findings.ensures.1
-
-pub returns-in_err-report-clause-err : goal.returns-in_err-report-clause-err
-returns-in_err-report-clause-err c =
-    want_evaluated c.args.session.now c.args.profile.now _ c.from_residual-in_err-report.ensures.1
+pub returns-in_err-answer-clause-err : goal.returns-in_err-answer-clause-err
+returns-in_err-answer-clause-err c =
+    want_evaluated c.args.session.now c.args.profile.now _ c.from_residual-in_err-answer.ensures.1

@@ -11,7 +11,7 @@ use Rattle.rinqebo_rules.specs.Unused.{AreUnusedIn}
 use Rattle.rinqebo_run.specs.Begun.{AreFirstWritten, AreWritten}
 use Rattle.rinqebo_run.specs.Written.{StopsList}
 use Rattle.rinqebo_run.proofs.Listing.{basis_here}
-use Rattle.rinqebo_run.proofs.Writing.{passed_stop}
+use Rattle.rinqebo_run.proofs.Stops.{passed_stop}
 use Rattle.filter_inputs.specs.Lists.ListView.{list_test_view, list_view}
 use Rattle.filter_inputs.specs.Lists.Lists.{ListTest, list_tests}
 use Rattle.rinqebo_run.proofs.list_page.ListPage.write_rows.Goals as goal
@@ -53,7 +53,7 @@ returns-in_err-unused-clause-err g c =
     let fault = c.in_err-unused.field-0.0 in
     let Stops : Basis → List ListTest → Type 0 = λ basis tests. StopsList (λ _. ⊥)
     (AreFirstWritten basis filter_holds self.list.mode (profile_meaning (marks_view names_of) c.args.on.now)
-    self.list.settings.now tests self.head.now self.paper old new) old new fault in
+    self.list.settings.now tests self.head.now self.paper old) (λ _. ⊥) old new fault in
     passed_stop _ c.from_residual-in_err-unused.result fault c.from_residual-in_err-unused.ensures.1
     (subst (λ basis. Stops basis (list_tests (list_view self.session.now.tests)))
     (basis_here self.session.now c.new-origins.result _ (borrowed_view c.args.chain.now) c.new-origins.ensures

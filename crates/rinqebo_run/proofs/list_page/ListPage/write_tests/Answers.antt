@@ -1,4 +1,4 @@
-use Rattle.std.proofs.Common.{◌≡◌, ◌∙◌, ◌++◌, ◌∷◌, [], ap, inl, map, refl, subst}
+use Rattle.std.proofs.Common.{◌≡◌, ◌∙◌, ◌+◌, ◌++◌, ◌∷◌, [], ap, inl, map, refl, subst}
 use Rattle.std.proofs.KnownBytes.{Appends-nil}
 use Rattle.std.proofs.lemmas.List.{take_all}
 use Rattle.std.specs.List.{AllZip}
@@ -10,15 +10,18 @@ use Rattle.nextest_settings.specs.Profiles.Meaning.{profile_meaning}
 use Rattle.nextest_settings.specs.Queries.{query_in}
 use Rattle.rinqebo_rules.specs.Rows.{IsTestReported}
 use Rattle.rinqebo_rules.specs.Unused.{AreUnusedIn, AreUsedIn}
-use Rattle.rinqebo_rules.proofs.Listing.{zip_mapped}
+use Rattle.rinqebo_rules.proofs.ListedTests.{zip_mapped}
 use Rattle.rinqebo_rules.proofs.Marked.{map_more, twice}
 use Rattle.rinqebo_rules.proofs.RowsMore.{zip_more_by}
 use Rattle.rinqebo_run.specs.declared.list_fault.ListFault.TheVariants as faults
-use Rattle.rinqebo_run.proofs.Writing.{first_so_far, one_more, passed_stop}
+use Rattle.rinqebo_run.specs.Begun.{tests_text, AreFirstWritten}
+use Rattle.rinqebo_run.proofs.Stops.{passed_stop, stops_text}
+use Rattle.rinqebo_run.proofs.Writing.{first_so_far, one_more}
 use Rattle.rinqebo_run.proofs.list_page.ListPage.write_tests.Goals as goal
 
 pub loop-place-init : goal.loop-place-init
 loop-place-init g c = record {
+  lister = c.in_turn-listing.ensures;
   same = refl;
   rows = [];
   told = tt;
@@ -32,8 +35,9 @@ loop-place-preserved g c =
     let profile = profile_meaning (marks_view names_of) asking.profile.now in
     let listed = c.args.listed.now in
     let before = c.loop-place.invariant in
-    let shows = c.in_ok-text.ensures.shown in
+    let shows = rw before.lister at c.in_ok-text.ensures.shown in
     record {
+      lister = c.test_text.ensures.lister ∙ before.lister;
       same = c.test_text.ensures.same ∙ before.same;
       rows = before.rows ++ shows.rows ∷ [];
       told = zip_more_by (λ basis test. IsTestReported basis (query_in filter_holds profile (list_test_view test).test)
@@ -46,7 +50,7 @@ loop-place-preserved g c =
       marked = subst (λ tests. AreUsedIn tests asking.mode profile c.test_text.new.used)
           (map_more (λ test. query_in filter_holds profile (list_test_view test).test) listed c.loop-place.place _ _
           c.loop-place-test.true refl)
-          (c.in_ok-text.ensures.used _ before.marked);
+          ((rw before.lister at c.in_ok-text.ensures.used) _ before.marked);
     }
 
 pub returns-clause-tests : goal.returns-clause-tests
@@ -74,6 +78,33 @@ returns-in_err-text-clause-err g c =
     passed_stop _ c.from_residual-in_err-text.result faults.Memory c.from_residual-in_err-text.ensures.1
     (inl (first_so_far c.args.origins.now asking.mode (profile_meaning (marks_view names_of) asking.profile.now) asking.asked.now
     self.head.now self.paper c.args.listed.now c.loop-place.place before.rows _ _ before.told before.page))
+
+pub returns-in_err-write_text-clause-err : goal.returns-in_err-write_text-clause-err
+returns-in_err-write_text-clause-err g c =
+    let asking = c.args.asking.now in
+    let profile = profile_meaning (marks_view names_of) asking.profile.now in
+    let self = c.args.self.now in
+    let listed = c.args.listed.now in
+    let before = c.loop-place.invariant in
+    let shows = rw before.lister at c.in_ok-text.ensures.shown in
+    let old = g.O.Write.contents c.args.out.now in
+    let mid = g.O.Write.contents c.loop-place.out in
+    let new = g.O.Write.contents c.write_text.new.out in
+    let more = before.rows ++ shows.rows ∷ [] in
+    passed_stop _ c.from_residual-in_err-write_text.result c.in_err-write_text.field-0.0
+    c.from_residual-in_err-write_text.ensures.1
+    (stops_text (λ _. ⊥)
+    (AreFirstWritten c.args.origins.now filter_holds asking.mode profile asking.asked.now (map list_test_view listed)
+    self.head.now self.paper old)
+    (λ _. ⊥) old mid new c.as_str.result.now c.in_err-write_text.field-0.0 c.in_err-write_text.ensures.err
+    (tests_text self.head.now self.paper before.rows, before.page) c.write_text.ensures.begun
+    (λ whole written. inl (first_so_far c.args.origins.now asking.mode profile asking.asked.now self.head.now self.paper
+    listed (c.loop-place.place + 1) more old whole
+    (zip_more_by (λ basis test. IsTestReported basis (query_in filter_holds profile (list_test_view test).test)
+    asking.mode profile asking.asked.now (list_test_view test)) c.args.origins.now c.loop-place.origins before.same listed
+    c.loop-place.place _ _ c.loop-place-test.true refl before.rows more shows.rows before.told shows.are_reported refl)
+    (one_more self.head.now self.paper before.rows more shows.rows c.as_str.result.now old mid whole refl
+    (c.as_str.ensures.value ∙ shows.shown) before.page written))))
 
 pub returns-in_err-unused-clause-err : goal.returns-in_err-unused-clause-err
 returns-in_err-unused-clause-err g c =

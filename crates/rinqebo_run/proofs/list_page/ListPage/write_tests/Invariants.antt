@@ -19,6 +19,7 @@ invariant-loop-place g l =
     let profile = profile_meaning (marks_view names_of) l.asking.profile.now in
     let listed = take l.place l.listed in
     record {
+      lister : l.listing.lister ≡ l.asking;
       same : l.origins ≡ l.initial.origins;
       rows : List TestRows;
       told : AllZip (λ test. IsTestReported l.initial.origins

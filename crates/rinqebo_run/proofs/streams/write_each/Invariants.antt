@@ -1,6 +1,6 @@
 use Rattle.std.proofs.Common.{flat_map, take}
 use Rattle.std.specs.Io.KnownBytes.{Appends}
-use Rattle.rinqebo_run.proofs.printing.write_texts.Given as goal
+use Rattle.rinqebo_run.proofs.streams.write_each.Given as goal
 
 -- what was written so far
 abbrev pub invariant-loop-text : goal.invariant-loop-text
