@@ -2,7 +2,8 @@
 //
 //   example                          checks each call, and exits with the number of the first that fails
 //   example REQUEST                  prints the output of a whole run, and exits with its status
-//   example REQUEST PROFILE BINARY TEST..   prints the settings of tests of a binary
+//   example REQUEST PROFILE PACKAGE BINARY TEST..   prints the settings of tests of a library, by the ids of its package
+//                                                   and its binary, and exits with the first status that is not 0
 #include "rinqebo.h"
 #include <inttypes.h>
 #include <stdio.h>
@@ -154,7 +155,7 @@ static int check_objects(const struct rinqebo_profile *profile) {
     if (!argument_is(profile, test_of("", ""), 0, RINQEBO_NOT_KNOWN, "")) return 38;
     test.size -= 1;
     if (!argument_is(profile, test, 0, RINQEBO_BAD_SIZE, "")) return 38;
-    static const char *groups = "\"groups\":[{\"max-threads\":2,\"name\":\"db\"}],\"run\":{";
+    static const char *groups = "\"groups\":[{\"max-threads\":2,\"name\":\"db\"}],\"origins\":null,\"run\":{";
     uint8_t out[4096];
     size_t needed = 0, length = strlen(groups);
     if (rinqebo_profile_text(profile, RINQEBO_OBJECTS, 0, out, sizeof out, &needed) != RINQEBO_DONE) return 39;
@@ -383,9 +384,12 @@ static char *text_of(const char *path) {
     return text;
 }
 
-static void print_settings(const struct rinqebo_profile *profile, const char *binary, const char *name) {
+static uint32_t print_settings(const struct rinqebo_profile *profile, const char *package, const char *binary, const char *name) {
     struct rinqebo_settings settings;
-    if (ask(profile, test_of(binary, name), &settings) != RINQEBO_DONE) return;
+    struct rinqebo_test test = test_of(binary, name);
+    test.package = bytes_of(package);
+    uint32_t status = ask(profile, test, &settings);
+    if (status != RINQEBO_DONE) return status;
     uint8_t group[256] = "@global";
     size_t length = 7;
     if (settings.test_group != RINQEBO_NO_NAME) {
@@ -393,6 +397,7 @@ static void print_settings(const struct rinqebo_profile *profile, const char *bi
     }
     printf("%s %s: priority %" PRId32 ", retries %" PRIu32 ", group %.*s\n", binary, name, settings.priority,
            settings.retries.count, (int)length, (const char *)group);
+    return RINQEBO_DONE;
 }
 
 // Prints the output of a run, and returns its status, or 99 if there is no memory for it.
@@ -414,7 +419,7 @@ int main(int count, char **words) {
     }
     char *request = text_of(words[1]);
     if (request == NULL) return 1;
-    if (count < 5) {
+    if (count < 6) {
         int status = print_run(request);
         free(request);
         return status;
@@ -424,8 +429,9 @@ int main(int count, char **words) {
     if (session == NULL || rinqebo_session_status(session) != RINQEBO_DONE) return 2;
     struct rinqebo_profile *profile = open_profile(session, words[2]);
     if (profile == NULL || rinqebo_profile_status(profile) != RINQEBO_DONE) return 3;
-    for (int i = 4; i < count; i++) print_settings(profile, words[3], words[i]);
+    uint32_t status = RINQEBO_DONE;
+    for (int i = 5; i < count && status == RINQEBO_DONE; i++) status = print_settings(profile, words[3], words[4], words[i]);
     end_profile(profile);
     end(session);
-    return 0;
+    return (int)status;
 }
