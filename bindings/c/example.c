@@ -2,8 +2,9 @@
 //
 //   example                          checks each call, and exits with the number of the first that fails
 //   example REQUEST                  prints the output of a whole run, and exits with its status
-//   example REQUEST PROFILE PACKAGE BINARY TEST..   prints the settings of tests of a library, by the ids of its package
-//                                                   and its binary, and exits with the first status that is not 0
+//   example REQUEST PROFILE PACKAGE BINARY TEST..
+//                                    prints the settings of tests of a library, by the ids of its package and its
+//                                    binary, and exits with the first status that is not 0
 #include "rinqebo.h"
 #include <inttypes.h>
 #include <stdio.h>
@@ -384,7 +385,8 @@ static char *text_of(const char *path) {
     return text;
 }
 
-static uint32_t print_settings(const struct rinqebo_profile *profile, const char *package, const char *binary, const char *name) {
+static uint32_t print_settings(const struct rinqebo_profile *profile, const char *package, const char *binary,
+                               const char *name) {
     struct rinqebo_settings settings;
     struct rinqebo_test test = test_of(binary, name);
     test.package = bytes_of(package);
@@ -430,7 +432,9 @@ int main(int count, char **words) {
     struct rinqebo_profile *profile = open_profile(session, words[2]);
     if (profile == NULL || rinqebo_profile_status(profile) != RINQEBO_DONE) return 3;
     uint32_t status = RINQEBO_DONE;
-    for (int i = 5; i < count && status == RINQEBO_DONE; i++) status = print_settings(profile, words[3], words[4], words[i]);
+    for (int i = 5; i < count && status == RINQEBO_DONE; i++) {
+        status = print_settings(profile, words[3], words[4], words[i]);
+    }
     end_profile(profile);
     end(session);
     return (int)status;
