@@ -181,7 +181,6 @@ pub struct Unreached {
 }
 
 /// What a command reports beside its findings.
-#[derive(Drop)]
 pub enum Content {
     /// The settings of a test.
     Explain {
@@ -220,8 +219,38 @@ pub enum Content {
     Check,
 }
 
+// Written out, so that the proof of a caller sees one call and not the drop of each part.
+impl Drop for Content {
+    fn drop(self) {
+        match self {
+            Content::Explain {
+                asked: _asked,
+                test: _test,
+            } => {}
+            Content::Why {
+                asked: _asked,
+                test: _test,
+                key: _key,
+                rules: _rules,
+                is_ignored: _is_ignored,
+            } => {}
+            Content::List {
+                asked: _asked,
+                tests: _tests,
+                unused: _unused,
+                scripts: _scripts,
+                objects: _objects,
+            } => {}
+            Content::ShowConfig {
+                asked: _asked,
+                entries: _entries,
+            } => {}
+            Content::Check => {}
+        }
+    }
+}
+
 /// A report: what a command prints.
-#[derive(Drop)]
 pub struct Report {
     /// The root of the workspace.
     pub root: String,
@@ -233,4 +262,17 @@ pub struct Report {
     pub unreached: Vec<Unreached>,
     /// What the command reports beside the findings.
     pub content: Content,
+}
+
+// Written out, so that the proof of a caller sees one call and not the drop of each part.
+impl Drop for Report {
+    fn drop(self) {
+        let Report {
+            root: _root,
+            sources: _sources,
+            findings: _findings,
+            unreached: _unreached,
+            content: _content,
+        } = self;
+    }
 }
