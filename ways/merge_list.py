@@ -725,4 +725,11 @@ a profile as JSON (`objects`).''',
 
     dict(a="nextest_sources", b="nextest_inheritance", folder="inheritance", optional=True,
          message="Inheritance of profiles is a module of nextest_sources"),
+
+    dict(a="nextest_explain", b="toy_engines", folder="engines", optional=True,
+         message="The two small engines are a module of nextest_explain",
+         doc='''Explains what a nextest configuration gives a test, for words, a reader of files and two
+writers. Filters and platforms are those of two small engines (`engines`).''',
+         rows={A: "| `nextest_explain` | what `config_explain` does, over any files and writers; in `engines` two small engines, of filters and of platforms | `nextest_config` |"},
+         ),
 ]
