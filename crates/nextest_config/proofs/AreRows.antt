@@ -7,7 +7,7 @@ use Rattle.nextest_engines.specs.Engines.{Test}
 use Rattle.nextest_settings.specs.Profile.{EvaluatableModel}
 use Rattle.nextest_settings.specs.Queries.{query_in, Origin, setting_value, setting_origin}
 use Rattle.nextest_settings.specs.Settings.{ValueOf}
-use Rattle.nextest_settings.specs.declared.setting.Setting.{Setting}
+use Rattle.nextest_elements.specs.declared.setting.Setting.{Setting}
 use Rattle.nextest_config.specs.Headline.{IsTestRow, numbers_for}
 use Rattle.nextest_config.specs.RowView.{row_value, row_source, row_view}
 use Rattle.nextest_config.specs.declared.run.row.TestRow.{TestRow}

@@ -10,7 +10,7 @@ use Rattle.nextest_rules.proofs.AtName.{at_filtered}
 use Rattle.nextest_settings.specs.Profile.{EvaluatableModel}
 use Rattle.nextest_settings.specs.Queries.{test_query, binary_query, written_value, written_origin, fallback_origin, list_wrapper_by, is_enabled_for}
 use Rattle.nextest_settings.specs.Settings.{fallback_of}
-use Rattle.nextest_settings.specs.declared.setting.Setting.{Setting}
+use Rattle.nextest_elements.specs.declared.setting.Setting.{Setting}
 use Rattle.nextest_tables.specs.Written.{Name}
 use Rattle.nextest_config.specs.Laws.{GiveTestTheSame, GiveTheSame, enabled_for}
 

@@ -12,7 +12,7 @@ use Rattle.nextest_settings.specs.Platforms.{EvaluatedRule, filter_of_override}
 use Rattle.nextest_settings.specs.Profile.{EarlyModel, EvaluatableModel, profile_on}
 use Rattle.nextest_settings.specs.Queries.{query_in, test_query, value_by, origin_by, fallback_origin}
 use Rattle.nextest_settings.specs.Settings.{is_set, fallback_of}
-use Rattle.nextest_settings.specs.declared.setting.Setting.{Setting}
+use Rattle.nextest_elements.specs.declared.setting.Setting.{Setting}
 use Rattle.nextest_settings.proofs.Deciding.{winner_before, value_same, origin_same, value_taken, origin_taken}
 use Rattle.nextest_settings.proofs.FirstOf.{first_without}
 use Rattle.nextest_config.specs.Laws.{held_on, with_overrides, IsChosenFilter, DecidesTheRest}

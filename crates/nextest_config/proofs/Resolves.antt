@@ -9,7 +9,8 @@ use Rattle.nextest_load.specs.Exact.{IsExact}
 use Rattle.nextest_load.specs.Scripts.{AreScriptsOf}
 use Rattle.nextest_settings.specs.Profile.{Configured, profile_of, profile_on}
 use Rattle.nextest_settings.specs.Queries.{query_in}
-use Rattle.nextest_settings.specs.Settings.{settings, is_set}
+use Rattle.nextest_elements.specs.Settings.{settings}
+use Rattle.nextest_settings.specs.Settings.{is_set}
 use Rattle.nextest_settings.proofs.IsEvaluatedForTest.{test_exactly, test_count}
 use Rattle.nextest_settings.proofs.Rising.{all_rise}
 use Rattle.nextest_sources.specs.Causes.{LoadFault}

@@ -23,7 +23,7 @@ use Rattle.nextest_sources.specs.Steps.{LoadStep, first_fault, warnings_before}
 use Rattle.nextest_sources.specs.Warnings.{Warning}
 use Rattle.nextest_tables.specs.FileTexts.{names_in, IsIn}
 use Rattle.nextest_tables.specs.Written.{Name}
-use Rattle.nextest_settings.specs.declared.setting.Setting.{Setting}
+use Rattle.nextest_elements.specs.declared.setting.Setting.{Setting}
 use Rattle.nextest_settings.specs.Deciding.{Rising, HasFilterAt}
 use Rattle.nextest_settings.specs.Profile.{Configured, EvaluatableModel, profile_of, profile_on}
 use Rattle.nextest_settings.specs.Queries.{query_in, filters_of, setting_value, Origin, setting_origin, evaluated_for_test, IsEvaluatedForTest}

@@ -25,8 +25,8 @@ use Rattle.nextest_settings.specs.Platforms.{EvaluatedRule, rule_on, filter_of_o
 use Rattle.nextest_settings.specs.Profile.{Configured, EarlyModel, EvaluatableModel, profile_of, profile_on}
 use Rattle.nextest_settings.specs.Queries.{query_in, binary_query, deciding_override, setting_value, by_override, setting_origin, list_wrapper_of, enabled_scripts, group_of}
 use Rattle.nextest_settings.specs.Settings.{sets, is_set}
-use Rattle.nextest_settings.specs.declared.setting.Setting.{Setting}
-use Rattle.nextest_settings.specs.declared.setting.Setting.TheVariants as at
+use Rattle.nextest_elements.specs.declared.setting.Setting.{Setting}
+use Rattle.nextest_elements.specs.declared.setting.Setting.TheVariants as at
 use Rattle.nextest_sources.specs.InputFaults.{Each}
 use Rattle.nextest_sources.specs.Inputs.{LoadInputs, SourceText, sources_in}
 use Rattle.nextest_tables.specs.FileTexts.{names_in, IsIn}

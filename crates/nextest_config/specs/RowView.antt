@@ -4,8 +4,8 @@ use Rattle.nextest_scripts.specs.ScriptId.{script_text}
 use Rattle.nextest_settings.specs.Queries.{Origin, unwritten, by_profile, by_override, by_script}
 use Rattle.nextest_settings.specs.Settings.{ValueOf}
 use Rattle.nextest_settings.specs.SettingsView.{slot_at}
-use Rattle.nextest_settings.specs.declared.setting.Setting.{Setting}
-use Rattle.nextest_settings.specs.declared.setting.Setting.TheVariants as at
+use Rattle.nextest_elements.specs.declared.setting.Setting.{Setting}
+use Rattle.nextest_elements.specs.declared.setting.Setting.TheVariants as at
 use Rattle.nextest_sources.specs.Sources.{source_view}
 use Rattle.nextest_config.specs.Headline.{Row}
 use Rattle.nextest_config.specs.declared.run.row.PlainSource.{PlainSource}

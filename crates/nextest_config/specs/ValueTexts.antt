@@ -16,7 +16,7 @@ use Rattle.nextest_elements.specs.declared.slow_timeout.SlowTimeout.{SlowTimeout
 use Rattle.nextest_settings.specs.Settings.{ValueOf}
 use Rattle.nextest_settings.specs.SettingValues as kinds
 use Rattle.nextest_settings.specs.SettingValues.{ValueByKind, by_kind}
-use Rattle.nextest_settings.specs.declared.setting.Setting.{Setting}
+use Rattle.nextest_elements.specs.declared.setting.Setting.{Setting}
 use Rattle.nextest_tables.specs.Written.{Arguments}
 
 -- A duration is spelled in whole nanoseconds, with their unit.

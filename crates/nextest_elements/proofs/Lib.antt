@@ -4,3 +4,4 @@ pub mod Durations
 pub mod IdentifierParts
 pub mod Identifiers
 pub mod Owners
+pub mod StandsOnce

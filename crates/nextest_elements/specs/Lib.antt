@@ -23,6 +23,7 @@ pub mod Identifier
 pub mod IdentifierText
 pub mod NameText
 pub mod IdentifierReader
+pub mod Settings
 pub mod Owner
 pub mod OwnerView
 pub mod OwnerEquality

@@ -20,6 +20,7 @@ mod nanoseconds;
 mod positive;
 mod retry_policy;
 mod run_mode;
+mod setting;
 mod slow_timeout;
 mod status_level;
 mod test_group;
@@ -45,6 +46,7 @@ pub use nextest_tree::{
 pub use positive::Positive;
 pub use retry_policy::RetryPolicy;
 pub use run_mode::NextestRunMode;
+pub use setting::{SETTING_COUNT, Setting};
 pub use slow_timeout::{SlowTimeout, SlowTimeoutResult, USUAL_GRACE_PERIOD};
 pub use status_level::{FinalStatusLevel, StatusLevel};
 pub use test_group::{CustomTestGroup, TestGroup, TestGroupConfig};

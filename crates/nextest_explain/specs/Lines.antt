@@ -6,8 +6,8 @@ use Rattle.nextest_config.specs.Headline.{Row}
 use Rattle.nextest_config.specs.ValueTexts.{value_text}
 use Rattle.nextest_rules.specs.Rules.{RuleId}
 use Rattle.nextest_settings.specs.Queries.{Origin, unwritten, by_profile, by_override, by_script}
-use Rattle.nextest_settings.specs.Settings.{settings, setting_name}
-use Rattle.nextest_settings.specs.declared.setting.Setting.{Setting}
+use Rattle.nextest_elements.specs.Settings.{settings, setting_name}
+use Rattle.nextest_elements.specs.declared.setting.Setting.{Setting}
 use Rattle.nextest_sources.specs.Sources.{Source, owner_of_source}
 use Rattle.nextest_elements.specs.Owner.{Owner, nobody, a_tool, the_organisation}
 use Rattle.nextest_explain.specs.declared.options.Places.{Places}

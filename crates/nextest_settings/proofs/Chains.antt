@@ -22,8 +22,8 @@ use Rattle.nextest_tree.specs.Node.{Node, table, no_entries}
 use Rattle.nextest_tree.specs.Schema.{first}
 use Rattle.nextest_settings.specs.Chains.{at_profile, chosen_at, in_layer, in_order, overrides_of, script_rules_of, fields_of, filter_of_profile, nearest_filter}
 use Rattle.nextest_settings.specs.Settings.{fallback_of}
-use Rattle.nextest_settings.specs.declared.setting.Setting.{Setting}
-use Rattle.nextest_settings.specs.declared.setting.Setting.TheVariants as at
+use Rattle.nextest_elements.specs.declared.setting.Setting.{Setting}
+use Rattle.nextest_elements.specs.declared.setting.Setting.TheVariants as at
 
 -- layers have the same at these names
 abbrev pub SameAt : {M K : Type 0} → List Name → Layer M K → Layer M K → Type 0

@@ -8,8 +8,8 @@ use Rattle.nextest_settings.specs.Deciding.{QueryContext, decides, rule_holds, w
 use Rattle.nextest_settings.specs.Platforms.{EvaluatedRule}
 use Rattle.nextest_settings.specs.Queries.{written_value, written_origin, value_by, origin_by, by_override, fallback_origin, deciding_override}
 use Rattle.nextest_settings.specs.Settings.{sets, is_set, fallback_of}
-use Rattle.nextest_settings.specs.declared.setting.Setting.{Setting}
-use Rattle.nextest_settings.specs.declared.setting.Setting.TheVariants as at
+use Rattle.nextest_elements.specs.declared.setting.Setting.{Setting}
+use Rattle.nextest_elements.specs.declared.setting.Setting.TheVariants as at
 use Rattle.nextest_settings.proofs.Winner.{more-holds, more-fails, stays}
 
 -- what fails a test is not found

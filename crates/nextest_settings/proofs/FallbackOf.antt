@@ -7,8 +7,8 @@ use Rattle.nextest_tables.specs.Written.{WrittenFields}
 use Rattle.nextest_settings.specs.ChainValues.{AreValues, stored_by, slow_timeout_of}
 use Rattle.nextest_settings.specs.Settings.{fallback_of, if_reported, slow_timeout_in}
 use Rattle.nextest_settings.specs.SettingsView.{fallback_view}
-use Rattle.nextest_settings.specs.declared.setting.Setting.{Setting}
-use Rattle.nextest_settings.specs.declared.setting.Setting.TheVariants as at
+use Rattle.nextest_elements.specs.declared.setting.Setting.{Setting}
+use Rattle.nextest_elements.specs.declared.setting.Setting.TheVariants as at
 use Rattle.nextest_settings.specs.declared.values.ProfileValues.{ProfileValues}
 use Rattle.nextest_settings.specs.declared.values.StoredValues.{StoredValues}
 

@@ -7,8 +7,8 @@ use Rattle.nextest_tables.specs.Written.{WrittenFields}
 use Rattle.nextest_settings.specs.Settings.{fallback_of, if_reported, report_path}
 use Rattle.nextest_settings.specs.SettingValues.{profile_sets, stated_value}
 use Rattle.nextest_settings.specs.Values.{nearest}
-use Rattle.nextest_settings.specs.declared.setting.Setting.{Setting}
-use Rattle.nextest_settings.specs.declared.setting.Setting.TheVariants as at
+use Rattle.nextest_elements.specs.declared.setting.Setting.{Setting}
+use Rattle.nextest_elements.specs.declared.setting.Setting.TheVariants as at
 
 -- none of some profiles writes what no profile writes
 unwritten : {X : Type 0} (fs : List WrittenFields) → ◌≡◌ {A = Option X} (nearest (λ f. None) fs) None

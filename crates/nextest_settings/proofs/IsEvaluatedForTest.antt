@@ -6,10 +6,11 @@ use Rattle.nextest_rules.specs.Rules.{ScriptRuleUse}
 use Rattle.nextest_settings.specs.Deciding.{QueryContext}
 use Rattle.nextest_settings.specs.Profile.{EvaluatableModel}
 use Rattle.nextest_settings.specs.Queries.{evaluated_for_test, filters_of, IsEvaluatedForTest}
-use Rattle.nextest_settings.specs.Settings.{settings, is_set}
-use Rattle.nextest_settings.specs.declared.setting.Setting.{Setting}
+use Rattle.nextest_elements.specs.Settings.{settings}
+use Rattle.nextest_settings.specs.Settings.{is_set}
+use Rattle.nextest_elements.specs.declared.setting.Setting.{Setting}
 use Rattle.nextest_settings.proofs.IsEvaluated.{both_evaluated, evaluated_both, both_count}
-use Rattle.nextest_settings.proofs.StandsOnce.{stands_once}
+use Rattle.nextest_elements.proofs.StandsOnce.{stands_once}
 
 -- each setting is among all
 each_there : (s : Setting) → (n : ℕ) × (slice_get settings n ≡ Some s)

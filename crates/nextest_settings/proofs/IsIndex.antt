@@ -10,15 +10,16 @@ use Rattle.rule_lists.specs.Lists.{IsListOf}
 use Rattle.rule_lists.specs.Rows.{list_at, rows_of}
 use Rattle.rule_lists.proofs.Columns.{column-list}
 use Rattle.nextest_settings.specs.Index.{IsIndex, IsPlatformIndex, is_listed, names_wrapper, override_tests, script_tests, rows_in, wrapper_rows_in, platform_rows, setting_list, wrapper_list}
-use Rattle.nextest_settings.specs.Settings.{is_set, index_of, settings}
+use Rattle.nextest_elements.specs.Settings.{index_of, settings}
+use Rattle.nextest_settings.specs.Settings.{is_set}
 use Rattle.nextest_settings.specs.View.{evaluated_override_view, evaluated_script_rule_view}
 use Rattle.nextest_settings.specs.declared.index.PlatformIndex.{PlatformIndex}
 use Rattle.nextest_settings.specs.declared.index.RuleIndex.{RuleIndex}
 use Rattle.nextest_settings.specs.declared.index.Wrapper.{Wrapper}
 use Rattle.nextest_settings.specs.declared.index.Wrapper.TheVariants as wrappers
 use Rattle.nextest_settings.specs.declared.platforms.EvaluatedRule.{EvaluatedRule as EvaluatedRule'}
-use Rattle.nextest_settings.specs.declared.setting.Setting.{Setting}
-use Rattle.nextest_settings.proofs.StandsOnce.{at_place}
+use Rattle.nextest_elements.specs.declared.setting.Setting.{Setting}
+use Rattle.nextest_elements.proofs.StandsOnce.{at_place}
 
 module _ {F S E T N P : Type 0} (overrides : List (EvaluatedRule' (CompiledOverride F S E T N P)))
     (script_rules : List (EvaluatedRule' (CompiledProfileScripts F S E T N P))) where

@@ -14,7 +14,6 @@ pub mod RulesAreInOrder
 pub mod Rising
 pub mod StandsFirst
 pub mod LastGroup
-pub mod StandsOnce
 pub mod IsIndex
 pub mod IsEvaluated
 pub mod IsEvaluatedForTest

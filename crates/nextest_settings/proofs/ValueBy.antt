@@ -10,11 +10,12 @@ use Rattle.nextest_settings.specs.Deciding.{QueryContext}
 use Rattle.nextest_settings.specs.Pass.{Override, slots_view, winners_of}
 use Rattle.nextest_settings.specs.Platforms.{EvaluatedRule, rule_text}
 use Rattle.nextest_settings.specs.Queries.{deciding_override, wrapping_rule, written_value, value_by, written_origin, origin_by, by_override, by_script, fallback_origin}
-use Rattle.nextest_settings.specs.Settings.{settings, sets, index_of}
+use Rattle.nextest_elements.specs.Settings.{settings, index_of}
+use Rattle.nextest_settings.specs.Settings.{sets}
 use Rattle.nextest_settings.specs.SettingsView.{slot_at, written_at, value_at, fallback_view, written_origin_at, origin_at, override_at}
 use Rattle.nextest_settings.specs.View.{meant_override, override_ref_view, override_text_meaning, script_rule_ref_view}
-use Rattle.nextest_settings.specs.declared.setting.Setting.{Setting}
-use Rattle.nextest_settings.specs.declared.setting.Setting.TheVariants as at
+use Rattle.nextest_elements.specs.declared.setting.Setting.{Setting}
+use Rattle.nextest_elements.specs.declared.setting.Setting.TheVariants as at
 use Rattle.nextest_settings.specs.declared.test_settings.TestSettings.{TestSettings}
 use Rattle.nextest_settings.proofs.FallbackOf.{fallback_view_is_fallback}
 

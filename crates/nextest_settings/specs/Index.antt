@@ -11,14 +11,15 @@ use Rattle.rule_lists.specs.Rows.{list_at, rows_of}
 use Rattle.rule_lists.specs.declared.rows.Row.{Row}
 use Rattle.nextest_rules.specs.Rules.{ScriptRuleUse}
 use Rattle.nextest_settings.specs.Platforms.{EvaluatedRule, is_on}
-use Rattle.nextest_settings.specs.Settings.{is_set, index_of, settings}
+use Rattle.nextest_elements.specs.Settings.{index_of, settings}
+use Rattle.nextest_settings.specs.Settings.{is_set}
 use Rattle.nextest_settings.specs.View.{evaluated_override_view, evaluated_script_rule_view}
 use Rattle.nextest_settings.specs.declared.index.PlatformIndex.{PlatformIndex}
 use Rattle.nextest_settings.specs.declared.index.RuleIndex.{RuleIndex}
 use Rattle.nextest_settings.specs.declared.index.Wrapper.{Wrapper}
 use Rattle.nextest_settings.specs.declared.index.Wrapper.TheVariants as wrappers
 use Rattle.nextest_settings.specs.declared.platforms.EvaluatedRule.{EvaluatedRule as EvaluatedRule'}
-use Rattle.nextest_settings.specs.declared.setting.Setting.{Setting}
+use Rattle.nextest_elements.specs.declared.setting.Setting.{Setting}
 
 -- a rule is in the list of a thing for binaries of a platform: its platforms hold for them, and
 -- it writes the thing

@@ -4,10 +4,11 @@ use Rattle.nextest_elements.specs.declared.run_mode.NextestRunMode.{NextestRunMo
 use Rattle.nextest_rules.specs.Rules.{OverrideUse}
 use Rattle.nextest_rules.specs.declared.overrides.CompiledOverride.{CompiledOverride}
 use Rattle.nextest_settings.specs.declared.platforms.EvaluatedRule.{EvaluatedRule as EvaluatedRule'}
-use Rattle.nextest_settings.specs.declared.setting.Setting.{Setting}
+use Rattle.nextest_elements.specs.declared.setting.Setting.{Setting}
 use Rattle.nextest_settings.specs.Deciding.{QueryContext, winner}
 use Rattle.nextest_settings.specs.Platforms.{EvaluatedRule, is_on}
-use Rattle.nextest_settings.specs.Settings.{is_set, settings}
+use Rattle.nextest_elements.specs.Settings.{settings}
+use Rattle.nextest_settings.specs.Settings.{is_set}
 use Rattle.nextest_settings.specs.View.{meant_override}
 
 -- an override on the platforms of a build, by what its filters mean

@@ -16,13 +16,14 @@ use Rattle.nextest_scripts.specs.ScriptTexts.{SetupScriptText}
 use Rattle.nextest_sources.specs.InputFaults.{Each}
 use Rattle.nextest_tables.specs.Written.{Name, WrittenFields}
 use Rattle.nextest_tree.specs.Schema.{is_one_of}
-use Rattle.nextest_settings.specs.declared.setting.Setting.{Setting}
-use Rattle.nextest_settings.specs.declared.setting.Setting.TheVariants as at
+use Rattle.nextest_elements.specs.declared.setting.Setting.{Setting}
+use Rattle.nextest_elements.specs.declared.setting.Setting.TheVariants as at
 use Rattle.nextest_settings.specs.Chains.{first_of}
 use Rattle.nextest_settings.specs.Deciding.{QueryContext, rule_holds, winner, asked_from, IsEvaluated}
 use Rattle.nextest_settings.specs.Platforms.{EvaluatedRule}
 use Rattle.nextest_settings.specs.Profile.{EvaluatableModel}
-use Rattle.nextest_settings.specs.Settings.{ValueOf, sets, is_set, settings, fallback_of}
+use Rattle.nextest_elements.specs.Settings.{settings}
+use Rattle.nextest_settings.specs.Settings.{ValueOf, sets, is_set, fallback_of}
 
 -- a test, judged by what filters match where the default filter means `default`
 abbrev pub test_query : {M : Type 0} → (M → Test → M → Bool) → (default : M) → Test

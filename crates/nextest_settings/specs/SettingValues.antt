@@ -17,8 +17,8 @@ use Rattle.nextest_elements.specs.declared.test_priority.TestPriority.{TestPrior
 use Rattle.nextest_elements.specs.declared.threads_required.ThreadsRequired.{ThreadsRequired}
 use Rattle.nextest_scripts.specs.ScriptId.{script_text}
 use Rattle.nextest_tables.specs.Written.{Name, Arguments, WrittenFields}
-use Rattle.nextest_settings.specs.declared.setting.Setting.{Setting}
-use Rattle.nextest_settings.specs.declared.setting.Setting.TheVariants as at
+use Rattle.nextest_elements.specs.declared.setting.Setting.{Setting}
+use Rattle.nextest_elements.specs.declared.setting.Setting.TheVariants as at
 use Rattle.nextest_settings.specs.declared.setting_value.SettingValue.{SettingValue}
 use Rattle.nextest_settings.specs.declared.setting_value.SettingValue.TheVariants as held
 use Rattle.nextest_settings.specs.Settings.{ValueOf}

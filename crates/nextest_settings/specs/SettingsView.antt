@@ -7,10 +7,11 @@ use Rattle.nextest_rules.specs.Rules.{Compiled, OverrideUse, ScriptRuleUse}
 use Rattle.nextest_scripts.specs.ScriptTexts.{WrapperScriptText, wrapper_script_view}
 use Rattle.nextest_settings.specs.ChainValues.{stored_in, slow_timeout_of}
 use Rattle.nextest_settings.specs.Queries.{Origin, by_override, by_script, fallback_origin}
-use Rattle.nextest_settings.specs.Settings.{ValueOf, sets, index_of}
+use Rattle.nextest_elements.specs.Settings.{index_of}
+use Rattle.nextest_settings.specs.Settings.{ValueOf, sets}
 use Rattle.nextest_settings.specs.View.{override_ref_view, script_rule_ref_view}
-use Rattle.nextest_settings.specs.declared.setting.Setting.{Setting}
-use Rattle.nextest_settings.specs.declared.setting.Setting.TheVariants as at
+use Rattle.nextest_elements.specs.declared.setting.Setting.{Setting}
+use Rattle.nextest_elements.specs.declared.setting.Setting.TheVariants as at
 use Rattle.nextest_settings.specs.declared.test_settings.TestSettings.{TestSettings}
 use Rattle.nextest_settings.specs.declared.values.ProfileValues.{ProfileValues}
 

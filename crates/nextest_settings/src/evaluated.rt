@@ -78,7 +78,7 @@ impl<'cfg, F: Filters, S: Specs> ChainRules<'cfg, F, S> {
 
 impl<F: Filters, S: Specs> EvaluatedRules<'_, F, S> {
     ghost use Rattle.nextest_settings.specs.declared.index.Wrapper.{Wrapper};
-    ghost use Rattle.nextest_settings.specs.declared.setting.Setting.{Setting};
+    ghost use Rattle.nextest_elements.specs.declared.setting.Setting.{Setting};
     ghost use Rattle.rule_lists.specs.Lists.{IsListOf};
     ghost use Rattle.rule_lists.specs.Rows.{rows_of};
 

@@ -6,9 +6,10 @@ ghost use Rattle.nextest_settings.specs.Values.{nearest, in_report};
 ghost use Rattle.nextest_settings.specs.View.{fields_ref_view};
 ghost use Rattle.nextest_tables.specs.View.{fields_view};
 
-use crate::setting::Setting;
 use crate::setting_value::{SettingValue, SettingValues};
-use nextest_elements::{JunitFlakyFailStatus, NextestRunMode, ReportSkipPolicy, TestPriority};
+use nextest_elements::{
+    JunitFlakyFailStatus, NextestRunMode, ReportSkipPolicy, Setting, TestPriority,
+};
 use nextest_tables::ProfileFields;
 
 /// Whether a profile sets the path of its report.

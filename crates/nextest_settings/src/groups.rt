@@ -11,13 +11,12 @@ ghost use Rattle.nextest_settings.specs.GroupView.{custom_group_in, membership_g
 ghost use Rattle.nextest_settings.specs.Queries.{custom_group, custom_group_by, is_of_name, last_group};
 ghost use Rattle.nextest_settings.specs.SettingsView.{slot_at};
 ghost use Rattle.nextest_settings.specs.View.{meant_override};
-ghost use Rattle.nextest_settings.specs.declared.setting.Setting.{Setting};
+ghost use Rattle.nextest_elements.specs.declared.setting.Setting.{Setting};
 ghost use Rattle.nextest_tables.specs.View.{settings_view};
 
 use crate::evaluated::EvaluatedRules;
 use crate::pass::winners;
-use crate::setting::Setting;
-use nextest_elements::{CustomTestGroup, NextestRunMode, TestGroup};
+use nextest_elements::{CustomTestGroup, NextestRunMode, Setting, TestGroup};
 use nextest_engines::{EvalContext, Filters, NameMatcher, Specs, Tally, TestQuery};
 use nextest_tables::OverrideSettings;
 use std::alloc::{AllocError, Global};

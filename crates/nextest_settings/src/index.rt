@@ -8,9 +8,8 @@ ghost use Rattle.nextest_settings.specs.View.{evaluated_override_view, evaluated
 ghost use Rattle.rule_lists.specs.Rows.{rows_of};
 
 use crate::platforms::{EvaluatedOverride, EvaluatedScriptRule};
-use crate::setting::Setting;
 use crate::written::is_set;
-use nextest_elements::NextestRunMode;
+use nextest_elements::{NextestRunMode, Setting};
 use nextest_engines::{BuildPlatform, Filters, Specs};
 use nextest_rules::CompiledProfileScripts;
 use rule_lists::{Listed, Row, build_rows};
@@ -76,7 +75,7 @@ pub struct PlatformIndex {
 }
 
 /// The overrides that write a setting for binaries of a platform, in a mode.
-#[tactic(auto, unfolding(crate::specs::Settings::settings))]
+#[tactic(auto, unfolding(nextest_elements::specs::Settings::settings))]
 fn override_rows<F: Filters, S: Specs>(
     alloc: Global,
     overrides: &[EvaluatedOverride<'_, F, S>],

@@ -8,11 +8,11 @@ ghost use Rattle.nextest_settings.specs.Order.{RulesAreInOrder};
 ghost use Rattle.nextest_settings.specs.Platforms.{EvaluatedRule};
 ghost use Rattle.nextest_settings.specs.Profile.{EvaluatableModel};
 ghost use Rattle.nextest_settings.specs.Queries.{filters_of, evaluated_for_test, evaluated_for_list, IsEvaluatedForTest, IsEvaluatedForList};
-ghost use Rattle.nextest_settings.specs.Settings.{StandsOnce, settings};
-ghost use Rattle.nextest_settings.specs.declared.setting.Setting.{Setting};
+ghost use Rattle.nextest_elements.specs.Settings.{StandsOnce, settings};
+ghost use Rattle.nextest_elements.specs.declared.setting.Setting.{Setting};
 ghost use Rattle.nextest_tables.specs.Written.{Name};
 
-use crate::setting::Setting;
+use nextest_elements::Setting;
 use nextest_engines::{Filters, Specs};
 
 /// All settings are listed in the order of rows, and each appears there once.

@@ -15,7 +15,6 @@ mod open_settings;
 mod pass;
 mod platforms;
 mod profiles;
-mod setting;
 mod setting_value;
 mod setup_scripts;
 mod source;
@@ -38,6 +37,7 @@ pub use laws::{
     law_first_script_rule, law_rule_order,
 };
 pub use list_settings::ListSettings;
+pub use nextest_elements::Setting;
 pub use pass::matches_test;
 pub use platforms::{
     EvaluatedOverride, EvaluatedRule, EvaluatedScriptRule, evaluate_overrides,
@@ -47,7 +47,6 @@ pub use profiles::{
     EarlyProfile, EvaluatableProfile, KnownGroups, law_group_of_settings, law_known_groups,
     law_last_group, law_settings_of_texts,
 };
-pub use setting::Setting;
 pub use setting_value::{SettingValue, SettingValues};
 pub use setup_scripts::{SetupScript, SetupScriptIter, SetupScripts};
 pub use source::{SettingSource, TrackSource};

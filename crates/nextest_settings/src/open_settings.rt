@@ -10,7 +10,7 @@ ghost use Rattle.nextest_settings.specs.Platforms.{rule_text};
 ghost use Rattle.nextest_settings.specs.Queries.{deciding_override, origin_by, value_by, wrapping_rule};
 ghost use Rattle.nextest_settings.specs.SettingsView.{origin_at, override_at, value_at, wrapper_at, wrapping_use_at};
 ghost use Rattle.nextest_settings.specs.View.{KnowsRunWrappers, meant_override, meant_script_rule, override_text_meaning};
-ghost use Rattle.nextest_settings.specs.declared.setting.Setting.{Setting};
+ghost use Rattle.nextest_elements.specs.declared.setting.Setting.{Setting};
 ghost use Rattle.nextest_tables.specs.Written.{WrittenFields};
 
 use crate::evaluated::EvaluatedRules;

@@ -5,14 +5,13 @@ ghost use Rattle.nextest_settings.specs.Deciding.{asked_from, filter_holds};
 ghost use Rattle.nextest_settings.specs.Engines.{test_query_by};
 ghost use Rattle.nextest_settings.specs.Index.{override_tests};
 ghost use Rattle.nextest_settings.specs.Pass.{slots_view, winners_of, wanted_settings};
-ghost use Rattle.nextest_settings.specs.Settings.{settings};
+ghost use Rattle.nextest_elements.specs.Settings.{settings};
 ghost use Rattle.nextest_settings.specs.View.{meant_override};
 ghost use Rattle.rule_lists.specs.Lists.{IsOpen};
 ghost use Rattle.rule_lists.specs.Rows.{rows_of};
 
 use crate::platforms::EvaluatedOverride;
-use crate::setting::SETTING_COUNT;
-use nextest_elements::NextestRunMode;
+use nextest_elements::{NextestRunMode, SETTING_COUNT};
 use nextest_engines::{EvalContext, Filters, Specs, Tally, TestQuery};
 use rule_lists::{Query, Row, walk_open_rows, walk_rows};
 
@@ -73,7 +72,7 @@ impl<'cfg, F: Filters, S: Specs> Query<EvaluatedOverride<'cfg, F, S>> for Settin
 /// For each setting the first rule that holds and writes it, by the rows of the overrides that count
 /// for the test. A filter is evaluated at most once, and only if a setting that its rule writes
 /// is open.
-#[tactic(auto, unfolding(crate::specs::Settings::settings))]
+#[tactic(auto, unfolding(nextest_elements::specs::Settings::settings))]
 pub(crate) fn winners<'cfg, F: Filters, S: Specs>(
     overrides: &[EvaluatedOverride<'cfg, F, S>],
     rows: &[Row],
@@ -104,7 +103,7 @@ pub(crate) fn winners<'cfg, F: Filters, S: Specs>(
 
 /// The rules of [`winners`], where of some overrides it is known whether they hold for the test. Only
 /// the filters of others are evaluated.
-#[tactic(auto, unfolding(crate::specs::Settings::settings))]
+#[tactic(auto, unfolding(nextest_elements::specs::Settings::settings))]
 pub(crate) fn open_winners<'cfg, F: Filters, S: Specs>(
     overrides: &[EvaluatedOverride<'cfg, F, S>],
     rows: &[Row],

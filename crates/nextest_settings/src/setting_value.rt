@@ -3,12 +3,11 @@ ghost use Rattle.std.specs.Prelude.{◌≡◌, Option, option_map};
 ghost use Rattle.nextest_elements.specs.declared.run_mode.NextestRunMode.{NextestRunMode};
 ghost use Rattle.nextest_settings.specs.Settings.{ValueOf};
 ghost use Rattle.nextest_settings.specs.SettingValues.{by_kind, setting_value_view};
-ghost use Rattle.nextest_settings.specs.declared.setting.Setting.{Setting};
+ghost use Rattle.nextest_elements.specs.declared.setting.Setting.{Setting};
 
-use crate::setting::Setting;
 use nextest_elements::{
     FlakyResult, JunitFlakyFailStatus, LeakTimeout, NextestRunMode, ReportSkipPolicy, RetryPolicy,
-    SlowTimeout, TestGroup, TestOutputDisplay, TestPriority, ThreadsRequired,
+    Setting, SlowTimeout, TestGroup, TestOutputDisplay, TestPriority, ThreadsRequired,
 };
 use nextest_scripts::ScriptId;
 

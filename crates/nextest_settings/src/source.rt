@@ -5,7 +5,7 @@ ghost use Rattle.nextest_rules.specs.View.{id_view, override_rule_view, script_r
 ghost use Rattle.nextest_settings.specs.Queries.{Origin, unwritten, by_profile, by_override, by_script, fallback_origin};
 ghost use Rattle.nextest_settings.specs.SourceView.{setting_source_view, source_override, source_use, MarksOrigin};
 
-use crate::setting::Setting;
+use nextest_elements::Setting;
 use nextest_engines::{Filters, Specs};
 use nextest_rules::{CompiledOverride, CompiledProfileScripts};
 

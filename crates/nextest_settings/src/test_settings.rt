@@ -10,11 +10,11 @@ ghost use Rattle.nextest_settings.specs.ChainValues.{AreValues, stored_in};
 ghost use Rattle.nextest_settings.specs.Engines.{test_query_by};
 ghost use Rattle.nextest_settings.specs.Queries.{value_by, origin_by, deciding_override, wrapping_rule, evaluated_by, fallback_origin, by_profile};
 ghost use Rattle.nextest_settings.specs.Platforms.{rule_text};
-ghost use Rattle.nextest_settings.specs.Settings.{index_of};
+ghost use Rattle.nextest_elements.specs.Settings.{index_of};
 ghost use Rattle.nextest_settings.specs.SettingsView.{slot_at, value_at, origin_at, override_at, wrapping_use_at, wrapper_at};
 ghost use Rattle.nextest_settings.specs.SourceView.{MarksOrigin, MarksOverride, MarksScriptRule};
 ghost use Rattle.nextest_settings.specs.View.{override_ref_view, override_text_meaning, meant_override, meant_script_rule, KnowsRunWrappers};
-ghost use Rattle.nextest_settings.specs.declared.setting.Setting.{Setting};
+ghost use Rattle.nextest_elements.specs.declared.setting.Setting.{Setting};
 ghost use Rattle.nextest_sources.specs.InputFaults.{Each};
 ghost use Rattle.nextest_tables.specs.FileTexts.{names_in, IsIn};
 ghost use Rattle.nextest_tables.specs.View.{settings_view};
@@ -24,7 +24,6 @@ use crate::evaluated::EvaluatedRules;
 use crate::index::Wrapper;
 use crate::pass::winners;
 use crate::platforms::EvaluatedOverride;
-use crate::setting::{SETTING_COUNT, Setting};
 use crate::setting_value::{SettingValue, SettingValues};
 use crate::source::{TrackSource, fallback_mark};
 use crate::values::{ProfileValues, StoredValues};
@@ -32,7 +31,8 @@ use crate::wrappers::{RunWrapper, run_wrapper};
 use crate::written::{report, slow_timeout};
 use nextest_elements::{
     FlakyResult, JunitFlakyFailStatus, LeakTimeout, NextestRunMode, ReportSkipPolicy, RetryPolicy,
-    SlowTimeout, TestGroup, TestOutputDisplay, TestPriority, ThreadsRequired,
+    SETTING_COUNT, Setting, SlowTimeout, TestGroup, TestOutputDisplay, TestPriority,
+    ThreadsRequired,
 };
 use nextest_engines::{EvalContext, Filters, Specs, Tally, TestQuery};
 use nextest_load::ScriptConfig;

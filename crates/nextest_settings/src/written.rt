@@ -3,11 +3,10 @@ ghost use Rattle.std.specs.Prelude.{◌≡◌};
 ghost use Rattle.nextest_tables.specs.View.{settings_view, fields_view};
 ghost use Rattle.nextest_settings.specs.Settings.{is_set, sets, slow_timeout_written};
 ghost use Rattle.nextest_settings.specs.SettingValues.{profile_sets, profile_timeout};
-ghost use Rattle.nextest_settings.specs.declared.setting.Setting.{Setting};
+ghost use Rattle.nextest_elements.specs.declared.setting.Setting.{Setting};
 
-use crate::setting::Setting;
 use crate::setting_value::{SettingValue, SettingValues};
-use nextest_elements::{JunitOverride, NextestRunMode, SlowTimeout};
+use nextest_elements::{JunitOverride, NextestRunMode, Setting, SlowTimeout};
 use nextest_tables::{OverrideSettings, ProfileFields};
 
 /// The slow timeout that an override writes for a mode: benchmarks have their own.

@@ -1,6 +1,6 @@
 -- Which settings of tests are compared.
 use Rattle.std.specs.Prelude.{◌≡◌, Bool, false, true}
-use Rattle.nextest_settings.specs.Settings.{settings}
+use Rattle.nextest_elements.specs.Settings.{settings}
 use Rattle.rinqebo_request.specs.declared.request.RequestedSettings.{RequestedSettings}
 use Rattle.rinqebo_request.specs.declared.request.RequestedSettings.TheVariants as asks
 

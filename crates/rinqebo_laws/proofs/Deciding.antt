@@ -11,8 +11,8 @@ use Rattle.nextest_settings.specs.Deciding.{QueryContext, decides, rule_holds, w
 use Rattle.nextest_settings.specs.Platforms.{EvaluatedRule, rule_on}
 use Rattle.nextest_settings.specs.Queries.{Origin, fallback_origin, origin_by, value_by, wrapping_rule}
 use Rattle.nextest_settings.specs.Settings.{ValueOf, fallback_of, is_set, sets}
-use Rattle.nextest_settings.specs.declared.setting.Setting.{Setting}
-use Rattle.nextest_settings.specs.declared.setting.Setting.TheVariants as at
+use Rattle.nextest_elements.specs.declared.setting.Setting.{Setting}
+use Rattle.nextest_elements.specs.declared.setting.Setting.TheVariants as at
 use Rattle.nextest_tables.specs.Written.{WrittenFields}
 use Rattle.rinqebo_report.specs.declared.origin.Origin.{Origin as Reported}
 use Rattle.rinqebo_rules.proofs.VerdictsOf.{verdicts-none, verdicts-nth, verdicts-winner}

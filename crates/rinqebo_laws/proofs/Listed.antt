@@ -1,9 +1,9 @@
 -- A setting is listed exactly where some rule decides.
 use Rattle.std.proofs.Common.{◌≡◌, ◌⊎◌, inl, inr, ◌∙◌, ℕ, zero, suc, Bool, true, false, cond, List, [], ◌∷◌, Some, filter, slice_get, string_bytes, refl, sym, ap}
 use Rattle.std.specs.List.{AllZip}
-use Rattle.nextest_settings.specs.Settings.{index_of, settings}
-use Rattle.nextest_settings.specs.declared.setting.Setting.{Setting}
-use Rattle.nextest_settings.specs.declared.setting.Setting.TheVariants as at
+use Rattle.nextest_elements.specs.Settings.{index_of, settings}
+use Rattle.nextest_elements.specs.declared.setting.Setting.{Setting}
+use Rattle.nextest_elements.specs.declared.setting.Setting.TheVariants as at
 use Rattle.rinqebo_laws.proofs.Lists.{contains_at, left_of, place_of, right_of}
 use Rattle.rinqebo_laws.specs.Reasons.{DecidesAt, HaveKey, NoneDecides}
 use Rattle.rinqebo_report.specs.declared.report.Rule.{Rule}

@@ -8,7 +8,7 @@ use Rattle.nextest_engines.specs.declared.queries.BuildPlatforms.{BuildPlatforms
 use Rattle.nextest_load.specs.Config.{ConfigModel, ScriptTables}
 use Rattle.nextest_settings.specs.Profile.{EarlyModel, EvaluatableModel}
 use Rattle.nextest_settings.specs.Queries.{fallback_origin, query_in, setting_origin, setting_value}
-use Rattle.nextest_settings.specs.declared.setting.Setting.{Setting}
+use Rattle.nextest_elements.specs.declared.setting.Setting.{Setting}
 use Rattle.nextest_sources.specs.Sources.{Source}
 use Rattle.nextest_tables.specs.Written.{Name}
 use Rattle.rinqebo_request.specs.Files.Origins.{IsFileAt}

@@ -5,7 +5,7 @@ use Rattle.nextest_elements.specs.declared.run_mode.NextestRunMode.{NextestRunMo
 use Rattle.nextest_rules.specs.Rules.{RuleId}
 use Rattle.nextest_settings.specs.Queries.{Origin as Decider}
 use Rattle.nextest_settings.specs.Settings.{ValueOf}
-use Rattle.nextest_settings.specs.declared.setting.Setting.{Setting}
+use Rattle.nextest_elements.specs.declared.setting.Setting.{Setting}
 use Rattle.nextest_sources.specs.Sources.{Source}
 use Rattle.nextest_tables.specs.Written.{Name}
 use Rattle.rinqebo_request.specs.Files.Origins.{IsFileAt}

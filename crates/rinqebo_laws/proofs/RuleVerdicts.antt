@@ -4,7 +4,7 @@ use Rattle.std.proofs.lemmas.Option.{slice_get-map}
 use Rattle.filter_engine.specs.Engine.{Filter}
 use Rattle.nextest_settings.specs.Platforms.{EvaluatedRule, rule_on}
 use Rattle.nextest_settings.specs.Settings.{fallback_of}
-use Rattle.nextest_settings.specs.declared.setting.Setting.{Setting}
+use Rattle.nextest_elements.specs.declared.setting.Setting.{Setting}
 use Rattle.rinqebo_laws.proofs.Deciding.{has_fallback, has_rule, mapped_back}
 use Rattle.rinqebo_laws.specs.Verdicts.{Judged, judged_rules, judged_value, judged_verdicts}
 use Rattle.rinqebo_rules.specs.Reported.{reported_of}

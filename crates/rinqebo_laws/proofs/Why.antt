@@ -9,7 +9,7 @@ use Rattle.nextest_settings.specs.Deciding.{QueryContext}
 use Rattle.nextest_settings.specs.Platforms.{rule_on}
 use Rattle.nextest_settings.specs.Queries.{fallback_origin}
 use Rattle.nextest_settings.specs.Settings.{fallback_of}
-use Rattle.nextest_settings.specs.declared.setting.Setting.{Setting}
+use Rattle.nextest_elements.specs.declared.setting.Setting.{Setting}
 use Rattle.nextest_sources.specs.Sources.{Source}
 use Rattle.nextest_tables.specs.Written.{Name, WrittenFields}
 use Rattle.rinqebo_request.specs.Files.Origins.{IsFileAt}

@@ -5,7 +5,7 @@ use Rattle.nextest_load.specs.Config.{ScriptTables, config_parents}
 use Rattle.nextest_settings.specs.Profiles.Profiles.{IsChainAndDefault}
 use Rattle.nextest_settings.specs.Profile.{profile_of, profile_on}
 use Rattle.nextest_settings.specs.Queries.{query_in}
-use Rattle.nextest_settings.specs.declared.setting.Setting.{Setting}
+use Rattle.nextest_elements.specs.declared.setting.Setting.{Setting}
 use Rattle.nextest_tables.specs.Written.{Name}
 use Rattle.rinqebo_request.specs.declared.files.gathering.Gathered.{Gathered}
 use Rattle.rinqebo_laws.proofs.Files.{one_layer}

@@ -8,7 +8,7 @@ use Rattle.nextest_settings.specs.Deciding.{QueryContext}
 use Rattle.nextest_settings.specs.Platforms.{EvaluatedRule, rule_on}
 use Rattle.nextest_settings.specs.Queries.{value_by}
 use Rattle.nextest_settings.specs.Settings.{ValueOf}
-use Rattle.nextest_settings.specs.declared.setting.Setting.{Setting}
+use Rattle.nextest_elements.specs.declared.setting.Setting.{Setting}
 use Rattle.nextest_tables.specs.Written.{WrittenFields}
 use Rattle.platform_language.specs.Expressions.{Spec}
 use Rattle.platform_language.specs.declared.platforms.Platform.{Platform}

@@ -2,7 +2,7 @@
 ghost use Rattle.std.specs.Prelude.{◌≡◌, ℕ, Contains, List, Some, slice_get, string_bytes};
 ghost use Rattle.filter_inputs.specs.Lists.ListView.{list_view};
 ghost use Rattle.filter_inputs.specs.Lists.Lists.{list_tests};
-ghost use Rattle.nextest_settings.specs.declared.setting.Setting.{Setting};
+ghost use Rattle.nextest_elements.specs.declared.setting.Setting.{Setting};
 ghost use Rattle.nextest_tables.specs.Written.{Name};
 ghost use Rattle.rinqebo_request.specs.declared.files.gathering.Gathered.{Gathered};
 ghost use Rattle.rinqebo_laws.specs.Reasons.{AgreesWithRules, HaveKeyIfDecided, HaveOneResult};

@@ -3,9 +3,9 @@ use Rattle.std.specs.Prelude.{ℕ, Bool, false, ◌||◌, List, ◌++◌, Option
 use Rattle.std.specs.Str.{bytes_eq}
 use Rattle.nextest_elements.specs.declared.run_mode.NextestRunMode.{NextestRunMode}
 use Rattle.nextest_elements.specs.declared.run_mode.NextestRunMode.TheVariants.{Benchmark}
-use Rattle.nextest_settings.specs.Settings.{setting_name}
-use Rattle.nextest_settings.specs.declared.setting.Setting.{Setting}
-use Rattle.nextest_settings.specs.declared.setting.Setting.TheVariants as at
+use Rattle.nextest_elements.specs.Settings.{setting_name}
+use Rattle.nextest_elements.specs.declared.setting.Setting.{Setting}
+use Rattle.nextest_elements.specs.declared.setting.Setting.TheVariants as at
 
 -- the table that has a setting, if there is one: benchmarks have a slow timeout of their own, and
 -- what a report stores is in the report's table

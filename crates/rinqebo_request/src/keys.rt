@@ -1,7 +1,7 @@
 //! The keys of settings, as files write them.
 ghost use Rattle.std.specs.Prelude.{◌≡◌, ◌≢◌, ◌↔◌, IfOk, IsTrue, MatchOption, Some, codes, map, option_map, string_bytes};
-ghost use Rattle.nextest_settings.specs.Settings.{settings};
-ghost use Rattle.nextest_settings.specs.declared.setting.Setting.{Setting};
+ghost use Rattle.nextest_elements.specs.Settings.{settings};
+ghost use Rattle.nextest_elements.specs.declared.setting.Setting.{Setting};
 ghost use Rattle.std.specs.List.{filter};
 ghost use Rattle.rinqebo_request.specs.Keys.{key_table, key_name, is_named_by, is_report, is_table, dotted, key_text};
 

@@ -1,6 +1,6 @@
 //! A run as it is requested of the program: a request, and the files as they were read.
 ghost use Rattle.std.specs.Prelude.{◌≡◌, IfOk, option_and_then, option_map, string_bytes};
-ghost use Rattle.nextest_settings.specs.Settings.{settings};
+ghost use Rattle.nextest_elements.specs.Settings.{settings};
 ghost use Rattle.rinqebo_forms.specs.Requests.{machine_view};
 ghost use Rattle.rinqebo_forms.specs.Runs.{run_view};
 ghost use Rattle.rinqebo_resolve.specs.Asking.{AreEnginesFor, AreFilesOf, AsksForAll, IsRequestFor, requested_of, requested_view};

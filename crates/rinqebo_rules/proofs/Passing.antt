@@ -7,13 +7,14 @@ use Rattle.std.specs.Option.{option_or}
 use Rattle.nextest_elements.specs.declared.run_mode.NextestRunMode.{NextestRunMode}
 use Rattle.nextest_rules.specs.Rules.{OverrideUse, RuleId, ScriptRuleUse}
 use Rattle.nextest_settings.proofs.StandsFirst.{find-least, find-none}
-use Rattle.nextest_settings.proofs.StandsOnce.{at_place}
+use Rattle.nextest_elements.proofs.StandsOnce.{at_place}
 use Rattle.nextest_settings.specs.Deciding.{QueryContext, StandsFirst, decides, rule_holds}
 use Rattle.nextest_settings.specs.Platforms.{EvaluatedRule}
 use Rattle.nextest_settings.specs.Queries.{Origin, by_override, by_profile, by_script, deciding_override, fallback_origin, origin_by, unwritten}
-use Rattle.nextest_settings.specs.Settings.{index_of, is_set, settings}
-use Rattle.nextest_settings.specs.declared.setting.Setting.{Setting}
-use Rattle.nextest_settings.specs.declared.setting.Setting.TheVariants as at
+use Rattle.nextest_elements.specs.Settings.{index_of, settings}
+use Rattle.nextest_settings.specs.Settings.{is_set}
+use Rattle.nextest_elements.specs.declared.setting.Setting.{Setting}
+use Rattle.nextest_elements.specs.declared.setting.Setting.TheVariants as at
 use Rattle.rinqebo_rules.specs.Passed.{HasNoId, IsPassed, IsRuledOut, IsWritten, override_in}
 
 second : (a b : Bool) → (a && b) ≡ true → b ≡ true

@@ -2,7 +2,7 @@
 use Rattle.std.proofs.Common.{◌≡◌, ◌∙◌, Option, None, Some, option_map, ap, refl, sym}
 use Rattle.nextest_settings.specs.Settings.{ValueOf}
 use Rattle.nextest_settings.specs.SettingValues.{by_kind, setting_value_view}
-use Rattle.nextest_settings.specs.declared.setting.Setting.{Setting}
+use Rattle.nextest_elements.specs.declared.setting.Setting.{Setting}
 use Rattle.nextest_settings.specs.declared.setting_value.SettingValue.{SettingValue}
 use Rattle.rinqebo_rules.specs.SettingValues.{reported_value}
 use Rattle.rinqebo_rules.specs.Reported.{told, reported_of}

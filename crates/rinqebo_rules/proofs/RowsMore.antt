@@ -9,7 +9,7 @@ use Rattle.nextest_settings.specs.Platforms.{EvaluatedRule}
 use Rattle.nextest_settings.specs.Queries.{Origin}
 use Rattle.nextest_settings.specs.Settings.{ValueOf}
 use Rattle.nextest_settings.specs.SourceView.{setting_source_view, MarksOrigin}
-use Rattle.nextest_settings.specs.declared.setting.Setting.{Setting}
+use Rattle.nextest_elements.specs.declared.setting.Setting.{Setting}
 use Rattle.nextest_settings.specs.declared.source.SettingSource.{SettingSource}
 use Rattle.rinqebo_rules.specs.TestOrigins.{Basis}
 use Rattle.rinqebo_rules.specs.Settings.{IsSettingReported, reported_settings}

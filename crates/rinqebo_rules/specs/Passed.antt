@@ -5,8 +5,9 @@ use Rattle.nextest_rules.specs.Rules.{OverrideUse, RuleId}
 use Rattle.nextest_settings.specs.Deciding.{QueryContext, decides}
 use Rattle.nextest_settings.specs.Platforms.{EvaluatedRule}
 use Rattle.nextest_settings.specs.Queries.{Origin, by_override}
-use Rattle.nextest_settings.specs.Settings.{index_of, is_set}
-use Rattle.nextest_settings.specs.declared.setting.Setting.{Setting}
+use Rattle.nextest_elements.specs.Settings.{index_of}
+use Rattle.nextest_settings.specs.Settings.{is_set}
+use Rattle.nextest_elements.specs.declared.setting.Setting.{Setting}
 
 -- none of the first overrides has an id
 abbrev pub HasNoId : {M : Type 0} → RuleId → ℕ → List (EvaluatedRule M (OverrideUse M)) → Type 0

@@ -16,7 +16,7 @@ use Rattle.nextest_elements.specs.declared.threads_required.ThreadsRequired.TheV
 use Rattle.nextest_settings.specs.Settings.{ValueOf}
 use Rattle.nextest_settings.specs.SettingValues as kinds
 use Rattle.nextest_settings.specs.SettingValues.{ValueByKind, by_kind}
-use Rattle.nextest_settings.specs.declared.setting.Setting.{Setting}
+use Rattle.nextest_elements.specs.declared.setting.Setting.{Setting}
 use Rattle.rinqebo_report.specs.declared.value.TableMember.{TableMember}
 use Rattle.rinqebo_report.specs.declared.value.Scalar.{Scalar}
 use Rattle.rinqebo_report.specs.declared.value.Scalar.TheVariants as scalars

@@ -7,7 +7,7 @@ use Rattle.filter_inputs.specs.Lists.Lists.{ListTest}
 use Rattle.nextest_settings.specs.Deciding.{QueryContext}
 use Rattle.nextest_settings.specs.Profile.{EvaluatableModel}
 use Rattle.nextest_settings.specs.Queries.{query_in, setting_origin, setting_value}
-use Rattle.nextest_settings.specs.declared.setting.Setting.{Setting}
+use Rattle.nextest_elements.specs.declared.setting.Setting.{Setting}
 use Rattle.rinqebo_rules.specs.TestOrigins.{Basis, wrapping_id}
 use Rattle.rinqebo_rules.specs.Runs.{IsRunReported, is_selected, runs_if, shows_runs}
 use Rattle.rinqebo_rules.specs.Settings.{IsSettingReported, reported_settings}

@@ -8,7 +8,7 @@ use Rattle.nextest_rules.specs.declared.overrides.CompiledOverride.{CompiledOver
 use Rattle.nextest_rules.specs.declared.overrides.CompiledProfileScripts.{CompiledProfileScripts}
 use Rattle.nextest_settings.specs.View.{override_ref_view, script_rule_ref_view, evaluated_override_view, evaluated_script_rule_view}
 use Rattle.nextest_settings.specs.declared.platforms.EvaluatedRule.{EvaluatedRule}
-use Rattle.nextest_settings.specs.declared.setting.Setting.{Setting}
+use Rattle.nextest_elements.specs.declared.setting.Setting.{Setting}
 use Rattle.platform_language.specs.declared.expression.TargetSpec.{TargetSpec}
 use Rattle.rinqebo_rules.specs.RuleAnswers.{Judged, judged}
 use Rattle.rinqebo_rules.specs.RulePlaces.{place_view}

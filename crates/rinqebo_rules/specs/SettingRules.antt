@@ -4,8 +4,8 @@ use Rattle.nextest_elements.specs.declared.run_mode.NextestRunMode.{NextestRunMo
 use Rattle.nextest_rules.specs.Rules.{Compiled, OverrideUse, ScriptRuleUse}
 use Rattle.nextest_settings.specs.Platforms.{EvaluatedRule}
 use Rattle.nextest_settings.specs.Settings.{sets}
-use Rattle.nextest_settings.specs.declared.setting.Setting.{Setting}
-use Rattle.nextest_settings.specs.declared.setting.Setting.TheVariants as at
+use Rattle.nextest_elements.specs.declared.setting.Setting.{Setting}
+use Rattle.nextest_elements.specs.declared.setting.Setting.TheVariants as at
 use Rattle.rinqebo_rules.specs.Reported.{ReportedValue, reported_of}
 use Rattle.rinqebo_rules.specs.RulePlaces.{Place, id_place, script_place}
 

@@ -3,8 +3,9 @@ use Rattle.std.specs.Prelude.{◌≡◌, List, filter, Bool, true, false, IfSome
 use Rattle.nextest_elements.specs.declared.run_mode.NextestRunMode.{NextestRunMode}
 use Rattle.nextest_rules.specs.Rules.{RuleId}
 use Rattle.nextest_settings.specs.Queries.{Origin, unwritten, by_profile, by_override, by_script}
-use Rattle.nextest_settings.specs.Settings.{ValueOf, settings}
-use Rattle.nextest_settings.specs.declared.setting.Setting.{Setting}
+use Rattle.nextest_elements.specs.Settings.{settings}
+use Rattle.nextest_settings.specs.Settings.{ValueOf}
+use Rattle.nextest_elements.specs.declared.setting.Setting.{Setting}
 use Rattle.rinqebo_rules.specs.TestOrigins.{Basis, AreOriginsBy}
 use Rattle.rinqebo_request.specs.declared.request.RequestedSettings.{RequestedSettings}
 use Rattle.rinqebo_request.specs.declared.request.RequestedSettings.TheVariants as asks

@@ -2,7 +2,7 @@
 ghost use Rattle.std.specs.Prelude.{◌≡◌, IfOk, filter, option_map};
 ghost use Rattle.std.specs.List.{AllZip};
 ghost use Rattle.nextest_rules.specs.View.{script_rule_id_view};
-ghost use Rattle.nextest_settings.specs.Settings.{settings as all_settings};
+ghost use Rattle.nextest_elements.specs.Settings.{settings as all_settings};
 ghost use Rattle.nextest_settings.specs.SettingsView.{origin_at, value_at};
 ghost use Rattle.nextest_settings.specs.SourceView.{setting_source_view};
 ghost use Rattle.rinqebo_rules.specs.TestOrigins.{AreOriginsBy, wrapping_at, wrapping_places};

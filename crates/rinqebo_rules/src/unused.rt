@@ -9,7 +9,7 @@ ghost use Rattle.nextest_rules.specs.View.{id_view, script_rule_id_view};
 ghost use Rattle.nextest_settings.specs.Deciding.{QueryContext, rule_holds};
 ghost use Rattle.nextest_settings.specs.Engines.{test_query_by};
 ghost use Rattle.nextest_settings.specs.Queries.{query_in};
-ghost use Rattle.nextest_settings.specs.Settings.{settings as all_settings};
+ghost use Rattle.nextest_elements.specs.Settings.{settings as all_settings};
 ghost use Rattle.nextest_settings.specs.View.{meant_override, meant_script_rule};
 ghost use Rattle.rinqebo_rules.specs.BinaryRules.{AreAnswersAt, AreKnownIn, known_overrides, known_script_rules};
 ghost use Rattle.rinqebo_rules.specs.Passed.{IsPassed, IsRuledOut, IsWritten};

@@ -14,7 +14,7 @@ use Rattle.nextest_settings.specs.Chains.{FilterChoice}
 use Rattle.nextest_settings.specs.Profile.{Configured, EarlyModel, profile_on}
 use Rattle.nextest_settings.specs.Queries.{test_query}
 use Rattle.nextest_settings.specs.Settings.{fallback_of}
-use Rattle.nextest_settings.specs.declared.setting.Setting.{Setting}
+use Rattle.nextest_elements.specs.declared.setting.Setting.{Setting}
 use Rattle.nextest_tables.specs.FileTexts.{names_in, IsIn}
 use Rattle.nextest_tables.specs.Written.{Name}
 use Rattle.rinqebo_request.specs.declared.files.layers.Layer.{Layer as FileLayer}

@@ -10,7 +10,7 @@ use Rattle.nextest_settings.specs.Profiles.Profiles.{IsChainAndDefault, IsProfil
 use Rattle.nextest_settings.specs.Profile.{Configured, EarlyModel, profile_on}
 use Rattle.nextest_settings.specs.Queries.{query_in}
 use Rattle.nextest_settings.specs.Settings.{fallback_of}
-use Rattle.nextest_settings.specs.declared.setting.Setting.{Setting}
+use Rattle.nextest_elements.specs.declared.setting.Setting.{Setting}
 use Rattle.nextest_sources.specs.Inputs.{sources_in}
 use Rattle.nextest_tables.specs.FileTexts.{names_in, IsIn}
 use Rattle.nextest_tables.specs.Written.{Name}

@@ -2,8 +2,8 @@
 use Rattle.std.proofs.Common.{◌≡◌, ◌∙◌, ℕ, List, Option, option_map, length, ap, sym}
 use Rattle.std.specs.Borrow.{Bor}
 use Rattle.nextest_settings.specs.Settings.{ValueOf}
-use Rattle.nextest_settings.specs.declared.setting.Setting.{Setting}
-use Rattle.nextest_settings.specs.declared.setting.Setting.TheVariants as at
+use Rattle.nextest_elements.specs.declared.setting.Setting.{Setting}
+use Rattle.nextest_elements.specs.declared.setting.Setting.TheVariants as at
 use Rattle.rinqebo_forms.specs.Numbers.{flag_number, retry_numbers, thread_numbers, slow_numbers, leak_numbers, output_number, flaky_number, report_number, status_number}
 use Rattle.rinqebo_session.specs.Answering.{group_index, wrapper_index, AreNumbersOf}
 use Rattle.rinqebo_session.specs.declared.profile.Group.{Group}

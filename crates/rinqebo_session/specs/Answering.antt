@@ -12,8 +12,8 @@ use Rattle.filter_engine.specs.Engine.{filter_holds}
 use Rattle.nextest_settings.specs.Profiles.Meaning.{profile_meaning}
 use Rattle.nextest_settings.specs.Queries.{query_in, setting_value}
 use Rattle.nextest_settings.specs.Settings.{ValueOf}
-use Rattle.nextest_settings.specs.declared.setting.Setting.{Setting}
-use Rattle.nextest_settings.specs.declared.setting.Setting.TheVariants as at
+use Rattle.nextest_elements.specs.declared.setting.Setting.{Setting}
+use Rattle.nextest_elements.specs.declared.setting.Setting.TheVariants as at
 use Rattle.rinqebo_forms.specs.Numbers.{flag_number, retry_numbers, thread_numbers, slow_numbers, leak_numbers, output_number, flaky_number, report_number, status_number, group_numbers}
 use Rattle.rinqebo_session.specs.Asking.{IsFaultIn, IsKnownTest, fault_status}
 use Rattle.rinqebo_session.specs.Readings.{filter_meaning}

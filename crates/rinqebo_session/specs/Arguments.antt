@@ -5,7 +5,7 @@ use Rattle.nextest_engines.specs.Engines.{Test}
 use Rattle.filter_engine.specs.Engine.{filter_holds}
 use Rattle.nextest_settings.specs.Profiles.Meaning.{profile_meaning}
 use Rattle.nextest_settings.specs.Queries.{query_in, setting_value}
-use Rattle.nextest_settings.specs.declared.setting.Setting.TheVariants as at
+use Rattle.nextest_elements.specs.declared.setting.Setting.TheVariants as at
 use Rattle.rinqebo_session.specs.Asking.{IsFaultIn, IsKnownTest, fault_status}
 use Rattle.rinqebo_session.specs.Copies.{IsCopiedOut, IsNothingCopied}
 use Rattle.rinqebo_session.specs.Readings.{filter_meaning}

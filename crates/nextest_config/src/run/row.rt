@@ -3,7 +3,7 @@ ghost use Rattle.std.specs.Prelude.{◌≡◌, Some, IfOk, map, option_map, stri
 ghost use Rattle.nextest_scripts.specs.ScriptId.{script_text};
 ghost use Rattle.nextest_settings.specs.SettingValues.{by_kind, setting_value_view};
 ghost use Rattle.nextest_settings.specs.SettingsView.{slot_at, value_at, origin_at};
-ghost use Rattle.nextest_settings.specs.declared.setting.Setting.{Setting};
+ghost use Rattle.nextest_elements.specs.declared.setting.Setting.{Setting};
 ghost use Rattle.nextest_config.specs.RowView.{origin_view, row_value, row_source};
 ghost use Rattle.nextest_config.specs.ValueTexts.{value_text};
 

@@ -15,7 +15,7 @@ use Rattle.nextest_settings.specs.Platforms.{EvaluatedRule, rule_on}
 use Rattle.nextest_settings.specs.Profile.{Configured, EvaluatableModel, profile_of, profile_on}
 use Rattle.nextest_settings.specs.Queries.{deciding_override, setting_value}
 use Rattle.nextest_settings.specs.Settings.{is_set}
-use Rattle.nextest_settings.specs.declared.setting.Setting.TheVariants as at
+use Rattle.nextest_elements.specs.declared.setting.Setting.TheVariants as at
 use Rattle.nextest_sources.specs.InputFaults.{Each}
 use Rattle.nextest_tables.specs.FileTexts.{names_in}
 use Rattle.nextest_tables.specs.Written.{Name}

@@ -8,8 +8,8 @@ use Rattle.nextest_settings.specs.Profile.{EvaluatableModel}
 use Rattle.nextest_settings.specs.Queries.{deciding_override, setting_value, setting_origin, wrapping_rule}
 use Rattle.nextest_settings.specs.SettingsView.{value_at, origin_at, override_at, wrapper_at, wrapping_use_at}
 use Rattle.nextest_settings.specs.View.{override_text_meaning}
-use Rattle.nextest_settings.specs.declared.setting.Setting.{Setting}
-use Rattle.nextest_settings.specs.declared.setting.Setting.TheVariants as at
+use Rattle.nextest_elements.specs.declared.setting.Setting.{Setting}
+use Rattle.nextest_elements.specs.declared.setting.Setting.TheVariants as at
 use Rattle.nextest_settings.specs.declared.test_settings.TestSettings.{TestSettings}
 
 -- Settings are those that a profile gives to what is judged, by what filters mean.

@@ -1,10 +1,9 @@
 //! What a profile says whatever the platforms.
 use crate::fallback::fallback_of;
 use crate::gather::fields_of;
-use crate::setting::Setting;
 use crate::setting_value::SettingValue;
 use crate::values::{ProfileValues, values_of};
-use nextest_elements::{CustomTestGroup, JunitConfig, NextestRunMode, TestGroupConfig};
+use nextest_elements::{CustomTestGroup, JunitConfig, NextestRunMode, Setting, TestGroupConfig};
 use nextest_engines::{Filters, Specs};
 use nextest_inheritance::parent_of;
 use nextest_load::{LoadedConfig, ScriptConfig};

@@ -13,7 +13,7 @@ ghost use Rattle.nextest_rules.specs.Accepted.{IsAmong};
 ghost use Rattle.nextest_settings.specs.Engines.{meets_by};
 ghost use Rattle.nextest_settings.specs.Profile.{Configured, EarlyModel, EvaluatableModel, profile_of, profile_on};
 ghost use Rattle.nextest_settings.specs.Queries.{query_in, setting_value, custom_group_of, group_of};
-ghost use Rattle.nextest_settings.specs.declared.setting.Setting.TheVariants.{TestGroup};
+ghost use Rattle.nextest_elements.specs.declared.setting.Setting.TheVariants.{TestGroup};
 ghost use Rattle.nextest_sources.specs.Inputs.{SourceText};
 ghost use Rattle.nextest_tables.specs.FileTexts.{names_in};
 ghost use Rattle.nextest_tables.specs.Written.{Name};

@@ -4,8 +4,8 @@ use Rattle.std.specs.Prelude.{String, Vec}
 use Rattle.std.specs.List.{AllZip, list_any}
 use Rattle.std.specs.declared.alloc.Global.{Global}
 use Rattle.nextest_elements.specs.declared.run_mode.NextestRunMode.TheVariants as modes
-use Rattle.nextest_settings.specs.Settings.{settings}
-use Rattle.nextest_settings.specs.declared.setting.Setting.{Setting}
+use Rattle.nextest_elements.specs.Settings.{settings}
+use Rattle.nextest_elements.specs.declared.setting.Setting.{Setting}
 use Rattle.rinqebo_report.specs.OriginText.{after_prefix}
 use Rattle.rinqebo_report.specs.declared.report.Entry.{Entry}
 use Rattle.rinqebo_report.specs.declared.report.ListScripts.{ListScripts}

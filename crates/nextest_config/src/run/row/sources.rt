@@ -1,6 +1,6 @@
 //! What decides the settings of a test, as values of their own.
 ghost use Rattle.std.specs.Prelude.{◌≡◌, IfOk, map, option_map};
-ghost use Rattle.nextest_settings.specs.Settings.{settings};
+ghost use Rattle.nextest_elements.specs.Settings.{settings};
 ghost use Rattle.nextest_settings.specs.SettingsView.{origin_at};
 ghost use Rattle.nextest_settings.specs.SourceView.{setting_source_view};
 ghost use Rattle.nextest_config.specs.RowView.{origin_view};

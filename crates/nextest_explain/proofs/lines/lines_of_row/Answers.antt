@@ -2,7 +2,7 @@ use Rattle.std.proofs.Common.{◌∙◌, ap, refl}
 use Rattle.std.proofs.lemmas.List.{take_all}
 use Rattle.std.specs.List.{flat_map}
 use Rattle.nextest_config.specs.RowView.{row_view}
-use Rattle.nextest_settings.specs.Settings.{settings}
+use Rattle.nextest_elements.specs.Settings.{settings}
 use Rattle.nextest_explain.specs.Lines.{line_of}
 use Rattle.nextest_explain.proofs.LineLists.{lines_more}
 use Rattle.nextest_explain.proofs.lines.lines_of_row.Goals as goal

@@ -1,7 +1,7 @@
 use Rattle.std.proofs.Common.{◌≡◌, take, string_bytes}
 use Rattle.std.specs.List.{flat_map}
 use Rattle.nextest_config.specs.RowView.{row_view}
-use Rattle.nextest_settings.specs.Settings.{settings}
+use Rattle.nextest_elements.specs.Settings.{settings}
 use Rattle.nextest_explain.specs.Lines.{line_of}
 use Rattle.nextest_explain.proofs.lines.lines_of_row.Given as goal
 

@@ -1,7 +1,7 @@
 use Rattle.std.proofs.Common.{◌≡◌, Bool, true, false, not, Option, None, Some, ap, option_map, refl}
 use Rattle.std.specs.Bool.{then_some}
 use Rattle.nextest_settings.specs.SettingValues.{ValueByKind, by_kind, setting_value_view, stated_value}
-use Rattle.nextest_settings.specs.declared.setting.Setting.TheVariants as at
+use Rattle.nextest_elements.specs.declared.setting.Setting.TheVariants as at
 use Rattle.nextest_settings.specs.declared.setting_value.SettingValue.{SettingValue}
 use Rattle.nextest_settings.proofs.fallback.stated_value.Goals as goal
 

@@ -1,6 +1,7 @@
 use Rattle.std.proofs.Common.{map, ◌∷◌, [], is_some}
 use Rattle.nextest_rules.specs.Rules.{ScriptRuleUse}
-use Rattle.nextest_settings.specs.Settings.{settings, is_set}
+use Rattle.nextest_elements.specs.Settings.{settings}
+use Rattle.nextest_settings.specs.Settings.{is_set}
 use Rattle.nextest_settings.proofs.Rising.{all_rise, others_rise}
 use Rattle.nextest_settings.proofs.laws.law_evaluated_at_most_once.Goals as goal
 

@@ -1,7 +1,8 @@
 use Rattle.std.proofs.Common.{◌∙◌, ap, ◌++◌}
 use Rattle.nextest_settings.specs.Engines.{test_query_by}
 use Rattle.nextest_settings.specs.Pass.{slots_view}
-use Rattle.nextest_settings.specs.Settings.{settings, is_set}
+use Rattle.nextest_elements.specs.Settings.{settings}
+use Rattle.nextest_settings.specs.Settings.{is_set}
 use Rattle.nextest_settings.specs.View.{meant_override}
 use Rattle.nextest_settings.proofs.Listed.{winners-seen, all-told}
 use Rattle.nextest_settings.proofs.pass.winners.Goals as goal

@@ -1,5 +1,5 @@
 use Rattle.std.proofs.Common.{◌≡◌, map, take, string_bytes}
-use Rattle.nextest_settings.specs.Settings.{settings}
+use Rattle.nextest_elements.specs.Settings.{settings}
 use Rattle.rinqebo_request.specs.Keys.{key_text}
 use Rattle.rinqebo_request.proofs.keys.all_keys.Given as goal
 

@@ -1,7 +1,7 @@
 use Rattle.std.proofs.Common.{◌≡◌, ◌<◌, true, refl, length, arith, rules}
 use Rattle.std.proofs.lemmas.Option.{slice_get_within}
-use Rattle.nextest_settings.specs.Settings.{settings, index_of}
-use Rattle.nextest_settings.proofs.StandsOnce.{at_place}
+use Rattle.nextest_elements.specs.Settings.{settings, index_of}
+use Rattle.nextest_elements.proofs.StandsOnce.{at_place}
 use Rattle.rinqebo_request.specs.Keys.{key_text}
 use Rattle.rinqebo_request.proofs.KeyLists.{none_more}
 use Rattle.rinqebo_request.proofs.keys.setting_of.Goals as goal

@@ -1,4 +1,4 @@
-use Rattle.nextest_settings.specs.Settings.{settings}
+use Rattle.nextest_elements.specs.Settings.{settings}
 use Rattle.rinqebo_request.specs.Keys.{key_text}
 use Rattle.rinqebo_request.proofs.KeyLists.{NoneHas}
 use Rattle.rinqebo_request.proofs.keys.setting_of.Given as goal

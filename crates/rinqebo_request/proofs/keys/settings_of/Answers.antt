@@ -1,7 +1,7 @@
 use Rattle.std.proofs.Common.{◌≡◌, Global, List, Vec, ap, filter, refl, subst, sym, ◌∙◌}
 use Rattle.std.proofs.lemmas.List.{take_all}
-use Rattle.nextest_settings.specs.Settings.{settings}
-use Rattle.nextest_settings.specs.declared.setting.Setting.{Setting}
+use Rattle.nextest_elements.specs.Settings.{settings}
+use Rattle.nextest_elements.specs.declared.setting.Setting.{Setting}
 use Rattle.rinqebo_request.specs.Keys.{is_named_by}
 use Rattle.rinqebo_request.proofs.KeyLists.{filter_more, filter_same}
 use Rattle.rinqebo_request.proofs.keys.settings_of.Goals as goal

@@ -1,5 +1,5 @@
 use Rattle.std.proofs.Common.{◌≡◌, filter, take}
-use Rattle.nextest_settings.specs.Settings.{settings}
+use Rattle.nextest_elements.specs.Settings.{settings}
 use Rattle.rinqebo_request.specs.Keys.{is_named_by}
 use Rattle.rinqebo_request.proofs.keys.settings_of.Given as goal
 

@@ -1,6 +1,6 @@
 use Rattle.std.proofs.Common.{◌∙◌, refl}
 use Rattle.std.proofs.lemmas.List.{take_all}
-use Rattle.nextest_settings.specs.Settings.{settings}
+use Rattle.nextest_elements.specs.Settings.{settings}
 use Rattle.rinqebo_resolve.proofs.Taking.{one_more}
 use Rattle.rinqebo_resolve.proofs.asking.all_settings.Goals as goal
 

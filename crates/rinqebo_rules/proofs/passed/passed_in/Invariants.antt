@@ -4,7 +4,7 @@ use Rattle.nextest_elements.specs.declared.run_mode.NextestRunMode.{NextestRunMo
 use Rattle.nextest_settings.specs.Profiles.SettingsOf.{AreSettingsOf}
 use Rattle.nextest_settings.specs.Deciding.{QueryContext}
 use Rattle.nextest_settings.specs.Profile.{EvaluatableModel}
-use Rattle.nextest_settings.specs.Settings.{settings}
+use Rattle.nextest_elements.specs.Settings.{settings}
 use Rattle.nextest_settings.specs.View.{meant_override}
 use Rattle.rinqebo_rules.specs.Passed.{IsPassed}
 use Rattle.rinqebo_rules.proofs.passed.passed_in.Given as goal

@@ -1,8 +1,8 @@
 use Rattle.std.proofs.Common.{◌≡◌, Bool, Global, List, Vec, ap, filter, refl, subst, sym, ◌∙◌}
 use Rattle.std.proofs.lemmas.List.{take_all}
-use Rattle.nextest_settings.specs.Settings.{settings}
+use Rattle.nextest_elements.specs.Settings.{settings}
 use Rattle.nextest_settings.specs.SettingsView.{origin_at}
-use Rattle.nextest_settings.specs.declared.setting.Setting.{Setting}
+use Rattle.nextest_elements.specs.declared.setting.Setting.{Setting}
 use Rattle.rinqebo_rules.specs.Settings.{is_by_rule}
 use Rattle.rinqebo_rules.proofs.RowsMore.{filter_more, filter_same}
 use Rattle.rinqebo_rules.proofs.rows.decided_settings.Goals as goal

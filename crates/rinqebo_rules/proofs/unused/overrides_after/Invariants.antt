@@ -3,7 +3,7 @@ use Rattle.std.specs.List.{AllZip}
 use Rattle.nextest_elements.specs.declared.run_mode.NextestRunMode.{NextestRunMode}
 use Rattle.nextest_settings.specs.Deciding.{QueryContext}
 use Rattle.nextest_settings.specs.Engines.{test_query_by}
-use Rattle.nextest_settings.specs.Settings.{settings}
+use Rattle.nextest_elements.specs.Settings.{settings}
 use Rattle.nextest_settings.specs.View.{meant_override}
 use Rattle.rinqebo_rules.specs.BinaryRules.{AreKnownIn}
 use Rattle.rinqebo_rules.specs.Passed.{IsPassed, IsWritten}

@@ -1,6 +1,6 @@
 use Rattle.nextest_elements.specs.declared.run_mode.NextestRunMode.TheVariants.{Test}
 use Rattle.nextest_settings.specs.Queries.{query_in, test_query, written_value, custom_group_of}
-use Rattle.nextest_settings.specs.declared.setting.Setting.TheVariants.{TestGroup}
+use Rattle.nextest_elements.specs.declared.setting.Setting.TheVariants.{TestGroup}
 use Rattle.nextest_inheritance.proofs.WithDefault.{all_different}
 use Rattle.nextest_load.proofs.Closing.{groups_closed}
 use Rattle.nextest_settings.proofs.IsAmong.{group_known}

@@ -1,6 +1,6 @@
 use Rattle.std.proofs.Common.{◌∙◌, ap, Some}
 use Rattle.nextest_settings.specs.SettingsView.{origin_at}
-use Rattle.nextest_settings.specs.declared.setting.Setting.TheVariants as at
+use Rattle.nextest_elements.specs.declared.setting.Setting.TheVariants as at
 use Rattle.nextest_settings.proofs.ValueBy.{slot_is}
 use Rattle.nextest_config.specs.RowView.{origin_view}
 use Rattle.nextest_config.proofs.run.row.row_of.Goals as goal

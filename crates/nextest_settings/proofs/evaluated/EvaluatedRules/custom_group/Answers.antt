@@ -3,7 +3,7 @@ use Rattle.nextest_elements.specs.declared.run_mode.NextestRunMode.TheVariants.{
 use Rattle.nextest_settings.specs.Engines.{test_query_by}
 use Rattle.nextest_settings.specs.Queries.{deciding_override, custom_group}
 use Rattle.nextest_settings.specs.View.{meant_override}
-use Rattle.nextest_settings.specs.declared.setting.Setting.TheVariants as at
+use Rattle.nextest_elements.specs.declared.setting.Setting.TheVariants as at
 use Rattle.nextest_settings.proofs.LastGroup.{group_by_slot}
 use Rattle.nextest_settings.proofs.ValueBy.{slot_is}
 use Rattle.nextest_settings.proofs.evaluated.EvaluatedRules.custom_group.Goals as goal

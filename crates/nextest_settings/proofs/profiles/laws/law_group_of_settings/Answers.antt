@@ -1,6 +1,6 @@
 use Rattle.nextest_elements.specs.declared.run_mode.NextestRunMode.TheVariants.{Test}
 use Rattle.nextest_settings.specs.Queries.{query_in, written_value, custom_group_of}
-use Rattle.nextest_settings.specs.declared.setting.Setting.TheVariants.{TestGroup}
+use Rattle.nextest_elements.specs.declared.setting.Setting.TheVariants.{TestGroup}
 use Rattle.nextest_settings.proofs.profiles.IsLastGroup.{last_given, gets_by_name, whole_group}
 use Rattle.nextest_settings.proofs.profiles.laws.law_group_of_settings.Goals as goal
 

@@ -1,6 +1,6 @@
 use Rattle.std.proofs.Common.{ap, option_map}
 use Rattle.nextest_settings.specs.SettingValues.{by_kind}
-use Rattle.nextest_settings.specs.declared.setting.Setting.TheVariants as at
+use Rattle.nextest_elements.specs.declared.setting.Setting.TheVariants as at
 use Rattle.nextest_settings.proofs.test_settings.TestSettingsSettingValues.value.Goals as goal
 
 pub returns-in-Priority : goal.returns-in-Priority

@@ -1,5 +1,5 @@
 use Rattle.std.proofs.Common.{◌∙◌, codes, refl, sym}
-use Rattle.nextest_settings.specs.Settings.{settings}
+use Rattle.nextest_elements.specs.Settings.{settings}
 use Rattle.rinqebo_changes.specs.Sides.RunRows.{is_below, is_of_setting}
 use Rattle.rinqebo_changes.proofs.sides.RunRows.{none_more, none_passes, some_passes}
 use Rattle.rinqebo_changes.proofs.sides.rows.is_of_tests.Goals as goal

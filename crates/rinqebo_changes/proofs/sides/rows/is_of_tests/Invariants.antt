@@ -1,6 +1,6 @@
 use Rattle.std.proofs.Common.{◌≡◌, false, take}
 use Rattle.std.specs.List.{list_any}
-use Rattle.nextest_settings.specs.Settings.{settings}
+use Rattle.nextest_elements.specs.Settings.{settings}
 use Rattle.rinqebo_changes.specs.Sides.RunRows.{is_of_setting}
 use Rattle.rinqebo_changes.proofs.sides.rows.is_of_tests.Given as goal
 

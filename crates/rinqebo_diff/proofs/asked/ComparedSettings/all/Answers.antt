@@ -1,6 +1,6 @@
 use Rattle.std.proofs.Common.{◌∙◌, refl, subst, sym}
 use Rattle.std.proofs.lemmas.List.{take_all}
-use Rattle.nextest_settings.specs.Settings.{settings}
+use Rattle.nextest_elements.specs.Settings.{settings}
 use Rattle.rinqebo_changes.proofs.Zips.{taken_one}
 use Rattle.rinqebo_diff.specs.Asked.{AreAll}
 use Rattle.rinqebo_diff.proofs.asked.ComparedSettings.all.Goals as goal

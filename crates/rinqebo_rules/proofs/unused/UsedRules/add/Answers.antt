@@ -3,7 +3,7 @@ use Rattle.std.specs.List.{AllZip}
 use Rattle.nextest_engines.specs.Engines.{test_view}
 use Rattle.nextest_settings.specs.Profiles.Meaning.{profile_meaning}
 use Rattle.nextest_settings.specs.Queries.{query_in, test_query}
-use Rattle.nextest_settings.specs.Settings.{settings}
+use Rattle.nextest_elements.specs.Settings.{settings}
 use Rattle.nextest_settings.specs.View.{evaluated_override_view, evaluated_script_rule_view}
 use Rattle.rinqebo_rules.proofs.BinaryRules.{overrides_known, script_rules_known}
 use Rattle.rinqebo_rules.proofs.Marked.{marks_alike}

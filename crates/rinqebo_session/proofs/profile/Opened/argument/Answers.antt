@@ -1,7 +1,7 @@
 use Rattle.std.proofs.Common.{◌∙◌, ap, slice_get}
 use Rattle.std.specs.Prelude.{option_and_then}
 use Rattle.nextest_engines.specs.Engines.{test_view}
-use Rattle.nextest_settings.specs.declared.setting.Setting.TheVariants.{RunExtraArgs}
+use Rattle.nextest_elements.specs.declared.setting.Setting.TheVariants.{RunExtraArgs}
 use Rattle.rinqebo_session.proofs.profile.Opened.argument.Goals as goal
 
 pub returns-clause-ok : goal.returns-clause-ok

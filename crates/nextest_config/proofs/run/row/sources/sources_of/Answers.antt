@@ -1,6 +1,6 @@
 use Rattle.std.proofs.Common.{◌≡◌, map, option_map, subst, refl}
 use Rattle.std.proofs.lemmas.List.{take_all}
-use Rattle.nextest_settings.specs.Settings.{settings}
+use Rattle.nextest_elements.specs.Settings.{settings}
 use Rattle.nextest_settings.specs.SettingsView.{origin_at}
 use Rattle.nextest_config.specs.RowView.{origin_view}
 use Rattle.nextest_config.proofs.AreRows.{sources_more}

@@ -1,5 +1,5 @@
 use Rattle.std.proofs.Common.{◌≡◌, map, option_map, take}
-use Rattle.nextest_settings.specs.Settings.{settings}
+use Rattle.nextest_elements.specs.Settings.{settings}
 use Rattle.nextest_settings.specs.SettingsView.{origin_at}
 use Rattle.nextest_config.specs.RowView.{origin_view}
 use Rattle.nextest_config.proofs.run.row.sources.sources_of.Given as goal

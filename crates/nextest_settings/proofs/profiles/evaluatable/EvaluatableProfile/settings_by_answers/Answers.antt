@@ -6,7 +6,7 @@ use Rattle.nextest_settings.specs.Binaries.{AreKnownFor, EvaluatesOpen, binary_a
 use Rattle.nextest_settings.specs.Deciding.{asked_from}
 use Rattle.nextest_settings.specs.Queries.{query_in}
 use Rattle.nextest_settings.specs.View.{KnowsRunWrappers}
-use Rattle.nextest_settings.specs.declared.setting.Setting.TheVariants.{RunWrapper}
+use Rattle.nextest_elements.specs.declared.setting.Setting.TheVariants.{RunWrapper}
 use Rattle.nextest_tables.specs.FileTexts.{names_in, IsIn}
 use Rattle.nextest_settings.specs.Profiles.Known.{evaluated_use}
 use Rattle.nextest_settings.specs.Profiles.Meaning.{profile_meaning}

@@ -3,7 +3,7 @@ use Rattle.nextest_engines.specs.Engines.{test_view}
 use Rattle.nextest_rules.specs.Accepted.{IfWritten}
 use Rattle.nextest_settings.specs.Queries.{query_in, evaluated_for_test}
 use Rattle.nextest_rules.specs.Rules.{at_name}
-use Rattle.nextest_settings.specs.declared.setting.Setting.TheVariants.{RunWrapper}
+use Rattle.nextest_elements.specs.declared.setting.Setting.TheVariants.{RunWrapper}
 use Rattle.nextest_settings.specs.View.{KnowsRunWrappers}
 use Rattle.nextest_tables.specs.FileTexts.{names_in, IsIn}
 use Rattle.nextest_settings.specs.Profiles.Known.{evaluated_use}

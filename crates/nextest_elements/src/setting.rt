@@ -1,9 +1,9 @@
 //! What a test has settings for.
 ghost use Rattle.std.specs.Prelude.{◌≡◌};
-ghost use Rattle.nextest_settings.specs.Settings.{setting_name};
+ghost use Rattle.nextest_elements.specs.Settings.{setting_name};
 
 /// How many settings there are.
-pub(crate) const SETTING_COUNT: usize = 15;
+pub const SETTING_COUNT: usize = 15;
 
 /// What a test has settings for, in the order in which they are shown.
 #[derive(Clone, Copy, Debug, PartialEq, Eq)]

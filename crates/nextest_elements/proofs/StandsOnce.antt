@@ -1,8 +1,8 @@
 -- Each setting stands once among all of them.
 use Rattle.std.proofs.Common.{◌≡◌, ℕ, zero, suc, ◌+◌, List, [], ◌∷◌, Some, slice_get, refl, sym, arith}
-use Rattle.nextest_settings.specs.Settings.{settings, index_of, StandsOnce}
-use Rattle.nextest_settings.specs.declared.setting.Setting.{Setting}
-use Rattle.nextest_settings.specs.declared.setting.Setting.TheVariants as at
+use Rattle.nextest_elements.specs.Settings.{settings, index_of, StandsOnce}
+use Rattle.nextest_elements.specs.declared.setting.Setting.{Setting}
+use Rattle.nextest_elements.specs.declared.setting.Setting.TheVariants as at
 
 -- settings whose places are counted on from a first one
 abbrev PlacesFrom : ℕ → List Setting → Type 0
