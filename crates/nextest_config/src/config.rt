@@ -23,16 +23,13 @@ use nextest_inheritance::{DEFAULT_MIRI_PROFILE, DEFAULT_PROFILE};
 use nextest_load::{LoadedConfig, MergedProfile};
 use nextest_settings::EarlyProfile;
 use nextest_sources::{
-    ConfigFileSelection, ConfigInputs, ConfigParseError, ConfigPaths, ConfigWarnings,
+    CONFIG_PATH, ConfigFileSelection, ConfigInputs, ConfigParseError, ConfigPaths, ConfigWarnings,
     DefaultConfigWarnings, FileInput, ToolConfigFile,
 };
 use nextest_tables::DEFAULT_CONFIG;
 use std::alloc::{AllocError, Global};
 use std::collections::{BTreeMap, BTreeSet};
 use std::marker::Model;
-
-/// Where a repository's configuration lies, below the root of its workspace.
-pub const CONFIG_PATH: &str = ".config/nextest.toml";
 
 /// What the names of nextest's environment variables begin with.
 pub const ENVIRONMENT_PREFIX: &str = "NEXTEST";

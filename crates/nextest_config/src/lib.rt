@@ -33,7 +33,7 @@ mod profile_error;
 pub mod run;
 
 // What this crate has itself.
-pub use config::{CONFIG_PATH, DEFAULT_PROFILES, ENVIRONMENT_PREFIX, NextestConfig};
+pub use config::{DEFAULT_PROFILES, ENVIRONMENT_PREFIX, NextestConfig};
 pub use profile_error::{ProfileError, ProfileNotFound};
 
 // The engines, and their queries.
@@ -46,11 +46,12 @@ pub use nextest_engines::{
 pub use nextest_elements::{ConfigIdentifier, IdentifierOwner, InvalidIdentifier, ToolName};
 pub use nextest_inheritance::InheritsError;
 pub use nextest_sources::{
-    ConfigCompileError, ConfigCompileErrorKind, ConfigCompileSection, ConfigFileSelection,
-    ConfigParseError, ConfigParseErrorKind, ConfigPath, ConfigPaths, ConfigSource,
-    ConfigSourceKind, ConfigWarning, ConfigWarnings, DefaultConfigWarnings, FileInput,
-    ProfileListScriptUsesRunFiltersError, ProfileScriptErrors, ProfileUnknownScriptError,
-    ProfileWrongConfigScriptTypeError, ReadOutcome, ToolConfigFile, UnknownTestGroupError,
+    CONFIG_PATH, ConfigCompileError, ConfigCompileErrorKind, ConfigCompileSection,
+    ConfigFileSelection, ConfigParseError, ConfigParseErrorKind, ConfigPath, ConfigPaths,
+    ConfigSource, ConfigSourceKind, ConfigWarning, ConfigWarnings, DefaultConfigWarnings,
+    FileInput, ProfileListScriptUsesRunFiltersError, ProfileScriptErrors,
+    ProfileUnknownScriptError, ProfileWrongConfigScriptTypeError, ReadOutcome, ToolConfigFile,
+    UnknownTestGroupError,
 };
 pub use nextest_tree::{Element, ElementCause, ElementFault, Tree, Walk};
 
@@ -62,7 +63,7 @@ pub use nextest_rules::{
 pub use nextest_settings::{
     CompiledDefaultFilter, CompiledDefaultFilterSection, EarlyProfile, EvaluatableProfile,
     EvaluatedOverride, EvaluatedRule, EvaluatedRules, EvaluatedScriptRule, GroupLookup,
-    KnownGroups, ListSettings, PrecomputedGroupMembership, Setting, SettingSource, SettingValue,
+    KnownGroups, ListSettings, PrecomputedGroupMembership, SettingSource, SettingValue,
     SettingValues, SetupScript, SetupScriptIter, SetupScripts, TestSettings, TrackSource,
 };
 pub use nextest_tables::{OverrideOutputs, OverrideRuns, OverrideSettings};
@@ -86,9 +87,9 @@ pub use nextest_settings::{
 pub use nextest_elements::{
     BenchConfig, BenchOverride, ConfigExperimental, CustomTestGroup, FinalStatusLevel, FlakyResult,
     GlobalTimeout, JunitConfig, JunitFlakyFailStatus, JunitImpl, JunitOverride, LeakTimeout,
-    LeakTimeoutResult, MaxFail, NextestRunMode, ReportSkipPolicy, RetryPolicy, SlowTimeout,
-    SlowTimeoutResult, StatusLevel, TestGroup, TestGroupConfig, TestOutputDisplay, TestPriority,
-    TestThreads, ThreadsRequired,
+    LeakTimeoutResult, MaxFail, NextestRunMode, ReportSkipPolicy, RetryPolicy, Setting,
+    SlowTimeout, SlowTimeoutResult, StatusLevel, TestGroup, TestGroupConfig, TestOutputDisplay,
+    TestPriority, TestThreads, ThreadsRequired,
 };
 pub use nextest_load::ScriptConfig;
 pub use nextest_scripts::{

@@ -37,7 +37,6 @@ pub use laws::{
     law_first_script_rule, law_rule_order,
 };
 pub use list_settings::ListSettings;
-pub use nextest_elements::Setting;
 pub use pass::matches_test;
 pub use platforms::{
     EvaluatedOverride, EvaluatedRule, EvaluatedScriptRule, evaluate_overrides,

@@ -24,7 +24,7 @@ pub use inputs::{SourceInput, collect_inputs, refuse_duplicates, repository_sour
 pub use one_line::OneLine;
 pub use reader::FileReader;
 pub use sources::{
-    ConfigFileSelection, ConfigInputs, ConfigPath, ConfigPaths, ConfigSource, ConfigSourceKind,
-    FileInput, ReadOutcome, ToolConfigFile,
+    CONFIG_PATH, ConfigFileSelection, ConfigInputs, ConfigPath, ConfigPaths, ConfigSource,
+    ConfigSourceKind, FileInput, ReadOutcome, ToolConfigFile,
 };
 pub use warnings::{ConfigWarning, ConfigWarnings, DefaultConfigWarnings};

@@ -13,6 +13,9 @@ use std::alloc::{AllocError, Global};
 use std::collections::BTreeSet;
 use std::fmt;
 
+/// Where a repository's configuration lies, below the root of its workspace.
+pub const CONFIG_PATH: &str = ".config/nextest.toml";
+
 /// The resolved path of a configuration file, as it was passed in.
 #[derive(Clone, Debug, Drop, PartialEq, Eq, Hash)]
 pub struct ConfigPath {

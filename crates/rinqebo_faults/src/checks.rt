@@ -1,5 +1,5 @@
 //! The checks of a load, and the sources on which its refusals depend.
-use nextest_config::ConfigParseErrorKind;
+use nextest_sources::ConfigParseErrorKind;
 
 /// A check that a load makes of a source, in the order in which it makes them; the last one is of
 /// all sources together.

@@ -1,7 +1,7 @@
 //! Documents as texts, with edits.
 use crate::edits::{Edits, mark_below, mark_of_source};
-use nextest_config::Tree;
 use nextest_places::Step;
+use nextest_tree::Tree;
 use rinqebo_report::{Scalar, Value, value_text};
 use std::alloc::{AllocError, Global};
 use std::collections::BTreeMap;

@@ -1,8 +1,8 @@
 //! What files are read without where a value is refused.
 use crate::edits::Edits;
 use crate::tables::key_at;
-use nextest_config::ElementCause;
 use nextest_places::Step;
+use nextest_tree::ElementCause;
 use std::alloc::AllocError;
 
 /// A group.

@@ -6,9 +6,9 @@ use crate::hints::word_hint;
 use crate::shapes::shape_at;
 use crate::spellings::spelling;
 use crate::tables::{called, keys_note, unknown_key_help, unknown_key_text};
-use nextest_config::{ElementCause, Tree};
 use nextest_places::Step;
 use nextest_shape::file_shape;
+use nextest_tree::{ElementCause, Tree};
 use std::alloc::{AllocError, Global};
 
 /// What is wrong with a value of a wrong kind: the kind that it has.

@@ -1,9 +1,9 @@
 //! What the shape of a file wants at a path, in words.
 use crate::shapes::{key_of, shape_at};
 use crate::words::{listed, quoted};
-use nextest_config::ElementCause;
 use nextest_places::Step;
 use nextest_shape::{Field, Pattern, Shape, TextShape, file_shape};
+use nextest_tree::ElementCause;
 use std::alloc::{AllocError, Global};
 
 /// The longest duration, in words.

@@ -1,6 +1,7 @@
 //! Features that are not enabled: what needs them, and how to switch them on.
-use nextest_config::{ConfigExperimental, Tree};
+use nextest_elements::ConfigExperimental;
 use nextest_places::Step;
+use nextest_tree::Tree;
 use std::alloc::{AllocError, Global};
 
 /// The value at a key of a tree, if there is one.

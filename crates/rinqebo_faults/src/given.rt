@@ -1,6 +1,6 @@
 //! What is at a path of a file, in words.
-use nextest_config::Tree;
 use nextest_places::Step;
+use nextest_tree::Tree;
 use std::collections::BTreeMap;
 
 /// What is at a key, a name or a position below a tree.

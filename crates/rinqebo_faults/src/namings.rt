@@ -2,8 +2,8 @@
 use crate::given::profiles_of;
 use crate::paths::profile_path;
 use crate::tables::longer;
-use nextest_config::Tree;
 use nextest_places::Step;
+use nextest_tree::Tree;
 use std::alloc::{AllocError, Global};
 use std::collections::BTreeMap;
 

@@ -5,9 +5,10 @@ ghost use Rattle.rinqebo_faults.specs.Paths.{shown_path};
 
 use crate::refused_values::{Fault, is_at_fault};
 use crate::ways::ways_of;
-use nextest_config::{ConfigCompileSection, Tree};
 use nextest_places::Step;
 use nextest_shape::Shape;
+use nextest_sources::ConfigCompileSection;
+use nextest_tree::Tree;
 use std::alloc::{AllocError, Global};
 
 /// Adds a step to a text, as findings show it.

@@ -3,11 +3,15 @@ use crate::edits::Edits;
 use crate::given::profiles_of;
 use crate::namings::naming_mark;
 use crate::paths::{parent_path, path_with, profile_path, section_path};
-use nextest_config::{
-    ConfigCompileError, ConfigCompileErrorKind, ConfigCompileSection, CustomTestGroup,
-    InheritsError, ProfileScriptErrors, ScriptId, Tree, UnknownTestGroupError,
-};
+use nextest_elements::CustomTestGroup;
+use nextest_inheritance::InheritsError;
 use nextest_places::Step;
+use nextest_scripts::ScriptId;
+use nextest_sources::{
+    ConfigCompileError, ConfigCompileErrorKind, ConfigCompileSection, ProfileScriptErrors,
+    UnknownTestGroupError,
+};
+use nextest_tree::Tree;
 use std::alloc::{AllocError, Global};
 use std::collections::{BTreeMap, BTreeSet};
 

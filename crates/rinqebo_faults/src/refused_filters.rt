@@ -4,7 +4,7 @@ use crate::hints::near_name;
 use crate::regex_words::regex_fault;
 use crate::worded::{Stopped, Worded, first_of};
 use crate::words::owned;
-use filter_engine::FaultKind;
+use filter_language::FaultKind;
 use std::alloc::{AllocError, Global};
 
 /// The predicates of filters.

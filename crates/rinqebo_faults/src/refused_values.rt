@@ -1,8 +1,8 @@
 //! Whether the shape of a file refuses a value: which of several values a refusal is about.
 use crate::shapes::{key_of, shape_at};
 use crate::ways::Way;
-use nextest_config::{ElementCause, Tree};
 use nextest_shape::Shape;
+use nextest_tree::{ElementCause, Tree};
 
 /// What is said of what a text spells in a file.
 #[derive(Clone, Copy)]

@@ -1,7 +1,7 @@
 //! How a value that is refused is meant to be spelled, where that is plain.
 use crate::words::is_number;
-use nextest_config::Tree;
 use nextest_shape::{Pattern, Shape, TextShape};
+use nextest_tree::Tree;
 use std::alloc::{AllocError, Global};
 
 /// A kind of value that a key takes.

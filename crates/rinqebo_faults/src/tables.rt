@@ -3,9 +3,9 @@ use crate::headers::header_text;
 use crate::hints::{name_by_front, near_name};
 use crate::shapes::shape_at;
 use crate::words::{is_among, quoted};
-use nextest_config::Tree;
 use nextest_places::Step;
 use nextest_shape::{Shape, file_shape, keys_of};
+use nextest_tree::Tree;
 use rinqebo_report::{HelpPlace, nearest_name};
 use std::alloc::{AllocError, Global};
 

@@ -1,7 +1,7 @@
 //! The paths of a document that a text spells: keys and positions with dots between them. Keys may
 //! have dots of their own, so it may spell several.
-use nextest_config::Tree;
 use nextest_places::Step;
+use nextest_tree::Tree;
 use std::alloc::{AllocError, Global};
 use std::collections::BTreeMap;
 

@@ -1,7 +1,7 @@
 //! What a lower file makes of a table that lacks a key.
 use crate::findings::SourceAt;
-use nextest_config::Tree;
 use nextest_places::Step;
+use nextest_tree::Tree;
 use rinqebo_faults::{called, kind_words, tree_at};
 use rinqebo_request::{Layer, SpanPart, part_place};
 use std::alloc::{AllocError, Global};

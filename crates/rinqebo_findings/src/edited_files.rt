@@ -1,9 +1,10 @@
 //! The files of a run with edits, and the load of these.
-use nextest_config::{
-    ConfigExperimental, ConfigFileSelection, ConfigParseError, ConfigPath, DefaultConfigWarnings,
-    FileInput, LoadedConfig, ReadOutcome, ToolConfigFile,
+use nextest_elements::ConfigExperimental;
+use nextest_load::LoadedConfig;
+use nextest_sources::{
+    ConfigFileSelection, ConfigInputs, ConfigParseError, ConfigPath, DefaultConfigWarnings,
+    FileInput, ReadOutcome, ToolConfigFile,
 };
-use nextest_sources::ConfigInputs;
 use rinqebo_faults::{Edits, edited_document};
 use rinqebo_load::Session;
 use rinqebo_request::{Gathered, Layer};

@@ -8,8 +8,8 @@ use crate::findings::{SourceAt, with_note};
 use crate::given::value_at;
 use crate::paths::spelled_path;
 use crate::refused::Refused;
-use nextest_config::{ElementCause, ElementFault, Tree};
 use nextest_places::Step;
+use nextest_tree::{ElementCause, ElementFault, Tree};
 use rinqebo_faults::{
     Fault, advice, element_notes, keys_note, lack_text, path_with, script_header, stray_key,
     wanted, wrong_element,

@@ -2,7 +2,7 @@
 ghost use Rattle.std.specs.Prelude.{◌≡◌, IfOk, map};
 ghost use Rattle.rinqebo_findings.specs.Shown.{facts};
 
-use nextest_config::{FileInput, ReadOutcome};
+use nextest_sources::{FileInput, ReadOutcome};
 use rinqebo_faults::{Mark, lines_of};
 use rinqebo_report::{FilePlace, Finding, Sign, SourceLine};
 use rinqebo_request::Gathered;

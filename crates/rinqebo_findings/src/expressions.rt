@@ -1,9 +1,9 @@
 //! Filters and platforms that are refused, with the part that is wrong.
 use crate::refused::Refused;
-use nextest_config::{
-    ConfigCompileError, ConfigCompileErrorKind, ConfigCompileSection, Refusal, Tree,
-};
+use nextest_engines::Refusal;
 use nextest_places::Step;
+use nextest_sources::{ConfigCompileError, ConfigCompileErrorKind, ConfigCompileSection};
+use nextest_tree::Tree;
 use rinqebo_faults::{
     Stopped, Worded, char_span, expression, filter_help, filter_words, owned, platform_words,
     range_in,

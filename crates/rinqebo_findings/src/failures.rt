@@ -5,8 +5,9 @@ ghost use Rattle.rinqebo_findings.specs.Failures.{IsFailureToFind, IsLoadFailure
 
 use crate::findings::{Label, SourceAt, finding_at, warning_findings};
 use crate::report::{report_of, report_of_refusal};
-use nextest_config::{ConfigParseError, DefaultConfigWarnings, ProfileNotFound};
+use nextest_config::ProfileNotFound;
 use nextest_places::Step;
+use nextest_sources::{ConfigParseError, DefaultConfigWarnings};
 use rinqebo_load::{Failure, FoundTest, Missing, Session, TestFault};
 use rinqebo_report::{Code, Content, Finding, Level, Report};
 use rinqebo_request::{RequestedTest, SpanPart, text_hint};

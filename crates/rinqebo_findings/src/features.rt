@@ -1,6 +1,6 @@
 //! Findings of features that are not enabled.
 use crate::refused::Refused;
-use nextest_config::ConfigExperimental;
+use nextest_elements::ConfigExperimental;
 use rinqebo_faults::{feature_help, feature_path};
 use rinqebo_report::Code;
 use rinqebo_request::SpanPart;

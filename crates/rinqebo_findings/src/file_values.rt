@@ -6,10 +6,10 @@ ghost use Rattle.rinqebo_findings.specs.Faults.{ReportDocument, ReportFiles, Rep
 
 use crate::unknown_keys::key_findings;
 use crate::value_faults::{ValueFault, fault_findings, with_strays};
-use nextest_config::Tree;
 use nextest_documents::lay_over;
 use nextest_shape::{file_faults, unknown_keys};
 use nextest_tables::default_tree;
+use nextest_tree::Tree;
 use rinqebo_faults::{Edits, leave_out_element};
 use rinqebo_load::Session;
 use rinqebo_report::Finding;

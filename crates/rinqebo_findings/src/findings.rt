@@ -7,8 +7,9 @@ ghost use Rattle.rinqebo_findings.specs.Subjects.{subject};
 
 use crate::given::value_at;
 use crate::paths::spelled_path;
-use nextest_config::{ConfigSource, ConfigWarning, DefaultConfigWarnings, Tree};
 use nextest_places::{PathSpans, Step};
+use nextest_sources::{ConfigSource, ConfigWarning, DefaultConfigWarnings};
+use nextest_tree::Tree;
 use rinqebo_faults::{
     Fault, header_text, keys_note, path_text, profile_path, unknown_key_help, unknown_key_text,
 };

@@ -1,7 +1,8 @@
 //! Findings of groups and scripts that a file may not define.
 use crate::refused::Refused;
-use nextest_config::{CustomTestGroup, ScriptId};
+use nextest_elements::CustomTestGroup;
 use nextest_places::Step;
+use nextest_scripts::ScriptId;
 use rinqebo_faults::script_path;
 use rinqebo_report::{Code, SourceKind};
 use std::alloc::{AllocError, Global};

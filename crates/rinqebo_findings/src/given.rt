@@ -1,7 +1,7 @@
 //! What is at a path of the files of a run.
 use crate::findings::SourceAt;
-use nextest_config::Tree;
 use nextest_places::Step;
+use nextest_tree::Tree;
 use rinqebo_faults::tree_at;
 
 /// The value at a path in a source. A source that does not write the path is refused for what is

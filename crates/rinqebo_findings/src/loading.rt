@@ -8,7 +8,7 @@ ghost use Rattle.rinqebo_load.specs.Sessions.{files_view, readings, IsLoadedFrom
 ghost use Rattle.rinqebo_load.specs.Warned.{warnings_met};
 
 use crate::failures::{failure_of_load, failure_of_profile};
-use nextest_config::DefaultConfigWarnings;
+use nextest_sources::DefaultConfigWarnings;
 use rinqebo_load::{Config, Failure, Session, has_profile, missing_profile};
 use std::alloc::Global;
 

@@ -2,8 +2,8 @@
 //! that it switches on, archives, and how running tests are ended.
 use crate::findings::{SourceAt, UNKNOWN_KEY, key_warning};
 use crate::refused::Refused;
-use nextest_config::Tree;
 use nextest_places::Step;
+use nextest_tree::Tree;
 use rinqebo_faults::{
     LeftOut, called, is_among, is_number, kind_words, known_note, near_hint, path_with,
     profile_path, quoted,

@@ -1,7 +1,7 @@
 //! Findings of parents that profiles may not have.
 use crate::cycles::add_cycle;
 use crate::refused::Refused;
-use nextest_config::InheritsError;
+use nextest_inheritance::InheritsError;
 use rinqebo_faults::{near_hint, parent_path, profiles_of, quoted};
 use rinqebo_report::Code;
 use rinqebo_request::Layer;

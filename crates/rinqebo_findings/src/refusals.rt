@@ -9,11 +9,12 @@ use crate::not_toml::add_no_document;
 use crate::parents::add_parents;
 use crate::refused::Refused;
 use crate::unknown_names::{add_script_errors, add_unknown_groups};
-use nextest_config::{
-    ConfigCompileError, ConfigCompileErrorKind, ConfigParseError, ConfigParseErrorKind, ConfigPath,
-    IdentifierOwner, ReadOutcome, ToolName,
-};
+use nextest_elements::{IdentifierOwner, ToolName};
 use nextest_places::Step;
+use nextest_sources::{
+    ConfigCompileError, ConfigCompileErrorKind, ConfigParseError, ConfigParseErrorKind, ConfigPath,
+    ReadOutcome,
+};
 use rinqebo_faults::{LeftOut, section_path};
 use rinqebo_load::Session;
 use rinqebo_report::{Code, Finding};

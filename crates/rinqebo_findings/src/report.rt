@@ -7,7 +7,7 @@ ghost use Rattle.rinqebo_findings.specs.Faults.{ShowsFaults};
 use crate::excerpts::with_lines;
 use crate::nextest_forms::nextest_findings;
 use crate::search::{Found, all_findings};
-use nextest_config::{ConfigParseError, DefaultConfigWarnings};
+use nextest_sources::{ConfigParseError, DefaultConfigWarnings};
 use rinqebo_faults::in_order;
 use rinqebo_load::Session;
 use rinqebo_report::{Content, Finding, Report, Unreached};

@@ -7,12 +7,12 @@ use crate::edited_files::Reading;
 use crate::file_values::value_findings;
 use crate::findings::other_warning_findings;
 use crate::refusals::{refusal_findings, refused_place};
-use nextest_config::{
-    ConfigExperimental, ConfigParseError, ConfigParseErrorKind, DefaultConfigWarnings, Tree,
-};
 use nextest_documents::{TextFault, lay_over, tree_from_text};
+use nextest_elements::ConfigExperimental;
 use nextest_shape::file_faults;
+use nextest_sources::{ConfigParseError, ConfigParseErrorKind, DefaultConfigWarnings};
 use nextest_tables::default_tree;
+use nextest_tree::Tree;
 use rinqebo_faults::{
     Check, Edits, Scope, check_of, leave_out_foreign_groups, leave_out_groups,
     leave_out_old_scripts, leave_out_parents, leave_out_script_rules, leave_out_scripts,

@@ -5,9 +5,9 @@ ghost use Rattle.rinqebo_findings.specs.Faults.{IsInPlace, IsInPlaceOf, IsKeyFin
 
 use crate::findings::{SourceAt, unknown_key_at};
 use crate::value_faults::{ValueFault, is_key_in};
-use nextest_config::ElementCause;
 use nextest_places::Step;
 use nextest_shape::FoundFault;
+use nextest_tree::ElementCause;
 use rinqebo_faults::{mark_below, mark_of};
 use rinqebo_load::Session;
 use rinqebo_report::Finding;

@@ -1,9 +1,9 @@
 //! Findings of rules that name groups and scripts which they may not.
 use crate::refused::Refused;
-use nextest_config::{
+use nextest_places::Step;
+use nextest_sources::{
     ProfileScriptErrors, ProfileWrongConfigScriptTypeError, UnknownTestGroupError,
 };
-use nextest_places::Step;
 use rinqebo_faults::{Namings, is_among, names_of, near_hint, quoted};
 use rinqebo_report::Code;
 use std::alloc::{AllocError, Global};

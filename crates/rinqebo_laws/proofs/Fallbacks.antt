@@ -15,7 +15,7 @@ use Rattle.rinqebo_report.specs.declared.origin.Origin.{Origin}
 use Rattle.rinqebo_report.specs.declared.origin.Origin.TheVariants as kinds
 use Rattle.rinqebo_report.specs.declared.report.Rule.{Rule}
 use Rattle.rinqebo_report.specs.declared.report.SettingRow.{SettingRow}
-use Rattle.rinqebo_request.specs.Keys.{key_name, key_table}
+use Rattle.rinqebo_keys.specs.Keys.{key_name, key_table}
 use Rattle.rinqebo_rules.specs.AsWritten.{node_alone}
 use Rattle.rinqebo_rules.specs.Origins.{PathStep}
 use Rattle.rinqebo_rules.specs.ProfileOrigins.{AreProfileOrigins, built_in, is_rule_key, written}

@@ -6,7 +6,7 @@ use Rattle.nextest_elements.specs.declared.run_mode.NextestRunMode.TheVariants a
 use Rattle.nextest_elements.specs.Settings.{setting_name, settings}
 use Rattle.nextest_elements.specs.declared.setting.Setting.{Setting}
 use Rattle.nextest_elements.specs.declared.setting.Setting.TheVariants as at
-use Rattle.rinqebo_request.specs.Keys.{key_text}
+use Rattle.rinqebo_keys.specs.Keys.{key_text}
 
 -- the first setting with a key
 abbrev setting_at : NextestRunMode → List ℕ → Option Setting

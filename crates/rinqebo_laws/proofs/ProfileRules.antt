@@ -28,7 +28,7 @@ use Rattle.rinqebo_report.specs.declared.report.Rule.{Rule}
 use Rattle.rinqebo_report.specs.declared.report.SettingRow.{SettingRow}
 use Rattle.rinqebo_report.specs.declared.report.TestRows.{TestRows}
 use Rattle.rinqebo_report.specs.declared.report.Verdict.TheVariants as verdicts
-use Rattle.rinqebo_request.specs.Keys.{key_name, key_table, key_text}
+use Rattle.rinqebo_keys.specs.Keys.{key_name, key_table, key_text}
 use Rattle.rinqebo_request.specs.declared.request.RequestedSettings.{RequestedSettings}
 use Rattle.rinqebo_request.specs.declared.request.RequestedSettings.TheVariants as requests
 use Rattle.rinqebo_rules.specs.Origins.{key_steps}

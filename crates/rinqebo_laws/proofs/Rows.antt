@@ -17,7 +17,7 @@ use Rattle.rinqebo_laws.proofs.Texts.{boolean_texts, same_alone, texts_alike}
 use Rattle.rinqebo_laws.specs.Rows.{SaySame}
 use Rattle.rinqebo_laws.specs.Shown.{origin_shown}
 use Rattle.rinqebo_report.specs.declared.report.SettingRow.{SettingRow}
-use Rattle.rinqebo_request.specs.Keys.{key_name, key_table, key_text}
+use Rattle.rinqebo_keys.specs.Keys.{key_name, key_table, key_text}
 use Rattle.rinqebo_rules.specs.AsWritten.{IsValueAsWritten, node_alone}
 use Rattle.rinqebo_rules.specs.Origins.{key_steps}
 use Rattle.rinqebo_rules.specs.Reported.{value_view}

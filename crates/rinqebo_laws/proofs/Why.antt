@@ -23,7 +23,7 @@ use Rattle.rinqebo_laws.specs.Reasons.{DecidesAt, HasOriginsOf, HaveOneResult, I
 use Rattle.rinqebo_report.specs.declared.report.Rule.{Rule}
 use Rattle.rinqebo_report.specs.declared.report.SettingRow.{SettingRow}
 use Rattle.rinqebo_report.specs.declared.report.Verdict.TheVariants as told
-use Rattle.rinqebo_request.specs.Keys.{key_name, key_table}
+use Rattle.rinqebo_keys.specs.Keys.{key_name, key_table}
 use Rattle.rinqebo_rules.specs.AsWritten.{IsValueAsWritten, node_alone, origin_node}
 use Rattle.rinqebo_rules.specs.Origins.{IsOriginOf, key_steps}
 use Rattle.rinqebo_rules.specs.ProfileOrigins.{AreProfileOrigins}

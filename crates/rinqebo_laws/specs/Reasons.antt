@@ -18,7 +18,7 @@ use Rattle.rinqebo_report.specs.declared.origin.Origin.TheVariants as kinds
 use Rattle.rinqebo_report.specs.declared.report.Rule.{Rule}
 use Rattle.rinqebo_report.specs.declared.report.SettingRow.{SettingRow}
 use Rattle.rinqebo_report.specs.declared.report.Verdict.TheVariants as verdicts
-use Rattle.rinqebo_request.specs.Keys.{key_name, key_table}
+use Rattle.rinqebo_keys.specs.Keys.{key_name, key_table}
 use Rattle.rinqebo_rules.specs.Origins.{IsOriginOf, PathStep, key_steps}
 use Rattle.rinqebo_rules.specs.RulePlaces.{Place}
 use Rattle.rinqebo_rules.specs.TestOrigins.{AreOriginsBy}

@@ -1,2 +1,1 @@
-pub mod KeyLists
 mod FeatureNames

@@ -1,5 +1,5 @@
 //! What the program reads from its process: variables, and whether its streams are terminals.
-use nextest_config::ConfigExperimental;
+use nextest_elements::ConfigExperimental;
 
 /// The variables that override all files in a run of nextest. A variable that is not set is absent.
 #[derive(Debug, Default, Drop)]

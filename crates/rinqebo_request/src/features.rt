@@ -3,7 +3,7 @@ ghost use Rattle.std.specs.Prelude.{◌≡◌, ◌≢◌, ◌↔◌, Contains, I
 ghost use Rattle.nextest_elements.specs.Experimental.{experimental_text};
 ghost use Rattle.nextest_elements.specs.declared.experimental.ConfigExperimental.{ConfigExperimental};
 
-use nextest_config::ConfigExperimental;
+use nextest_elements::ConfigExperimental;
 
 /// All features.
 pub const FEATURES: [ConfigExperimental; 2] = [

@@ -1,6 +1,6 @@
 //! Hints: the known name that a user most likely means by a wrong one.
-use crate::keys::{RUNS, SettingKey, all_keys, setting_of};
-use nextest_config::NextestRunMode;
+use nextest_elements::NextestRunMode;
+use rinqebo_keys::{RUNS, SettingKey, all_keys, setting_of};
 use rinqebo_report::nearest_name;
 use std::alloc::{AllocError, Global};
 

@@ -8,7 +8,6 @@ mod environment;
 mod features;
 mod files;
 mod hints;
-mod keys;
 mod named;
 mod notes;
 pub mod options;
@@ -25,7 +24,6 @@ pub use files::{
     target_text, text_at,
 };
 pub use hints::{name_hint, text_hint};
-pub use keys::{RUNS, SettingKey, all_keys, setting_of, settings_of};
 pub use named::{FileOption, NamedFile, ProfileSource};
 pub use notes::notes_of;
 pub use request::{

@@ -1,7 +1,7 @@
 //! Notes on variables that override all files.
 use crate::environment::{Environment, set};
 use crate::request::{Question, Request};
-use nextest_config::Setting;
+use nextest_elements::Setting;
 use std::alloc::{AllocError, Global};
 
 /// Whether the leaves below keys include the value of a setting. Without a key, they are all

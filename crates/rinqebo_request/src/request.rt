@@ -3,7 +3,8 @@ ghost use Rattle.std.specs.Prelude.{◌≡◌};
 ghost use Rattle.rinqebo_request.specs.Files.Gathering.{is_discovered, list_named};
 
 use crate::named::ProfileSource;
-use nextest_config::{BuildPlatform, ConfigExperimental, NextestRunMode, Setting, ToolName};
+use nextest_elements::{ConfigExperimental, NextestRunMode, Setting, ToolName};
+use nextest_engines::BuildPlatform;
 use rinqebo_report::{Code, Format, Paper};
 use std::collections::BTreeSet;
 

@@ -1,10 +1,10 @@
 //! The rows of a test that a command line names: whether the test runs, and settings.
 use crate::hints::key_hint;
-use crate::keys::{RUNS, run_key, setting_of, settings_of};
 use crate::request::RequestedSettings;
 use crate::words::{ParseStop, usage};
 use clap::ArgMatches;
-use nextest_config::{NextestRunMode, Setting};
+use nextest_elements::{NextestRunMode, Setting};
+use rinqebo_keys::{RUNS, run_key, setting_of, settings_of};
 use std::alloc::{AllocError, Global};
 
 /// Why a key names no setting of a test.

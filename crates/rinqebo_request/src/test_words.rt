@@ -1,6 +1,5 @@
 //! Reads the command line of `explain`, which is about one test.
 use crate::environment::Environment;
-use crate::keys::RUNS;
 use crate::request::{ListFile, Question, Request, RequestedTest};
 use crate::rows::{explained_rows, one_setting};
 use crate::words::{
@@ -8,7 +7,8 @@ use crate::words::{
     target_engines, usage,
 };
 use clap::ArgMatches;
-use nextest_config::BuildPlatform;
+use nextest_engines::BuildPlatform;
+use rinqebo_keys::RUNS;
 use std::alloc::Global;
 
 /// The words that name a test: the id of its binary, if there is one, and its name.

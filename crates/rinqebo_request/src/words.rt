@@ -13,7 +13,7 @@ use crate::rows::listed_rows;
 use crate::test_words::explain_request;
 use clap::ArgMatches;
 use clap::error::ErrorKind;
-use nextest_config::{ConfigExperimental, InvalidIdentifier, NextestRunMode, ToolName};
+use nextest_elements::{ConfigExperimental, InvalidIdentifier, NextestRunMode, ToolName};
 use rinqebo_report::{CODES, Code, Colour, Format, Paper, find_code};
 use std::alloc::{AllocError, Global};
 use std::collections::BTreeSet;

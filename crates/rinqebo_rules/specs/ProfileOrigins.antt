@@ -11,7 +11,7 @@ use Rattle.rinqebo_request.specs.declared.files.layers.Layer.{Layer}
 use Rattle.rinqebo_report.specs.declared.origin.Origin.{Origin}
 use Rattle.rinqebo_report.specs.declared.origin.Origin.TheVariants as kinds
 use Rattle.rinqebo_report.specs.declared.origin.Part.TheVariants as parts
-use Rattle.rinqebo_request.specs.Keys.{is_report}
+use Rattle.rinqebo_keys.specs.Keys.{is_report}
 use Rattle.rinqebo_rules.specs.Origins.{IsWrittenAt, key_steps}
 use Rattle.rinqebo_rules.specs.Trees.{trees_of}
 

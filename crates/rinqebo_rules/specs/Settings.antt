@@ -10,7 +10,7 @@ use Rattle.rinqebo_rules.specs.TestOrigins.{Basis, AreOriginsBy}
 use Rattle.rinqebo_request.specs.declared.request.RequestedSettings.{RequestedSettings}
 use Rattle.rinqebo_request.specs.declared.request.RequestedSettings.TheVariants as asks
 use Rattle.rinqebo_report.specs.declared.report.SettingRow.{SettingRow}
-use Rattle.rinqebo_request.specs.Keys.{key_name, key_table, key_text}
+use Rattle.rinqebo_keys.specs.Keys.{key_name, key_table, key_text}
 use Rattle.rinqebo_rules.specs.AsWritten.{IsValueAsWritten, node_alone}
 use Rattle.rinqebo_rules.specs.Origins.{key_steps}
 use Rattle.rinqebo_rules.specs.Reported.{reported_of, value_view}

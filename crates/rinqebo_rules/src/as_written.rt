@@ -6,8 +6,8 @@ ghost use Rattle.nextest_tree.specs.View.{tree_view};
 ghost use Rattle.rinqebo_rules.specs.AsWritten.{member_text, IsReadAs, WritesDuration, IsAsWritten, IsScalarAsWritten, IsMemberAsWritten, IsValueAsWritten};
 ghost use Rattle.rinqebo_rules.specs.Reported.{scalar_view, field_view, value_view};
 
-use nextest_config::Tree;
 use nextest_elements::parse_duration;
+use nextest_tree::Tree;
 use rinqebo_report::{ReportedDuration, Scalar, TableMember, Value};
 use std::alloc::{AllocError, Global};
 

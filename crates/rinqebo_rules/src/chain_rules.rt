@@ -13,7 +13,7 @@ use crate::holds::{override_holds, script_rule_holds};
 use crate::rule_places::RulePlace;
 use crate::verdict::RuleFacts;
 use filter_engine::{NextestFilters, NextestTally};
-use nextest_config::{NextestRunMode, Setting};
+use nextest_elements::{NextestRunMode, Setting};
 use nextest_settings::{
     EvaluatedOverride, EvaluatedRules, EvaluatedScriptRule, SettingValue, SettingValues,
 };

@@ -6,9 +6,8 @@ ghost use Rattle.rinqebo_rules.specs.Conditions.{is_met_by, reported_by_facts, r
 
 use crate::verdict::RuleFacts;
 use filter_engine::NextestFilters;
-use nextest_config::{
-    BuildPlatform, BuildPlatforms, EvalContext, Filters, PlatformSpecs, Specs, TestQuery,
-};
+use nextest_engines::{BuildPlatform, BuildPlatforms, EvalContext, Filters, Specs, TestQuery};
+use nextest_rules::PlatformSpecs;
 use nextest_settings::runs_on;
 use platform_language::{Platform, TargetSpecs};
 use rinqebo_report::ConditionAnswer;

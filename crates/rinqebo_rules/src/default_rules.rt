@@ -13,7 +13,7 @@ use crate::rule_places::RulePlace;
 use crate::runs::NUMBER;
 use crate::verdict::RuleFacts;
 use filter_engine::{NextestFilters, NextestTally};
-use nextest_config::{BuildPlatform, BuildPlatforms, EvalContext, Filters, TestQuery};
+use nextest_engines::{BuildPlatform, BuildPlatforms, EvalContext, Filters, TestQuery};
 use nextest_settings::{EvaluatedOverride, EvaluatedRules, runs_on};
 use platform_language::{Platform, TargetSpecs};
 use rinqebo_report::ConditionAnswer;

@@ -19,8 +19,9 @@ use filter_engine::{Field, NextestFilters};
 use nextest_engines::BuildPlatform;
 use nextest_settings::{EvaluatableProfile, EvaluatedOverride, EvaluatedScriptRule};
 use platform_language::TargetSpecs;
+use rinqebo_keys::SettingKey;
 use rinqebo_report::Origin;
-use rinqebo_request::{Layer, SettingKey};
+use rinqebo_request::Layer;
 use std::alloc::{AllocError, Global};
 
 /// A profile on the platforms of a build.

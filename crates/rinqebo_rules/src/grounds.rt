@@ -9,11 +9,12 @@ ghost use Rattle.rinqebo_rules.specs.Trees.{trees_of};
 
 use crate::rule_places::setting_path;
 use crate::trees::trees_of;
-use nextest_config::Tree;
 use nextest_documents::{Grounds, grounds_of};
 use nextest_places::Step;
+use nextest_tree::Tree;
+use rinqebo_keys::SettingKey;
 use rinqebo_report::{Origin, Part, Written};
-use rinqebo_request::{Layer, SettingKey, path_place};
+use rinqebo_request::{Layer, path_place};
 use std::alloc::{AllocError, Global};
 
 /// The keys that lead to a setting in the table of a profile.

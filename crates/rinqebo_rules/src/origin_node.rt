@@ -6,9 +6,10 @@ ghost use Rattle.rinqebo_rules.specs.AsWritten.{are_defaults, node_alone, node_a
 ghost use Rattle.rinqebo_rules.specs.Origins.{key, position, key_steps, part_steps, profile_steps};
 
 use crate::spelled::tree_of;
-use nextest_config::Tree;
+use nextest_tree::Tree;
+use rinqebo_keys::SettingKey;
 use rinqebo_report::{Origin, Part, Written};
-use rinqebo_request::{Layer, SettingKey};
+use rinqebo_request::Layer;
 
 /// The rule at a position of a list of a profile.
 fn rule_node<'t>(profile: &'t Tree, list: &str, index: usize) -> Option<&'t Tree>

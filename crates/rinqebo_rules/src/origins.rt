@@ -9,8 +9,9 @@ ghost use Rattle.rinqebo_rules.specs.RulePlaces.{place_view};
 
 use crate::{RuleKind, RulePlace, profile_grounds};
 use nextest_sources::{ConfigSource, ConfigSourceKind};
+use rinqebo_keys::SettingKey;
 use rinqebo_report::{Origin, Written};
-use rinqebo_request::{Layer, SettingKey};
+use rinqebo_request::Layer;
 use std::alloc::{AllocError, Global};
 use std::marker::Model;
 

@@ -14,10 +14,10 @@ ghost use Rattle.rinqebo_rules.specs.Passed.{HasNoId, IsPassed, IsRuledOut, IsWr
 use crate::origins::is_same_source;
 use crate::rows::source_of;
 use crate::values::SourcedSettings;
-use nextest_elements::NextestRunMode;
+use nextest_elements::{NextestRunMode, Setting};
 use nextest_engines::{Filters, Specs};
 use nextest_rules::OverrideId;
-use nextest_settings::{EvaluatedOverride, Setting, SettingSource, SettingValues};
+use nextest_settings::{EvaluatedOverride, SettingSource, SettingValues};
 use std::alloc::{AllocError, Global};
 
 /// Whether two ids are of one override.

@@ -6,10 +6,11 @@ ghost use Rattle.rinqebo_rules.specs.SettingValues.{reported_value};
 ghost use Rattle.rinqebo_rules.specs.Reported.{ReportedScalar, ReportedValue, scalar_view, field_view, value_view, reported_count, one, one_if, one_if_true, retry_fields, is_plain, reported_fixed, reported_retries, reported_slow, reported_leak, reported_threads};
 
 use crate::as_written::value_as_written;
-use nextest_config::{
-    LeakTimeout, RetryPolicy, SlowTimeout, TestGroup, TestPriority, ThreadsRequired, Tree,
+use nextest_elements::{
+    LeakTimeout, RetryPolicy, SlowTimeout, TestGroup, TestPriority, ThreadsRequired,
 };
 use nextest_settings::SettingValue;
+use nextest_tree::Tree;
 use rinqebo_report::{ReportedDuration, Scalar, TableMember, Value};
 use std::alloc::{AllocError, Global};
 

@@ -13,12 +13,13 @@ use crate::origin_node::node_of_origins;
 use crate::origins::Origins;
 use crate::values::SourcedSettings;
 use crate::{RulePlace, built_in, reported_if_set};
-use nextest_elements::NextestRunMode;
+use nextest_elements::{NextestRunMode, Setting};
 use nextest_engines::{Filters, Specs};
 use nextest_rules::ScriptRuleId;
-use nextest_settings::{Setting, SettingSource, SettingValues};
+use nextest_settings::{SettingSource, SettingValues};
+use rinqebo_keys::SettingKey;
 use rinqebo_report::{Origin, SettingRow};
-use rinqebo_request::{RequestedSettings, SettingKey};
+use rinqebo_request::RequestedSettings;
 use std::alloc::{AllocError, Global};
 
 /// Whether a rule decides a setting of a test.

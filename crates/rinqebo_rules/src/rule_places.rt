@@ -5,10 +5,13 @@ ghost use Rattle.nextest_rules.specs.View.{id_view, script_rule_id_view};
 ghost use Rattle.rinqebo_rules.specs.Origins.{PathStep, IsOriginOf, key_steps, profile_steps, step_view};
 ghost use Rattle.rinqebo_rules.specs.RulePlaces.{list_of, part_of, place_view, id_place, script_place};
 
-use nextest_config::{ConfigSource, OverrideId, ScriptRuleId, Tree};
 use nextest_places::Step;
+use nextest_rules::{OverrideId, ScriptRuleId};
+use nextest_sources::ConfigSource;
+use nextest_tree::Tree;
+use rinqebo_keys::SettingKey;
 use rinqebo_report::{Origin, Part, Written};
-use rinqebo_request::{Layer, SettingKey, path_place, place_of, rule_at};
+use rinqebo_request::{Layer, path_place, place_of, rule_at};
 use std::alloc::{AllocError, Global};
 
 /// The kinds of rules.

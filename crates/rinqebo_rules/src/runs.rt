@@ -16,8 +16,9 @@ use crate::origins::Origins;
 use nextest_engines::{BuildPlatform, Filters, Specs, TestQuery};
 use nextest_rules::OverrideId;
 use nextest_settings::{EvaluatableProfile, EvaluatedOverride};
+use rinqebo_keys::{RUNS, SettingKey};
 use rinqebo_report::{Origin, Scalar, SettingRow, Value};
-use rinqebo_request::{RUNS, RequestedSettings, SettingKey};
+use rinqebo_request::RequestedSettings;
 use std::alloc::{AllocError, Global};
 
 /// The number under which the default filter is counted among rules, which no rule has.

@@ -8,8 +8,8 @@ ghost use Rattle.rinqebo_rules.specs.LeafValue.{are_texts};
 ghost use Rattle.rinqebo_rules.specs.Origins.{key, position, step_view};
 ghost use Rattle.rinqebo_rules.specs.SpelledLeaves.{all_leaves, all_spots, file_spots, item_leaves, leaves_in, member_leaves, profile_spots, spelled_view, spot_leaves, spot_node, spot_view, spots_at, value_at};
 
-use nextest_config::Tree;
 use nextest_places::Step;
+use nextest_tree::Tree;
 use rinqebo_request::Layer;
 use std::alloc::{AllocError, Global};
 use std::collections::BTreeMap;

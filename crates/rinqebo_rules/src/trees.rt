@@ -3,7 +3,7 @@ ghost use Rattle.std.specs.Prelude.{◌≡◌, IfOk};
 ghost use Rattle.nextest_documents.specs.Layers.{layers_view};
 ghost use Rattle.rinqebo_rules.specs.Trees.{trees_of};
 
-use nextest_config::Tree;
+use nextest_tree::Tree;
 use rinqebo_request::Layer;
 use std::alloc::{AllocError, Global};
 

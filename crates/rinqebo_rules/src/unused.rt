@@ -18,12 +18,10 @@ ghost use Rattle.rinqebo_rules.specs.Unused.{AreUsedIn, AreUnusedIn, is_used, un
 use crate::holds::{override_holds, script_rule_holds};
 use crate::passed::{is_ruled_out, passed_in, some_written};
 use crate::values::SourcedSettings;
-use nextest_elements::NextestRunMode;
+use nextest_elements::{NextestRunMode, Setting};
 use nextest_engines::{EvalContext, Filters, Specs, TestQuery};
 use nextest_rules::{OverrideId, ScriptRuleId};
-use nextest_settings::{
-    BinaryAnswers, EvaluatableProfile, EvaluatedOverride, EvaluatedScriptRule, Setting,
-};
+use nextest_settings::{BinaryAnswers, EvaluatableProfile, EvaluatedOverride, EvaluatedScriptRule};
 use std::alloc::{AllocError, Global};
 
 /// The ids of the rules of a profile that hold for none of some tests.

@@ -4,8 +4,9 @@ ghost use Rattle.std.specs.Option.{option_copied};
 ghost use Rattle.rinqebo_rules.specs.Origins.{key_steps};
 ghost use Rattle.rinqebo_run.specs.ConditionTexts.{default_text, filter_text, HasText, host_text, IsAbsent, table_text, target_text, text_at};
 
+use rinqebo_keys::SettingKey;
 use rinqebo_report::{Condition, ConditionAnswer, Origin};
-use rinqebo_request::{Layer, SettingKey};
+use rinqebo_request::Layer;
 use rinqebo_rules::{default_filter_key, node_alone};
 use std::alloc::{AllocError, Global};
 

@@ -1,9 +1,10 @@
 //! Warnings of settings of the JUnit report that files write and that have no effect.
 use nextest_config::{DefaultConfigWarnings, NextestRunMode, Setting};
 use rinqebo_findings::warning_findings;
+use rinqebo_keys::SettingKey;
 use rinqebo_load::Session;
 use rinqebo_report::{Asked, Code, Content, Finding, Level, Origin, SettingRow, Written};
-use rinqebo_request::{Layer, SettingKey};
+use rinqebo_request::Layer;
 use rinqebo_rules::idle_grounds;
 use std::alloc::{AllocError, Global};
 

@@ -20,11 +20,12 @@ use crate::list::Profile;
 use nextest_documents::layer_of;
 use nextest_elements::{CustomTestGroup, TestGroupConfig};
 use nextest_places::Step;
+use rinqebo_keys::SettingKey;
 use rinqebo_objects::{
     BoundOrigins, GroupOrigins, NameOrigins, ObjectOrigins, OutputOrigins, RunOrigins,
 };
 use rinqebo_report::Origin;
-use rinqebo_request::{Layer, SettingKey, path_place};
+use rinqebo_request::{Layer, path_place};
 use rinqebo_rules::{RulePlace, built_in, filtering_place, profile_grounds, trees_of};
 use std::alloc::{AllocError, Global};
 use std::collections::BTreeMap;

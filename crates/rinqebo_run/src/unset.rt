@@ -2,8 +2,9 @@
 use crate::answer::Answer;
 use nextest_config::NextestRunMode;
 use nextest_shape::{Shape, file_shape, keys_of};
+use rinqebo_keys::all_keys;
 use rinqebo_report::{Content, Format, Report};
-use rinqebo_request::{Question, Request, all_keys, text_hint};
+use rinqebo_request::{Question, Request, text_hint};
 use std::alloc::{AllocError, Global};
 
 /// The keys beside those of a profile.

@@ -6,7 +6,7 @@ ghost use Rattle.nextest_load.specs.Config.{config_parents};
 ghost use Rattle.nextest_settings.specs.Settings.{fallback_of};
 ghost use Rattle.nextest_tables.specs.FileTexts.{names_in, IsIn};
 ghost use Rattle.rinqebo_report.specs.declared.report.Verdict.TheVariants as told;
-ghost use Rattle.rinqebo_request.specs.Keys.{key_name, key_table, key_text};
+ghost use Rattle.rinqebo_keys.specs.Keys.{key_name, key_table, key_text};
 ghost use Rattle.rinqebo_rules.specs.Conditions.{is_met_by, filter_matches};
 ghost use Rattle.rinqebo_run.specs.ListedBy.{read_by};
 ghost use Rattle.rinqebo_run.specs.Reasons.{page_verdict, AreRulesReportedHere, AreReportedWith, HasNoConditions, IsRuleAsWritten, IsRuleReported, or_built_in};
@@ -32,9 +32,10 @@ use nextest_config::{
     BuildPlatforms, DefaultConfigWarnings, Filters, NextestRunMode, Setting, TestQuery,
 };
 use platform_language::Platform;
+use rinqebo_keys::SettingKey;
 use rinqebo_load::{Config, Failure, FoundTest, Session, chain_of_profile};
 use rinqebo_report::{Content, Origin, Rule, TestId, Verdict};
-use rinqebo_request::{Layer, SettingKey};
+use rinqebo_request::Layer;
 use rinqebo_rules::{
     Asking, SettingRule, node_alone, profile_grounds, reported_if_set, reported_platform,
     rules_for, verdicts_of,

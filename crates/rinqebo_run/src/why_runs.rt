@@ -26,9 +26,10 @@ use crate::profile::{Early, early_profile};
 use crate::reporting::answer_on_test;
 use crate::why::{first_and_others, named_test, reported_verdict};
 use nextest_config::DefaultConfigWarnings;
+use rinqebo_keys::RUNS;
 use rinqebo_load::{Config, Failure, FoundTest, Session, chain_of_profile};
 use rinqebo_report::{ConditionAnswer, Content, Rule, Scalar, Value, Verdict};
-use rinqebo_request::{Layer, RUNS};
+use rinqebo_request::Layer;
 use rinqebo_rules::{
     RuleVerdict, SettingRule, default_filter_key, filter_rules, is_matched_by_default,
     profile_grounds, verdicts_of,

@@ -11,12 +11,12 @@ mod sources;
 mod values;
 
 use nextest_elements::{
-    FlakyResult, JunitFlakyFailStatus, LeakTimeout, ReportSkipPolicy, RetryPolicy, SlowTimeout,
-    TestGroup, TestOutputDisplay, TestPriority, ThreadsRequired,
+    FlakyResult, JunitFlakyFailStatus, LeakTimeout, ReportSkipPolicy, RetryPolicy, Setting,
+    SlowTimeout, TestGroup, TestOutputDisplay, TestPriority, ThreadsRequired,
 };
 use nextest_engines::{Filters, Specs};
 use nextest_scripts::ScriptId;
-use nextest_settings::{Setting, SettingSource, SettingValue, TestSettings};
+use nextest_settings::{SettingSource, SettingValue, TestSettings};
 use nextest_sources::ConfigSource;
 use sources::sources_of;
 use std::alloc::{AllocError, Global};

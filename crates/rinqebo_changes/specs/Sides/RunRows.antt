@@ -13,7 +13,7 @@ use Rattle.rinqebo_report.specs.declared.report.ListWrapper.{ListWrapper}
 use Rattle.rinqebo_report.specs.declared.report.SettingRow.{SettingRow}
 use Rattle.rinqebo_report.specs.declared.value.Scalar.TheVariants as scalars
 use Rattle.rinqebo_report.specs.declared.value.Value.TheVariants as values
-use Rattle.rinqebo_request.specs.Keys.{key_text}
+use Rattle.rinqebo_keys.specs.Keys.{key_text}
 
 -- whether a text is what follows a whole key: nothing, or a dot and more
 abbrev pub is_end : List ℕ → Bool

@@ -2,12 +2,12 @@
 //! setting for, setup scripts, and what wraps binaries while they list their tests.
 ghost use Rattle.std.specs.Prelude.{◌≡◌, IfOk, OnOk, filter, string_bytes};
 ghost use Rattle.std.specs.List.{AllZip};
-ghost use Rattle.rinqebo_request.specs.Keys.{key_text};
+ghost use Rattle.rinqebo_keys.specs.Keys.{key_text};
 ghost use Rattle.rinqebo_changes.specs.Sides.RunRows.{is_end, is_below, is_of_setting, is_of_tests, is_of_run, IsEntryRow, AddsEntry, IsSetupRow, IsWrapperRow, AreRunRows};
 
-use nextest_config::{NextestRunMode, Setting};
+use nextest_elements::{NextestRunMode, Setting};
+use rinqebo_keys::SettingKey;
 use rinqebo_report::{Entry, ListScripts, ListWrapper, Scalar, SettingRow, Value};
-use rinqebo_request::SettingKey;
 use std::alloc::{AllocError, Global};
 
 /// The key of the setup scripts that run, in their order.

@@ -4,8 +4,9 @@ ghost use Rattle.toml.specs.View.{view};
 ghost use Rattle.nextest_places.specs.Spans.Spans.{IsDocumentOf};
 ghost use Rattle.rinqebo_request.specs.Files.Layers.{text_read};
 
-use nextest_config::{ReadOutcome, Tree};
 use nextest_places::{ColumnUnit, PathSpans, Places, TextPosition, position_at};
+use nextest_sources::ReadOutcome;
+use nextest_tree::Tree;
 use std::alloc::{AllocError, Global};
 use toml::Value;
 

@@ -7,7 +7,8 @@ ghost use Rattle.rinqebo_request.specs.Files.Layers.{layer_tree, layer_view, lay
 ghost use Rattle.rinqebo_request.specs.declared.files.gathering.Gathered.{Gathered};
 
 use crate::files::layers::Layer;
-use nextest_config::{ConfigExperimental, Tree};
+use nextest_elements::ConfigExperimental;
+use nextest_tree::Tree;
 use rinqebo_forms::features_by;
 use std::alloc::AllocError;
 use std::collections::BTreeSet;

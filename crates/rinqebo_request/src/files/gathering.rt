@@ -9,10 +9,10 @@ use crate::environment::Environment;
 use crate::files::root::root_above;
 use crate::named::{FileOption, NamedFile};
 use crate::request::{ConfigFile, FileOptions, ListFile, Request, ToolFile};
-use nextest_config::{
-    CONFIG_PATH, ConfigPath, ConfigPaths, FileInput, ReadOutcome, ToolConfigFile, join_paths,
+use nextest_scripts::join_paths;
+use nextest_sources::{
+    CONFIG_PATH, ConfigPath, ConfigPaths, FileInput, FileReader, ReadOutcome, ToolConfigFile,
 };
-use nextest_sources::FileReader;
 use std::alloc::{AllocError, Global};
 use thiserror::Error;
 

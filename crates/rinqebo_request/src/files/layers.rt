@@ -7,11 +7,11 @@ ghost use Rattle.rinqebo_request.specs.Files.Origins.{HasNoFile, IsFileAt, repor
 
 use crate::files::document::{NoDocument, read_places};
 use crate::files::gathering::Gathered;
-use nextest_config::{
-    ConfigPath, ConfigSource, ConfigSourceKind, FileInput, IdentifierOwner, ToolConfigFile, Tree,
-};
+use nextest_elements::IdentifierOwner;
 use nextest_places::PathSpans;
+use nextest_sources::{ConfigPath, ConfigSource, ConfigSourceKind, FileInput, ToolConfigFile};
 use nextest_tables::default_tree;
+use nextest_tree::Tree;
 use rinqebo_report::{Source, SourceKind};
 use std::alloc::{AllocError, Global};
 

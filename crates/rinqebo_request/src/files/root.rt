@@ -1,6 +1,6 @@
 //! The root of a workspace, looked for from a folder upward.
-use nextest_config::{CONFIG_PATH, ReadOutcome, join_paths};
-use nextest_sources::FileReader;
+use nextest_scripts::join_paths;
+use nextest_sources::{CONFIG_PATH, FileReader, ReadOutcome};
 use rinqebo_forms::tree_of;
 use std::alloc::{AllocError, Global};
 

@@ -6,8 +6,9 @@ ghost use Rattle.nextest_settings.specs.SourceView.{setting_source_view};
 ghost use Rattle.nextest_config.specs.RowView.{origin_view};
 
 use crate::run::row::PlainSource;
+use nextest_elements::Setting;
 use nextest_engines::{Filters, Specs};
-use nextest_settings::{Setting, SettingSource, TestSettings};
+use nextest_settings::{SettingSource, TestSettings};
 use std::alloc::{AllocError, Global};
 
 /// A source as a value of its own.

@@ -3,7 +3,7 @@ use Rattle.std.proofs.lemmas.List.{length-map, map-append, take_all}
 use Rattle.filter_inputs.specs.Lists.ListView.{list_test_view}
 use Rattle.filter_inputs.specs.declared.lists.list.ListedTest.{ListedTest}
 use Rattle.filter_inputs.specs.Lists.Lists.{ListTest}
-use Rattle.rinqebo_request.proofs.KeyLists.{filter_more, filter_same}
+use Rattle.rinqebo_keys.proofs.KeyLists.{filter_more, filter_same}
 use Rattle.rinqebo_load.specs.FoundTests.{is_named}
 use Rattle.rinqebo_load.proofs.Elements.{seen_get}
 use Rattle.rinqebo_load.proofs.find_test.named_tests.Goals as goal

@@ -3,7 +3,7 @@ use Rattle.std.proofs.lemmas.List.{length-map}
 use Rattle.std.proofs.lemmas.Option.{slice_get-get_or}
 use Rattle.filter_inputs.specs.Packages.Targets.{binary_id}
 use Rattle.filter_inputs.specs.Packages.TargetView.{target_view, targets_view}
-use Rattle.rinqebo_request.proofs.KeyLists.{none_more}
+use Rattle.rinqebo_keys.proofs.KeyLists.{none_more}
 use Rattle.rinqebo_load.proofs.Elements.{seen_at}
 use Rattle.rinqebo_load.proofs.find_test.target_for.Goals as goal
 

@@ -1,6 +1,6 @@
 use Rattle.filter_inputs.specs.Packages.Targets.{binary_id}
 use Rattle.filter_inputs.specs.Packages.TargetView.{targets_view}
-use Rattle.rinqebo_request.proofs.KeyLists.{NoneHas}
+use Rattle.rinqebo_keys.proofs.KeyLists.{NoneHas}
 use Rattle.rinqebo_load.proofs.find_test.target_for.Given as goal
 
 -- no target so far builds the binary

@@ -1,7 +1,7 @@
 use Rattle.std.proofs.Common.{◌≡◌, ◌<◌, true, refl, arith, rules}
 use Rattle.nextest_elements.specs.Experimental.{experimental_text}
 use Rattle.rinqebo_request.proofs.FeatureNames.{place, within, at_place}
-use Rattle.rinqebo_request.proofs.KeyLists.{none_more}
+use Rattle.rinqebo_keys.proofs.KeyLists.{none_more}
 use Rattle.rinqebo_request.specs.declared.features.TheConstants.{FEATURES}
 use Rattle.rinqebo_request.proofs.features.feature_of.Goals as goal
 

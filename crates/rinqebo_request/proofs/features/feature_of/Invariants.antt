@@ -1,5 +1,5 @@
 use Rattle.nextest_elements.specs.Experimental.{experimental_text}
-use Rattle.rinqebo_request.proofs.KeyLists.{NoneHas}
+use Rattle.rinqebo_keys.proofs.KeyLists.{NoneHas}
 use Rattle.rinqebo_request.specs.declared.features.TheConstants.{FEATURES}
 use Rattle.rinqebo_request.proofs.features.feature_of.Given as goal
 

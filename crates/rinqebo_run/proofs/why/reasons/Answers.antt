@@ -1,6 +1,6 @@
 use Rattle.std.proofs.Common.{◌∙◌, ap, refl, subst}
 use Rattle.nextest_inheritance.specs.View.{borrowed_view}
-use Rattle.rinqebo_request.specs.Keys.{dotted}
+use Rattle.rinqebo_keys.specs.Keys.{dotted}
 use Rattle.rinqebo_rules.specs.Conditions.{is_met_by, filter_matches}
 use Rattle.rinqebo_run.proofs.Requests.{requested_on}
 use Rattle.rinqebo_run.specs.ReportsReasons.{AreReasons}

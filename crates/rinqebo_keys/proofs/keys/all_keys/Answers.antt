@@ -1,9 +1,9 @@
 use Rattle.std.proofs.Common.{◌≡◌, map, subst, refl, string_bytes}
 use Rattle.std.proofs.lemmas.List.{take_all}
 use Rattle.nextest_elements.specs.Settings.{settings}
-use Rattle.rinqebo_request.specs.Keys.{key_text}
-use Rattle.rinqebo_request.proofs.KeyLists.{texts_more}
-use Rattle.rinqebo_request.proofs.keys.all_keys.Goals as goal
+use Rattle.rinqebo_keys.specs.Keys.{key_text}
+use Rattle.rinqebo_keys.proofs.KeyLists.{texts_more}
+use Rattle.rinqebo_keys.proofs.keys.all_keys.Goals as goal
 
 pub loop-setting-preserved : goal.loop-setting-preserved
 unfolding settings

@@ -2,9 +2,9 @@ use Rattle.std.proofs.Common.{◌≡◌, ◌<◌, true, refl, length, arith, rul
 use Rattle.std.proofs.lemmas.Option.{slice_get_within}
 use Rattle.nextest_elements.specs.Settings.{settings, index_of}
 use Rattle.nextest_elements.proofs.StandsOnce.{at_place}
-use Rattle.rinqebo_request.specs.Keys.{key_text}
-use Rattle.rinqebo_request.proofs.KeyLists.{none_more}
-use Rattle.rinqebo_request.proofs.keys.setting_of.Goals as goal
+use Rattle.rinqebo_keys.specs.Keys.{key_text}
+use Rattle.rinqebo_keys.proofs.KeyLists.{none_more}
+use Rattle.rinqebo_keys.proofs.keys.setting_of.Goals as goal
 
 pub loop-setting-preserved : goal.loop-setting-preserved
 unfolding settings

@@ -3,9 +3,9 @@ ghost use Rattle.std.specs.Prelude.{◌≡◌, ◌≢◌, ◌↔◌, IfOk, IsTru
 ghost use Rattle.nextest_elements.specs.Settings.{settings};
 ghost use Rattle.nextest_elements.specs.declared.setting.Setting.{Setting};
 ghost use Rattle.std.specs.List.{filter};
-ghost use Rattle.rinqebo_request.specs.Keys.{key_table, key_name, is_named_by, is_report, is_table, dotted, key_text};
+ghost use Rattle.rinqebo_keys.specs.Keys.{key_table, key_name, is_named_by, is_report, is_table, dotted, key_text};
 
-use nextest_config::{NextestRunMode, Setting};
+use nextest_elements::{NextestRunMode, Setting};
 use std::alloc::{AllocError, Global};
 
 /// The key of whether a test runs, which no file has.

@@ -1,7 +1,7 @@
 use Rattle.nextest_elements.specs.Settings.{settings}
-use Rattle.rinqebo_request.specs.Keys.{key_text}
-use Rattle.rinqebo_request.proofs.KeyLists.{NoneHas}
-use Rattle.rinqebo_request.proofs.keys.setting_of.Given as goal
+use Rattle.rinqebo_keys.specs.Keys.{key_text}
+use Rattle.rinqebo_keys.proofs.KeyLists.{NoneHas}
+use Rattle.rinqebo_keys.proofs.keys.setting_of.Given as goal
 
 -- no setting so far has the key
 abbrev pub invariant-loop-setting : goal.invariant-loop-setting

@@ -1,7 +1,7 @@
 use Rattle.std.proofs.Common.{◌≡◌, filter, take}
 use Rattle.nextest_elements.specs.Settings.{settings}
-use Rattle.rinqebo_request.specs.Keys.{is_named_by}
-use Rattle.rinqebo_request.proofs.keys.settings_of.Given as goal
+use Rattle.rinqebo_keys.specs.Keys.{is_named_by}
+use Rattle.rinqebo_keys.proofs.keys.settings_of.Given as goal
 
 -- those of the settings so far that the key names
 abbrev pub invariant-loop-setting : goal.invariant-loop-setting

@@ -2,10 +2,10 @@ use Rattle.std.proofs.Common.{◌≡◌, Global, List, Vec, ap, filter, refl, su
 use Rattle.std.proofs.lemmas.List.{take_all}
 use Rattle.nextest_elements.specs.Settings.{settings}
 use Rattle.nextest_elements.specs.declared.setting.Setting.{Setting}
-use Rattle.rinqebo_request.specs.Keys.{is_named_by}
-use Rattle.rinqebo_request.proofs.KeyLists.{filter_more, filter_same}
-use Rattle.rinqebo_request.proofs.keys.settings_of.Goals as goal
-use Rattle.rinqebo_request.proofs.keys.settings_of.Goals.{then-branch+in_ok-push, else-branch}
+use Rattle.rinqebo_keys.specs.Keys.{is_named_by}
+use Rattle.rinqebo_keys.proofs.KeyLists.{filter_more, filter_same}
+use Rattle.rinqebo_keys.proofs.keys.settings_of.Goals as goal
+use Rattle.rinqebo_keys.proofs.keys.settings_of.Goals.{then-branch+in_ok-push, else-branch}
 
 pub loop-setting-preserved : goal.loop-setting-preserved
 unfolding settings

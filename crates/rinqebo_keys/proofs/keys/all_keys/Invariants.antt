@@ -1,7 +1,7 @@
 use Rattle.std.proofs.Common.{◌≡◌, map, take, string_bytes}
 use Rattle.nextest_elements.specs.Settings.{settings}
-use Rattle.rinqebo_request.specs.Keys.{key_text}
-use Rattle.rinqebo_request.proofs.keys.all_keys.Given as goal
+use Rattle.rinqebo_keys.specs.Keys.{key_text}
+use Rattle.rinqebo_keys.proofs.keys.all_keys.Given as goal
 
 -- the keys of the settings so far
 abbrev pub invariant-loop-setting : goal.invariant-loop-setting
