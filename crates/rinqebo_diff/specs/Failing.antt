@@ -1,7 +1,7 @@
 -- Why a diff has no result.
 use Rattle.std.specs.Prelude.{◌≡◌, ◌⊎◌, ℕ}
 use Rattle.rinqebo_request.specs.declared.files.gathering.Gathered.{Gathered}
-use Rattle.rinqebo_findings.specs.Failures.{LacksProfile}
+use Rattle.rinqebo_checks.specs.Failures.{LacksProfile}
 use Rattle.rinqebo_load.specs.Accepted.{AreAccepted}
 use Rattle.rinqebo_load.specs.Beginning.{IsUnusable}
 use Rattle.rinqebo_load.specs.SessionOf.{IsSessionOf}

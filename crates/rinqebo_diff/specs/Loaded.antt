@@ -1,7 +1,7 @@
 -- A side that is loaded.
 use Rattle.nextest_tables.specs.FileTexts.{names_in, IsIn}
 use Rattle.rinqebo_request.specs.declared.files.gathering.Gathered.{Gathered}
-use Rattle.rinqebo_findings.specs.Reports.{IsReportOf}
+use Rattle.rinqebo_checks.specs.Reports.{IsReportOf}
 use Rattle.rinqebo_load.specs.Accepted.{AreAccepted}
 use Rattle.rinqebo_load.specs.SessionOf.{IsSessionOf}
 use Rattle.rinqebo_load.specs.Sessions.{files_view, readings, IsLoadedFrom}

@@ -6,7 +6,8 @@ ghost use Rattle.rinqebo_diff.specs.declared.loaded.DiffFailure.TheVariants.{Mem
 
 use crate::request::DiffSide;
 use nextest_config::DefaultConfigWarnings;
-use rinqebo_findings::{report_of, warning_findings};
+use rinqebo_checks::report_of;
+use rinqebo_findings::warning_findings;
 use rinqebo_load::{Config, Failure, Session};
 use rinqebo_report::{Content, Report};
 use rinqebo_request::Gathered;

@@ -1,4 +1,1 @@
-pub mod Joining
-pub mod Loads
-pub mod Reporting
 pub mod Values

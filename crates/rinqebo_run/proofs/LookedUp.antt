@@ -15,7 +15,7 @@ use Rattle.nextest_settings.specs.Profile.{EvaluatableModel}
 use Rattle.nextest_tables.specs.Written.{Name}
 use Rattle.platform_language.specs.Expressions.{spec_view}
 use Rattle.platform_language.specs.declared.expression.TargetSpec.{TargetSpec}
-use Rattle.rinqebo_findings.specs.Failures.{IsFailureAbout}
+use Rattle.rinqebo_checks.specs.Failures.{IsFailureAbout}
 use Rattle.rinqebo_load.specs.Sessions.{files_view, readings, IsLoadedFrom}
 use Rattle.rinqebo_load.specs.declared.session.Session.{Session}
 use Rattle.rinqebo_rules.specs.Conditions.{is_met_by}

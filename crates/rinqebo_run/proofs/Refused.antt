@@ -12,7 +12,7 @@ use Rattle.rinqebo_run.specs.Answered.{AnswersQuestion, IsAboutTest, IsAnswer}
 use Rattle.rinqebo_load.specs.Accepted.{AreAccepted}
 use Rattle.rinqebo_run.specs.LookedUp.{IsFailureOn}
 use Rattle.rinqebo_run.specs.Refused.{AreRefusedFor, Fails, IsFailureIn, IsReportedBy, LackProfileFor, LackTestFor, LacksProfileOf, LacksTestOf}
-use Rattle.rinqebo_findings.specs.Failures.{IsFailureAbout}
+use Rattle.rinqebo_checks.specs.Failures.{IsFailureAbout}
 use Rattle.rinqebo_load.specs.FindTests.{IsFoundFor}
 use Rattle.rinqebo_load.specs.SessionOf.{IsSessionOf}
 use Rattle.rinqebo_run.specs.Statuses.{failure_status}

@@ -68,7 +68,7 @@ use Rattle.rinqebo_run.specs.LookedUp.{AreLookedUp, IsFailureOn, IsLookedUp}
 use Rattle.rinqebo_load.specs.SessionOf.{IsSessionOf}
 use Rattle.rinqebo_load.specs.Sessions.{files_view, readings, IsLoadedFrom}
 use Rattle.rinqebo_run.specs.Statuses.{IsAnswerStatus, IsStatus}
-use Rattle.rinqebo_findings.specs.Reports.{IsReportOf}
+use Rattle.rinqebo_checks.specs.Reports.{IsReportOf}
 use Rattle.rinqebo_run.specs.Written.{AreFirstBy, AsksList, EndsPage, HasPage, IsStopStatus, StopsList, WritesList, WritesPage, WritesRest}
 use Rattle.rinqebo_load.specs.declared.failure.Failure.{Failure}
 use Rattle.rinqebo_load.specs.declared.failure.Failure.TheVariants as failures

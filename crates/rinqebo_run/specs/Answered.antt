@@ -2,7 +2,7 @@
 use Rattle.std.specs.Prelude.{◌≡◌, ℕ, List, Option}
 use Rattle.std.specs.Io.KnownBytes.{Appends}
 use Rattle.nextest_documents.specs.Layers.{keys_view}
-use Rattle.rinqebo_findings.specs.Reports.{IsReportOf}
+use Rattle.rinqebo_checks.specs.Reports.{IsReportOf}
 use Rattle.rinqebo_report.specs.Rendered.{rendered}
 use Rattle.rinqebo_report.specs.declared.format.Format.TheVariants as formats
 use Rattle.rinqebo_report.specs.declared.report.Content.{Content}

@@ -1,7 +1,7 @@
 -- The exit status of a check, and what its report shows.
 use Rattle.std.specs.Prelude.{◌≡◌, ◌⊎◌, ℕ, Bool, true, false, ◌&&◌, ◌||◌, not, ◌==◌, List, length, if◌then◌else◌}
 use Rattle.std.specs.List.{list_any}
-use Rattle.rinqebo_findings.specs.Faults.{ShowsFaults}
+use Rattle.rinqebo_checks.specs.Faults.{ShowsFaults}
 use Rattle.rinqebo_load.specs.Accepted.{AreAccepted}
 use Rattle.rinqebo_load.specs.declared.session.Session.{Session}
 use Rattle.rinqebo_report.specs.declared.finding.Finding.{Finding}

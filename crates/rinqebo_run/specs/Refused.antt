@@ -3,7 +3,7 @@ use Rattle.std.specs.Prelude.{◌≡◌, ◌⊎◌, ℕ, List, Option}
 use Rattle.std.specs.Io.KnownBytes.{Appends}
 use Rattle.nextest_tables.specs.Written.{Name}
 use Rattle.rinqebo_request.specs.declared.files.gathering.Gathered.{Gathered}
-use Rattle.rinqebo_findings.specs.Failures.{IsFailureAbout, IsFailureToFind, LacksProfile}
+use Rattle.rinqebo_checks.specs.Failures.{IsFailureAbout, IsFailureToFind, LacksProfile}
 use Rattle.rinqebo_request.specs.declared.request.Question.{Question}
 use Rattle.rinqebo_request.specs.declared.request.Question.TheVariants as questions
 use Rattle.rinqebo_request.specs.declared.request.Request.{Request}

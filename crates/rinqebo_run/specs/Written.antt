@@ -26,7 +26,7 @@ use Rattle.rinqebo_rules.specs.RulePlaces.{Place}
 use Rattle.rinqebo_rules.specs.Scripts.{AreScriptsReported}
 use Rattle.rinqebo_rules.specs.Unused.{AreUnusedIn}
 use Rattle.rinqebo_rules.specs.declared.unused.UnusedRules.{UnusedRules}
-use Rattle.rinqebo_findings.specs.Reports.{IsReportOf}
+use Rattle.rinqebo_checks.specs.Reports.{IsReportOf}
 use Rattle.rinqebo_report.specs.Pages.{list_end_runs, list_runs, listed_runs}
 use Rattle.rinqebo_report.specs.Pieces.{page_text}
 use Rattle.rinqebo_report.specs.Rendered.{rendered}

@@ -2,8 +2,8 @@
 ghost use Rattle.std.specs.Prelude.{◌≡◌, ◌==◌, ◌&&◌, IfOk, IfErr, length, not};
 ghost use Rattle.std.specs.List.{list_any};
 ghost use Rattle.nextest_sources.specs.Endings.{IsMemory};
-ghost use Rattle.rinqebo_findings.specs.Reports.{IsReportOf};
-ghost use Rattle.rinqebo_findings.specs.Faults.{ShowsFaults};
+ghost use Rattle.rinqebo_checks.specs.Reports.{IsReportOf};
+ghost use Rattle.rinqebo_checks.specs.Faults.{ShowsFaults};
 ghost use Rattle.rinqebo_load.specs.declared.failure.Failure.TheVariants.{Memory};
 ghost use Rattle.rinqebo_run.specs.Checked.{IsCheckStatus, accepted_status, is_error};
 
@@ -11,7 +11,8 @@ use crate::answer::Answer;
 use crate::open_filters::open_filters_note;
 use crate::status::Status;
 use nextest_config::{ConfigParseError, DefaultConfigWarnings};
-use rinqebo_findings::{nextest_findings, report_of, report_of_refused_check, warning_findings};
+use rinqebo_checks::{report_of, report_of_refused_check};
+use rinqebo_findings::{nextest_findings, warning_findings};
 use rinqebo_load::{Config, Failure, Session};
 use rinqebo_report::{Content, Finding, Level};
 use std::alloc::{AllocError, Global};

@@ -4,7 +4,7 @@ ghost use Rattle.nextest_inheritance.specs.Parents.{parents_in};
 ghost use Rattle.nextest_load.specs.Config.{config_parents};
 ghost use Rattle.nextest_tables.specs.FileTexts.{names_in, IsIn};
 ghost use Rattle.rinqebo_run.specs.LookedUp.{IsFailureOn, IsLookedUp};
-ghost use Rattle.rinqebo_findings.specs.Reports.{IsReportOf};
+ghost use Rattle.rinqebo_checks.specs.Reports.{IsReportOf};
 ghost use Rattle.rinqebo_run.specs.Explained.{Explains, IfExplained};
 ghost use Rattle.rinqebo_run.specs.ListedBy.{explained_by};
 ghost use Rattle.rinqebo_run.specs.Requested.{IsRequestedIn};

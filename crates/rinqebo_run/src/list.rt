@@ -21,7 +21,7 @@ ghost use Rattle.rinqebo_run.specs.Listed.{HasObjects, IfListed, IsProfileOn, Re
 ghost use Rattle.rinqebo_run.specs.ListedBy.{basis_of, read_by, listed_by};
 ghost use Rattle.rinqebo_run.specs.Requested.{IsRequestedIn};
 ghost use Rattle.rinqebo_run.specs.LookedUp.{IsFailureOn, IsLookedUp};
-ghost use Rattle.rinqebo_findings.specs.Reports.{IsReportOf};
+ghost use Rattle.rinqebo_checks.specs.Reports.{IsReportOf};
 
 use crate::asked::requested_of;
 use crate::list_objects::objects_of_list;
@@ -32,7 +32,8 @@ use crate::profile::early_profile;
 use filter_engine::{NextestFilters, NextestTally};
 use nextest_config::{DefaultConfigWarnings, EvaluatableProfile, NextestRunMode};
 use platform_language::TargetSpecs;
-use rinqebo_findings::{report_of, warning_findings};
+use rinqebo_checks::report_of;
+use rinqebo_findings::warning_findings;
 use rinqebo_load::{Config, Failure, Session, chain_of_profile};
 use rinqebo_report::{Content, Report};
 use rinqebo_request::RequestedSettings;

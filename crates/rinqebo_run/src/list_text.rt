@@ -7,7 +7,7 @@ ghost use Rattle.rinqebo_run.specs.LookedUp.{IsFailureOn};
 ghost use Rattle.rinqebo_run.specs.Begun.{BeginsList, IsBegun};
 ghost use Rattle.rinqebo_run.specs.Written.{AreFirstBy, AsksList, HasPage, StopsList, WritesList};
 ghost use Rattle.rinqebo_run.specs.declared.list_fault.ListFault.TheVariants as faults;
-ghost use Rattle.rinqebo_findings.specs.Reports.{IsReportOf};
+ghost use Rattle.rinqebo_checks.specs.Reports.{IsReportOf};
 ghost use Rattle.rinqebo_report.specs.declared.format.Format.TheVariants as formats;
 
 use crate::list_fault::ListFault;
@@ -15,7 +15,8 @@ use crate::list_page::{ListPage, RequestedList, write_last};
 use crate::looked_up::config_looked_up;
 use crate::progress::ProgressLine;
 use nextest_config::DefaultConfigWarnings;
-use rinqebo_findings::{report_of, warning_findings};
+use rinqebo_checks::report_of;
+use rinqebo_findings::warning_findings;
 use rinqebo_load::{Config, Session};
 use rinqebo_report::{Colour, Content, Paper, Report, render_findings};
 use rinqebo_request::{Gathered, Request};

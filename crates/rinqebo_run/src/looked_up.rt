@@ -16,7 +16,7 @@ ghost use Rattle.rinqebo_run.specs.LookedUp.{IsFailureFor, IsFailureOn, IsLooked
 use crate::list::profile_on;
 use filter_engine::{Field, NextestFilters};
 use nextest_config::{DefaultConfigWarnings, Filters};
-use rinqebo_findings::config_with;
+use rinqebo_checks::config_with;
 use rinqebo_load::{Config, Failure, InputFault, OpenFilter, Session, chain_of_profile};
 use rinqebo_report::add_origins;
 use rinqebo_request::sources_of;

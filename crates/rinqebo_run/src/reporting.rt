@@ -1,14 +1,14 @@
 //! Puts the result of a request together: its report, and the note beside it.
 ghost use Rattle.std.specs.Prelude.{◌≡◌, IfOk};
 ghost use Rattle.nextest_tables.specs.FileTexts.{names_in, IsIn};
-ghost use Rattle.rinqebo_findings.specs.Reports.{IsReportOf};
+ghost use Rattle.rinqebo_checks.specs.Reports.{IsReportOf};
 
 use crate::answer::Answer;
 use crate::id_note::id_note;
 use crate::idle::findings_on;
 use crate::status::Status;
 use nextest_config::DefaultConfigWarnings;
-use rinqebo_findings::report_of;
+use rinqebo_checks::report_of;
 use rinqebo_load::{Config, FoundTest, Session};
 use rinqebo_report::Content;
 use std::alloc::{AllocError, Global};

@@ -5,7 +5,7 @@ ghost use Rattle.std.specs.Result.{result_map_both};
 ghost use Rattle.nextest_shape.specs.FileForm.{file_form};
 ghost use Rattle.nextest_shape.specs.Page.{schema_data};
 ghost use Rattle.serde_json.specs.Written.{compact_text};
-ghost use Rattle.rinqebo_findings.specs.Reports.{IsReportOf};
+ghost use Rattle.rinqebo_checks.specs.Reports.{IsReportOf};
 ghost use Rattle.rinqebo_report.specs.Rendered.{rendered};
 ghost use Rattle.rinqebo_run.specs.Answered.{AnswersQuestion, HasObjectsFor, IsAboutTest, IsAnswer, Reports};
 ghost use Rattle.rinqebo_run.specs.Begun.{IsBegun};
@@ -38,7 +38,7 @@ use crate::why::why;
 use crate::why_runs::why_runs;
 use nextest_config::Setting;
 use nextest_shape::schema_page;
-use rinqebo_findings::find_test;
+use rinqebo_checks::find_test;
 use rinqebo_load::{Failure, Session};
 use rinqebo_report::{Colour, Content, DOCUMENT_SCHEMA, Format, Report, render, render_findings};
 use rinqebo_request::{

@@ -14,7 +14,7 @@ ghost use Rattle.rinqebo_rules.specs.Origins.{key_steps};
 ghost use Rattle.rinqebo_rules.specs.ProfileOrigins.{AreProfileOrigins};
 ghost use Rattle.rinqebo_rules.specs.RuleAnswers.{judged_here};
 ghost use Rattle.rinqebo_run.specs.LookedUp.{IsFailureOn, IsLookedUp};
-ghost use Rattle.rinqebo_findings.specs.Reports.{IsReportOf};
+ghost use Rattle.rinqebo_checks.specs.Reports.{IsReportOf};
 ghost use Rattle.rinqebo_rules.specs.RuleViews.{setting_rule_view, Rule as ReadRule};
 ghost use Rattle.rinqebo_rules.specs.declared.conditions.Asking.{Asking};
 ghost use Rattle.rinqebo_run.specs.Requested.{IsRequestedIn};

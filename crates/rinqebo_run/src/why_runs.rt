@@ -13,7 +13,7 @@ ghost use Rattle.rinqebo_rules.specs.Reported.{value_view};
 ghost use Rattle.rinqebo_run.specs.ConditionTexts.{default_text, HasText, IsAbsent};
 ghost use Rattle.rinqebo_run.specs.ListedBy.{read_by};
 ghost use Rattle.rinqebo_run.specs.LookedUp.{IsFailureOn, IsLookedUp};
-ghost use Rattle.rinqebo_findings.specs.Reports.{IsReportOf};
+ghost use Rattle.rinqebo_checks.specs.Reports.{IsReportOf};
 ghost use Rattle.rinqebo_run.specs.Requested.{IsRequestedIn};
 ghost use Rattle.rinqebo_run.specs.RunsReasons.{AreHeldReported, AreRunsReasons, AreRunsReasonsIn, IsFilterRuleReported, ReportsRunsReasons, default_answer, default_value, is_decision};
 ghost use Rattle.rinqebo_run.specs.ReportsReasons.{IfWhy, IsTestNamed};

@@ -3,7 +3,7 @@ use Rattle.nextest_sources.specs.Endings.{error_view}
 use Rattle.nextest_sources.specs.Errors.{source_of}
 use Rattle.nextest_sources.specs.Sources.{path_view}
 use Rattle.nextest_config.proofs.TellsEnding.{same_some}
-use Rattle.rinqebo_findings.proofs.Loads.{no_want}
+use Rattle.rinqebo_checks.proofs.Loads.{no_want}
 use Rattle.rinqebo_run.proofs.check.refused.Goals as goal
 
 pub returns-clause-cause : goal.returns-clause-cause

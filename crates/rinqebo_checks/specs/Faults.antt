@@ -1,0 +1,146 @@
+-- Which findings report which faults.
+use Rattle.std.specs.Prelude.{◌≡◌, ◌⊎◌, ℕ, List, [], ◌∷◌, ◌++◌, ◌+◌, Bool, true, false, Contains, Option, None, Some, String, map, slice_get, slice_index_or}
+use Rattle.std.specs.Option.{option_and_then}
+use Rattle.std.specs.Borrow.{Bor}
+use Rattle.std.specs.declared.alloc.Global.{Global}
+use Rattle.nextest_documents.specs.Merge.{over}
+use Rattle.nextest_documents.specs.Text.{tree_of}
+use Rattle.nextest_shape.specs.Faults.Found.{Adds, refused_at}
+use Rattle.nextest_shape.specs.declared.faults.found.FoundFault.{FoundFault}
+use Rattle.nextest_places.specs.declared.step.Step.{Step}
+use Rattle.nextest_places.specs.Spans.Paths.{path_step}
+use Rattle.nextest_places.specs.Spans.Paths as paths
+use Rattle.nextest_tables.specs.Defaults.{defaults}
+use Rattle.nextest_tables.specs.Tables.{a_file}
+use Rattle.nextest_tree.specs.Node.{Node}
+use Rattle.nextest_tree.specs.Schema as schema
+use Rattle.nextest_tree.specs.declared.fault.ElementCause.TheVariants as causes
+use Rattle.rinqebo_report.specs.Codes.Codes.{code_word}
+use Rattle.rinqebo_report.specs.declared.codes.code.Code.TheVariants.{UnknownKey}
+use Rattle.rinqebo_request.specs.declared.files.layers.Layer.{Layer}
+use Rattle.rinqebo_request.specs.declared.files.places.SpanPart.TheVariants as parts
+use Rattle.rinqebo_report.specs.declared.finding.Finding.{Finding}
+use Rattle.rinqebo_report.specs.declared.finding.Level.TheVariants as levels
+use Rattle.rinqebo_faults.specs.Paths.{shown_path}
+use Rattle.rinqebo_checks.specs.declared.value_faults.ValueFault.{ValueFault}
+use Rattle.rinqebo_findings.specs.Placed.{IsPlaceIn}
+use Rattle.rinqebo_findings.specs.Shown.{AreReported}
+use Rattle.rinqebo_findings.specs.Subjects.{IsElementFinding, subject}
+
+-- a path is that of a key of the table at another one
+abbrev pub IsKeyIn : List Step → List Step → List ℕ → Type 0
+IsKeyIn path table key = map path_step path ≡ map path_step table ++ paths.key key ∷ []
+
+-- a fault is that the table at a path refuses a key
+pub record IsRefusedKey (table : List Step) (key : List ℕ) (fault : FoundFault) : Type 0 where
+  pub refused : fault.cause ≡ causes.UnknownField
+  pub at_key : IsKeyIn fault.path.items table key
+
+-- A fault is joined with another one: a table refuses a key, which it has in place of one that it
+-- lacks. The finding of that one is at the key.
+pub record IsJoined (faults : List ValueFault) (fault : ValueFault) : Type 0 where
+  pub other : ValueFault
+  pub among : Contains faults other
+  pub missing : String Global
+  pub lacks : other.fault.cause ≡ causes.Missing missing
+  pub key : Bor (List ℕ)
+  pub in_place : other.stray ≡ Some key
+  pub refuses : IsRefusedKey other.fault.path.items key.now fault.fault
+
+-- the faults whose marks are set are joined
+abbrev pub AreJoined : List ValueFault → List Bool → Type 0
+AreJoined faults marks =
+    (place : ℕ) (fault : ValueFault) → slice_index_or marks place false ≡ true
+    → slice_get faults place ≡ Some fault → IsJoined faults fault
+
+-- a finding is that of a fault of a source
+abbrev pub IsFindingOf : List Layer → ℕ → ValueFault → Finding → Type 0
+IsFindingOf layers source fault finding =
+    IsElementFinding layers (Some source) fault.fault.cause fault.fault.path.items fault.stray
+    finding
+
+-- a table has the key at a path in place of one that it lacks, which is a fault
+pub record IsInPlaceOf (fault : ValueFault) (path : List Step) : Type 0 where
+  pub missing : String Global
+  pub lacks : fault.fault.cause ≡ causes.Missing missing
+  pub key : Bor (List ℕ)
+  pub in_place : fault.stray ≡ Some key
+  pub at_key : IsKeyIn path fault.fault.path.items key.now
+
+-- An unknown key is joined with a fault: a table has it in place of a key that it lacks. The
+-- finding of the fault is at the key.
+pub record IsInPlace (faults : List ValueFault) (path : List Step) : Type 0 where
+  pub fault : ValueFault
+  pub among : Contains faults fault
+  pub is : IsInPlaceOf fault path
+
+-- a finding warns of an unknown key of a source
+pub record IsKeyFinding (layers : List Layer) (source : ℕ) (path : List Step) (finding : Finding) :
+    Type 0 where
+  pub about : subject finding ≡ record {
+    level = levels.Warning;
+    code = code_word UnknownKey;
+    path = Some (shown_path path);
+  }
+  pub place : IsPlaceIn parts.Key layers (Some source) path finding.place
+
+-- Findings report faults, or unknown keys, each in turn: one has a finding of its own, or it is
+-- joined.
+abbrev pub ReportFaults : {Fault : Type 0} → (Fault → Finding → Type 0) → (Fault → Type 0)
+    → List Fault → List Finding → Type 0
+ReportFaults IsOf Joined [] [] = Unit {0}
+ReportFaults IsOf Joined [] (finding ∷ findings) = ⊥
+ReportFaults IsOf Joined (fault ∷ faults) [] =
+    Joined fault × ReportFaults IsOf Joined faults []
+ReportFaults IsOf Joined (fault ∷ faults) (finding ∷ findings) =
+    (Joined fault × ReportFaults IsOf Joined faults (finding ∷ findings))
+    ⊎ (IsOf fault finding × ReportFaults IsOf Joined faults findings)
+
+-- Findings report what is wrong with the values of a document, which is a source: exactly the
+-- faults that the definitions list of it, over the table of defaults, each in turn, and then
+-- exactly its unknown keys.
+pub record ReportValues (layers : List Layer) (source : ℕ) (document : Node)
+    (findings : List Finding) : Type 0 where
+  pub found : List ValueFault
+  pub are_all : Adds [] (map (λ f. f.fault) found)
+      (schema.faults a_file [] (over document defaults))
+  pub of_faults : List Finding
+  pub reported : ReportFaults (IsFindingOf layers source) (IsJoined found) found of_faults
+  pub keys : List FoundFault
+  pub are_all_keys : Adds [] keys (refused_at (schema.unknown a_file [] (over document defaults)))
+  pub of_keys : List Finding
+  pub keys_reported : ReportFaults (λ key. IsKeyFinding layers source key.path.items)
+      (λ key. IsInPlace found key.path.items) keys of_keys
+  pub whole : findings ≡ of_faults ++ of_keys
+
+-- what is wrong with the values of a document, if there is one
+abbrev pub ReportDocument : List Layer → ℕ → Option Node → List Finding → Type 0
+ReportDocument layers source (Some document) findings = ReportValues layers source document findings
+ReportDocument layers source None findings = findings ≡ []
+
+-- the document that the file of a layer is, if it is one
+abbrev pub document_in : Layer → Option Node
+document_in layer = option_and_then tree_of layer.places
+
+-- Findings report what is wrong with the values in the files of some of the layers, from a source
+-- on, file by file.
+abbrev pub ReportFiles : List Layer → ℕ → List Layer → List Finding → Type 0
+ReportFiles all source [] findings = findings ≡ []
+ReportFiles all source (layer ∷ layers) findings =
+    (own : List Finding) × (others : List Finding) × (findings ≡ own ++ others)
+    × ReportDocument all source (document_in layer) own × ReportFiles all (source + 1) layers others
+
+-- Some of the findings report what is wrong with the values in the files of layers, and their
+-- unknown keys. The others are about what later checks refuse or warn of.
+pub record ReportAll (layers : List Layer) (findings : List Finding) : Type 0 where
+  pub of_values : List Finding
+  pub others : List Finding
+  pub whole : findings ≡ of_values ++ others
+  pub reported : ReportFiles layers 0 layers of_values
+
+-- A report shows what is wrong with the files of layers: its findings report all that is wrong with
+-- their values.
+pub record ShowsFaults (layers : List Layer) (shown : List Finding) : Type 0 where
+  pub found : List Finding
+  pub all : ReportAll layers found
+  pub shows : AreReported found shown

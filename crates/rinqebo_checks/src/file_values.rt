@@ -1,0 +1,103 @@
+//! What is wrong with the values in the files of a run, which are then read without what is
+//! refused, and their unknown keys.
+ghost use Rattle.std.specs.Prelude.{◌≡◌, IfOk, MatchOption, None, Some};
+ghost use Rattle.nextest_tree.specs.View.{tree_view};
+ghost use Rattle.rinqebo_checks.specs.Faults.{ReportDocument, ReportFiles, ReportValues, document_in};
+
+use crate::unknown_keys::key_findings;
+use crate::value_faults::{ValueFault, fault_findings, with_strays};
+use nextest_documents::lay_over;
+use nextest_shape::{file_faults, unknown_keys};
+use nextest_tables::default_tree;
+use nextest_tree::Tree;
+use rinqebo_faults::{Edits, leave_out_element};
+use rinqebo_load::Session;
+use rinqebo_report::Finding;
+use rinqebo_request::Layer;
+use std::alloc::{AllocError, Global};
+
+/// Leaves out the values of a source that are refused, and the keys that are in place of missing
+/// ones.
+fn leave_out_faults(
+    edits: &mut Edits,
+    place: usize,
+    faults: &[ValueFault<'_>],
+) -> Result<(), AllocError> {
+    for ValueFault { fault, stray } in faults {
+        if let Some(stray) = stray {
+            edits.remove_key(place, &fault.path, *stray)?;
+        }
+        leave_out_element(edits, place, &fault.cause, &fault.path)?;
+    }
+    Ok(())
+}
+
+/// The document that the file of a layer is, if it is one. The defaults are not a file.
+fn document_of<'l>(layer: &'l Layer<'_>) -> Option<&'l Tree>
+    ensures { MatchOption result (document_in layer.now ≡ None)
+        (λ tree. document_in layer.now ≡ Some (tree_view tree.now)) }
+{
+    match &layer.places {
+        Some(places) => places.document(),
+        None => None,
+    }
+}
+
+/// The findings of the values of a document, which is the source at a place among the layers, and
+/// of its unknown keys.
+fn document_findings(
+    alloc: Global,
+    session: &Session<'_>,
+    place: usize,
+    document: &Tree,
+    edits: &mut Edits,
+) -> Result<Vec<Finding>, AllocError>
+    ensures { IfOk result (λ findings.
+        ReportValues session.now.layers.items place (tree_view document.now) findings.items) }
+{
+    let tree = lay_over(alloc, document, default_tree(alloc)?)?;
+    let faults = file_faults(alloc, &tree)?;
+    let keys = unknown_keys(alloc, &tree)?;
+    let found = with_strays(alloc, &tree, faults)?;
+    leave_out_faults(edits, place, &found)?;
+    let mut findings = fault_findings(alloc, session, place, &found)?;
+    let mut warnings = key_findings(alloc, session, place, &found, &keys)?;
+    findings.append(&mut warnings)?;
+    Ok(findings)
+}
+
+/// The findings of the values in the file of the layer at a place, if it is a document.
+fn layer_findings(
+    alloc: Global,
+    session: &Session<'_>,
+    place: usize,
+    layer: &Layer<'_>,
+    edits: &mut Edits,
+) -> Result<Vec<Finding>, AllocError>
+    ensures { IfOk result (λ findings.
+        ReportDocument session.now.layers.items place (document_in layer.now) findings.items) }
+{
+    match document_of(layer) {
+        Some(document) => { Ok(document_findings(alloc, session, place, document, edits)?) }
+        None => Ok(Vec::new(alloc)),
+    }
+}
+
+/// The findings of the values in the files of layers, which are those of a session, file by file.
+/// What is refused is left out.
+pub fn value_findings(
+    alloc: Global,
+    session: &Session<'_>,
+    layers: &[Layer<'_>],
+    edits: &mut Edits,
+) -> Result<Vec<Finding>, AllocError>
+    ensures { IfOk result
+        (λ findings. ReportFiles session.now.layers.items 0 layers.now findings.items) }
+{
+    let mut findings = Vec::new(alloc);
+    for (place, layer) in layers.iter().enumerate() {
+        let mut own = layer_findings(alloc, session, place, layer, edits)?;
+        findings.append(&mut own)?;
+    }
+    Ok(findings)
+}

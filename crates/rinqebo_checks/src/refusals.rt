@@ -1,0 +1,186 @@
+//! Findings of a refused configuration: one for each thing that is wrong.
+use rinqebo_findings::add_element;
+use rinqebo_findings::text_of;
+use rinqebo_findings::add_refused_texts;
+use rinqebo_findings::add_features;
+use rinqebo_findings::SourceAt;
+use rinqebo_findings::{ScriptFault, add_groups, add_scripts};
+use rinqebo_findings::add_no_document;
+use rinqebo_findings::add_parents;
+use rinqebo_findings::Refused;
+use rinqebo_findings::{add_script_errors, add_unknown_groups};
+use nextest_elements::{IdentifierOwner, ToolName};
+use nextest_places::Step;
+use nextest_sources::{
+    ConfigCompileError, ConfigCompileErrorKind, ConfigParseError, ConfigParseErrorKind, ConfigPath,
+    ReadOutcome,
+};
+use rinqebo_faults::{LeftOut, section_path};
+use rinqebo_load::Session;
+use rinqebo_report::{Code, Finding};
+use rinqebo_request::{Layer, SpanPart, place_at};
+use std::alloc::{AllocError, Global};
+
+/// The result of reading a file.
+fn add_outcome(refused: &mut Refused<'_, '_>, outcome: &ReadOutcome) -> Result<(), AllocError> {
+    match outcome {
+        ReadOutcome::Text(_) => Ok(()),
+        ReadOutcome::NotFound => refused.add_whole(Code::UnreadableFile, "no such file"),
+        ReadOutcome::NotADirectory => refused.add_whole(
+            Code::UnreadableFile,
+            "a part of its path is no directory",
+        ),
+        ReadOutcome::Failed(message) => refused.add_whole(Code::UnreadableFile, message.as_str()),
+    }
+}
+
+/// The code of what is wrong with a whole section.
+fn section_code(kind: &ConfigCompileErrorKind) -> Code {
+    match kind {
+        ConfigCompileErrorKind::ConstraintsNotSpecified { .. } => Code::RuleWithoutCondition,
+        ConfigCompileErrorKind::FilterAndDefaultFilterSpecified => Code::TwoFilters,
+        ConfigCompileErrorKind::Parse { .. } => Code::InvalidFilter,
+    }
+}
+
+/// What does not compile: each text that is refused, or else the whole section.
+fn add_compile(
+    refused: &mut Refused<'_, '_>,
+    error: &ConfigCompileError,
+) -> Result<(), AllocError> {
+    let alloc = refused.alloc;
+    let profile = error.profile_name.as_str();
+    let section = error.section;
+    let told = refused.findings.len();
+    add_refused_texts(refused, error)?;
+    if refused.findings.len() > told {
+        return Ok(());
+    }
+    let path = section_path(alloc, profile, section)?;
+    let wrong = error.kind.to_string(alloc)?;
+    let code = section_code(&error.kind);
+    refused.add_fault(code, &path, SpanPart::Value, wrong.as_str(), None, None)
+}
+
+/// A second file of a tool.
+fn add_second_file(
+    refused: &mut Refused<'_, '_>,
+    tool: &ToolName,
+    first: &ConfigPath,
+) -> Result<(), AllocError> {
+    let wrong = format!(in refused.alloc; "the tool `{tool}` provides `{first}`, too")?;
+    refused.add_whole(Code::SecondToolFile, wrong.as_str())
+}
+
+/// Scripts under the old key and under the new one.
+fn add_both_keys(refused: &mut Refused<'_, '_>) -> Result<(), AllocError> {
+    let alloc = refused.alloc;
+    let help = String::from_str(alloc, "move the scripts of `script` to `scripts.setup`")?;
+    let wrong = "there are `scripts` and its old form, `script`";
+    let path = [Step::Key("scripts")];
+    refused.add_fault(
+        Code::TwoScriptTables,
+        &path,
+        SpanPart::Key,
+        wrong,
+        None,
+        Some(help),
+    )
+}
+
+/// Filters and platforms that do not compile.
+fn add_compiles(
+    refused: &mut Refused<'_, '_>,
+    errors: &[ConfigCompileError],
+) -> Result<(), AllocError> {
+    for error in errors {
+        add_compile(refused, error)?;
+    }
+    Ok(())
+}
+
+/// Adds the findings of a refusal of this kind.
+///
+/// # Errors
+///
+/// [`AllocError`] where memory runs out, now or in the load.
+fn add_kind(refused: &mut Refused<'_, '_>, kind: &ConfigParseErrorKind) -> Result<(), AllocError> {
+    match kind {
+        ConfigParseErrorKind::DuplicateToolConfigFile { tool, first } => {
+            add_second_file(refused, tool, first)
+        }
+        ConfigParseErrorKind::ReadError(outcome) => add_outcome(refused, outcome),
+        ConfigParseErrorKind::BuildError(message) => add_no_document(refused, message.as_str()),
+        ConfigParseErrorKind::DeserializeError(fault) => add_element(refused, fault),
+        ConfigParseErrorKind::BothScriptAndScriptsDefined => add_both_keys(refused),
+        ConfigParseErrorKind::ExperimentalFeaturesNotEnabled { missing_features } => {
+            add_features(refused, missing_features)
+        }
+        ConfigParseErrorKind::InvalidTestGroupsDefined(groups)
+        | ConfigParseErrorKind::InvalidTestGroupsDefinedByTool(groups)
+        | ConfigParseErrorKind::InvalidTestGroupsDefinedByOrganisation(groups) => {
+            add_groups(refused, groups)
+        }
+        ConfigParseErrorKind::DuplicateConfigScriptNames(ids) => {
+            add_scripts(refused, ids, ScriptFault::Twice)
+        }
+        ConfigParseErrorKind::InvalidConfigScriptsDefined(ids)
+        | ConfigParseErrorKind::InvalidConfigScriptsDefinedByTool(ids)
+        | ConfigParseErrorKind::InvalidConfigScriptsDefinedByOrganisation(ids) => {
+            add_scripts(refused, ids, ScriptFault::Foreign)
+        }
+        ConfigParseErrorKind::InheritanceErrors(errors) => add_parents(refused, errors),
+        ConfigParseErrorKind::CompileErrors(errors) => add_compiles(refused, errors),
+        ConfigParseErrorKind::UnknownTestGroups {
+            errors,
+            known_groups,
+        } => add_unknown_groups(refused, errors, known_groups),
+        ConfigParseErrorKind::ProfileScriptErrors {
+            errors,
+            known_scripts,
+        } => add_script_errors(refused, errors, known_scripts),
+        ConfigParseErrorKind::Memory => Err(AllocError),
+    }
+}
+
+/// Who owns the file that is refused.
+fn refused_owner(error: &ConfigParseError) -> IdentifierOwner<'_> {
+    match error.tool() {
+        Some(tool) => IdentifierOwner::Tool(tool.as_str()),
+        None if error.is_organisation() => IdentifierOwner::Organisation,
+        None => IdentifierOwner::Nobody,
+    }
+}
+
+/// The place among the layers of the file that is refused.
+pub fn refused_place(layers: &[Layer], error: &ConfigParseError) -> Option<usize> {
+    place_at(layers, refused_owner(error), error.config_file()?)
+}
+
+/// Returns the findings of a refusal of files without what is left out.
+pub fn refusal_findings(
+    alloc: Global,
+    session: &Session<'_>,
+    error: &ConfigParseError,
+    left_out: &LeftOut,
+) -> Result<Vec<Finding>, AllocError> {
+    let position = refused_place(&session.layers, error);
+    let text = match position {
+        Some(position) => text_of(session.gathered, position),
+        None => None,
+    };
+    let mut findings = Vec::new(alloc);
+    let mut refused = Refused {
+        alloc,
+        source: SourceAt {
+            layers: &session.layers,
+            position,
+        },
+        text,
+        upstream: error.kind().name(),
+        left_out,
+        findings: &mut findings,
+    };
+    add_kind(&mut refused, error.kind())?;
+    Ok(findings)
+}

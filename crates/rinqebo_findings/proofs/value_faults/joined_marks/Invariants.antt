@@ -1,6 +1,0 @@
-use Rattle.rinqebo_findings.specs.Faults.{AreJoined}
-use Rattle.rinqebo_findings.proofs.value_faults.joined_marks.Given as goal
-
--- the faults whose marks are set so far are joined
-abbrev pub invariant-loop-place : goal.invariant-loop-place
-invariant-loop-place l = AreJoined l.faults l.marks.items
