@@ -3,11 +3,11 @@ ghost use Rattle.std.specs.Prelude.{IfErr, IfOk};
 ghost use Rattle.rinqebo_load.specs.FindTests.{IsFoundFor};
 ghost use Rattle.rinqebo_checks.specs.Failures.{IsFailureToFind, IsLoadFailure, IsProfileFailure, IsTestFailure};
 
-use rinqebo_findings::{Label, SourceAt, finding_at, warning_findings};
 use crate::report::{report_of, report_of_refusal};
 use nextest_config::ProfileNotFound;
 use nextest_places::Step;
 use nextest_sources::{ConfigParseError, DefaultConfigWarnings};
+use rinqebo_findings::{Label, SourceAt, finding_at, warning_findings};
 use rinqebo_load::{Failure, FoundTest, Missing, Session, TestFault};
 use rinqebo_report::{Code, Content, Finding, Level, Report};
 use rinqebo_request::{RequestedTest, SpanPart, text_hint};

@@ -1,14 +1,4 @@
 //! Findings of a refused configuration: one for each thing that is wrong.
-use rinqebo_findings::add_element;
-use rinqebo_findings::text_of;
-use rinqebo_findings::add_refused_texts;
-use rinqebo_findings::add_features;
-use rinqebo_findings::SourceAt;
-use rinqebo_findings::{ScriptFault, add_groups, add_scripts};
-use rinqebo_findings::add_no_document;
-use rinqebo_findings::add_parents;
-use rinqebo_findings::Refused;
-use rinqebo_findings::{add_script_errors, add_unknown_groups};
 use nextest_elements::{IdentifierOwner, ToolName};
 use nextest_places::Step;
 use nextest_sources::{
@@ -16,6 +6,10 @@ use nextest_sources::{
     ReadOutcome,
 };
 use rinqebo_faults::{LeftOut, section_path};
+use rinqebo_findings::{
+    Refused, ScriptFault, SourceAt, add_element, add_features, add_groups, add_no_document,
+    add_parents, add_refused_texts, add_script_errors, add_scripts, add_unknown_groups, text_of,
+};
 use rinqebo_load::Session;
 use rinqebo_report::{Code, Finding};
 use rinqebo_request::{Layer, SpanPart, place_at};

@@ -4,11 +4,10 @@ ghost use Rattle.rinqebo_checks.specs.Reports.{IsReportOf};
 ghost use Rattle.rinqebo_findings.specs.Shown.{AreReported};
 ghost use Rattle.rinqebo_checks.specs.Faults.{ShowsFaults};
 
-use rinqebo_findings::with_lines;
-use rinqebo_findings::nextest_findings;
 use crate::search::{Found, all_findings};
 use nextest_sources::{ConfigParseError, DefaultConfigWarnings};
 use rinqebo_faults::in_order;
+use rinqebo_findings::{nextest_findings, with_lines};
 use rinqebo_load::Session;
 use rinqebo_report::{Content, Finding, Report, Unreached};
 use rinqebo_request::sources_of;

@@ -5,7 +5,6 @@ ghost use Rattle.rinqebo_checks.specs.Faults.{ReportAll};
 
 use crate::edited_files::Reading;
 use crate::file_values::value_findings;
-use rinqebo_findings::other_warning_findings;
 use crate::refusals::{refusal_findings, refused_place};
 use nextest_documents::{TextFault, lay_over, tree_from_text};
 use nextest_elements::ConfigExperimental;
@@ -18,6 +17,7 @@ use rinqebo_faults::{
     leave_out_old_scripts, leave_out_parents, leave_out_script_rules, leave_out_scripts,
     leave_out_sections, leave_out_setting, names_after, only, scope_of,
 };
+use rinqebo_findings::other_warning_findings;
 use rinqebo_load::Session;
 use rinqebo_report::{Code, Finding, Unreached};
 use std::alloc::{AllocError, Global};

@@ -3,12 +3,12 @@
 ghost use Rattle.std.specs.Prelude.{IfOk, IsTrue};
 ghost use Rattle.rinqebo_checks.specs.Faults.{IsInPlace, IsInPlaceOf, IsKeyFinding, ReportFaults};
 
-use rinqebo_findings::{SourceAt, unknown_key_at};
 use crate::value_faults::{ValueFault, is_key_in};
 use nextest_places::Step;
 use nextest_shape::FoundFault;
 use nextest_tree::ElementCause;
 use rinqebo_faults::{mark_below, mark_of};
+use rinqebo_findings::{SourceAt, unknown_key_at};
 use rinqebo_load::Session;
 use rinqebo_report::Finding;
 use std::alloc::{AllocError, Global};

@@ -6,14 +6,11 @@ ghost use Rattle.nextest_places.specs.Spans.Paths as paths;
 ghost use Rattle.rinqebo_checks.specs.Faults.{AreJoined, IsFindingOf, IsJoined, IsKeyIn, IsRefusedKey, ReportFaults};
 ghost use Rattle.rinqebo_checks.specs.declared.value_faults.ValueFault.{ValueFault};
 
-use rinqebo_findings::fault_finding;
-use rinqebo_findings::text_of;
-use rinqebo_findings::SourceAt;
-use rinqebo_findings::Refused;
 use nextest_places::Step;
 use nextest_shape::FoundFault;
 use nextest_tree::{ElementCause, Tree};
 use rinqebo_faults::{LeftOut, stray_key, tree_at};
+use rinqebo_findings::{Refused, SourceAt, fault_finding, text_of};
 use rinqebo_load::Session;
 use rinqebo_report::Finding;
 use std::alloc::{AllocError, Global};

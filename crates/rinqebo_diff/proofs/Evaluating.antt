@@ -26,13 +26,13 @@ use Rattle.rinqebo_report.specs.declared.origin.Source.{Source}
 use Rattle.rinqebo_report.specs.declared.report.Entry.{Entry}
 use Rattle.rinqebo_report.specs.declared.report.TestId.{TestId}
 use Rattle.rinqebo_report.specs.declared.report.TestRows.{TestRows}
-use Rattle.rinqebo_run.specs.Listed.{IsProfileOn}
-use Rattle.rinqebo_run.specs.ListedBy.{read_by}
-use Rattle.rinqebo_run.specs.ShownConfig.{AreShown}
+use Rattle.rinqebo_results.specs.Listed.{IsProfileOn}
+use Rattle.rinqebo_results.specs.ListedBy.{read_by}
+use Rattle.rinqebo_results.specs.ShownConfig.{AreShown}
 use Rattle.rinqebo_changes.specs.Sides.Matched.{pair_view, AreMatched}
 use Rattle.rinqebo_changes.specs.declared.sides.matched.Matched.{Matched}
 use Rattle.rinqebo_changes.specs.declared.sides.matched.Pair.{Pair}
-use Rattle.rinqebo_run.proofs.Listing.{given_means}
+use Rattle.rinqebo_results.proofs.Listing.{given_means}
 use Rattle.rinqebo_diff.specs.Compared.{AreCompared}
 use Rattle.rinqebo_diff.specs.Differences.{Differs, IsCountOf, IsIdOf}
 use Rattle.rinqebo_diff.specs.Evaluated.{IsEvaluated, evaluation_of, IsDiffOfLoaded}

@@ -9,8 +9,8 @@ use Rattle.rinqebo_load.specs.SessionOf.{IsSessionOf}
 use Rattle.rinqebo_load.specs.declared.failure.Failure.{Failure}
 use Rattle.rinqebo_load.specs.declared.failure.Failure.TheVariants as causes
 use Rattle.rinqebo_load.specs.declared.session.Session.{Session}
-use Rattle.rinqebo_run.specs.LookedUp.{IsFailureOn}
-use Rattle.rinqebo_run.specs.Statuses.{failure_status}
+use Rattle.rinqebo_results.specs.LookedUp.{IsFailureOn}
+use Rattle.rinqebo_results.specs.Statuses.{failure_status}
 use Rattle.rinqebo_diff.specs.Differences.{Differs, diff_status, HasResult}
 use Rattle.rinqebo_diff.specs.Failing.{SideFails, FailsAt, Loads, DiffFails, IsRefusedSide, HasUsageFailure, LacksItsProfile, HasCause}
 use Rattle.rinqebo_diff.specs.Statuses.{diff_failure_status, HasFailureStatus, ReportsDiffFailure, ReportsRefusal}

@@ -19,7 +19,7 @@ use Rattle.rinqebo_report.specs.declared.value.Value.{Value}
 use Rattle.rinqebo_report.specs.declared.value.Value.TheVariants as values
 use Rattle.rinqebo_rules.specs.LeafValue.{is_spelled, is_tellable, text_node, value_node}
 use Rattle.rinqebo_rules.specs.Scripts.{wrapper_view}
-use Rattle.rinqebo_run.specs.ShownConfig.{ReportsLeaf, TellLeaves}
+use Rattle.rinqebo_results.specs.ShownConfig.{ReportsLeaf, TellLeaves}
 use Rattle.rinqebo_changes.specs.Keyed.{AreAlike}
 use Rattle.rinqebo_changes.specs.Sides.RunRows.{is_of_run, is_of_tests, IsEntryRow, IsWrapperRow}
 use Rattle.rinqebo_changes.specs.ValueViews as plain

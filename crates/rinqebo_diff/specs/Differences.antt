@@ -13,7 +13,7 @@ use Rattle.rinqebo_load.specs.Sessions.{readings}
 use Rattle.rinqebo_report.specs.declared.report.TestId.{TestId}
 use Rattle.rinqebo_report.specs.declared.report.TestRows.{TestRows}
 use Rattle.rinqebo_request.specs.declared.request.RequestedSettings.{RequestedSettings}
-use Rattle.rinqebo_run.specs.ListedBy.{basis_of}
+use Rattle.rinqebo_results.specs.ListedBy.{basis_of}
 use Rattle.rinqebo_diff.specs.Asked.{compares_runs}
 use Rattle.rinqebo_diff.specs.Compared.{AreCompared, ReportsBy}
 use Rattle.rinqebo_changes.specs.Sides.Matched.{TestPair, ArePairs, is_in}

@@ -9,8 +9,8 @@ use Rattle.nextest_settings.specs.Profiles.Profiles.{IsChainAndDefault}
 use Rattle.nextest_tables.specs.Written.{Name}
 use Rattle.rinqebo_changes.specs.declared.diff.Diff.{Diff}
 use Rattle.rinqebo_rules.specs.Conditions.{is_met_by}
-use Rattle.rinqebo_run.specs.Listed.{IsProfileOn}
-use Rattle.rinqebo_run.specs.ListedBy.{read_by}
+use Rattle.rinqebo_results.specs.Listed.{IsProfileOn}
+use Rattle.rinqebo_results.specs.ListedBy.{read_by}
 use Rattle.rinqebo_diff.specs.Differences.{IsDiffOf}
 use Rattle.rinqebo_diff.specs.Sides.{Evaluation}
 use Rattle.rinqebo_diff.specs.declared.loaded.Loaded.{Loaded}

@@ -7,8 +7,8 @@ use Rattle.rinqebo_load.specs.Beginning.{IsUnusable}
 use Rattle.rinqebo_load.specs.SessionOf.{IsSessionOf}
 use Rattle.rinqebo_load.specs.declared.failure.Failure.{Failure}
 use Rattle.rinqebo_load.specs.declared.session.Session.{Session}
-use Rattle.rinqebo_run.specs.LookedUp.{IsFailureOn}
-use Rattle.rinqebo_run.specs.Statuses.{failure_status}
+use Rattle.rinqebo_results.specs.LookedUp.{IsFailureOn}
+use Rattle.rinqebo_results.specs.Statuses.{failure_status}
 use Rattle.rinqebo_diff.specs.Loaded.{IsLoadedSide}
 use Rattle.rinqebo_diff.specs.declared.loaded.DiffFailure.{DiffFailure}
 use Rattle.rinqebo_diff.specs.declared.loaded.DiffFailure.TheVariants as failures

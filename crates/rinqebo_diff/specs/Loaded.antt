@@ -5,7 +5,7 @@ use Rattle.rinqebo_checks.specs.Reports.{IsReportOf}
 use Rattle.rinqebo_load.specs.Accepted.{AreAccepted}
 use Rattle.rinqebo_load.specs.SessionOf.{IsSessionOf}
 use Rattle.rinqebo_load.specs.Sessions.{files_view, readings, IsLoadedFrom}
-use Rattle.rinqebo_run.specs.LookedUp.{IsLookedUp}
+use Rattle.rinqebo_results.specs.LookedUp.{IsLookedUp}
 use Rattle.rinqebo_diff.specs.declared.request.DiffSide.{DiffSide}
 use Rattle.rinqebo_diff.specs.declared.loaded.Loaded.{Loaded}
 

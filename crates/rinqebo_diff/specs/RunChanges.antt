@@ -9,7 +9,7 @@ use Rattle.rinqebo_report.specs.declared.report.Entry.{Entry}
 use Rattle.rinqebo_report.specs.declared.report.ListScripts.{ListScripts}
 use Rattle.rinqebo_report.specs.declared.report.SettingRow.{SettingRow}
 use Rattle.rinqebo_rules.specs.Scripts.{AreScriptsReported}
-use Rattle.rinqebo_run.specs.ShownConfig.{AreShown}
+use Rattle.rinqebo_results.specs.ShownConfig.{AreShown}
 use Rattle.rinqebo_changes.specs.Sides.RunRows.{AreRunRows}
 use Rattle.rinqebo_diff.specs.Sides.{Evaluation}
 

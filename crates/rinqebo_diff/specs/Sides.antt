@@ -17,10 +17,10 @@ use Rattle.rinqebo_load.specs.Meant.{config_meant}
 use Rattle.rinqebo_load.specs.SessionOf.{IsSessionOf}
 use Rattle.rinqebo_load.specs.Sessions.{files_view, readings}
 use Rattle.rinqebo_load.specs.declared.session.Session.{Session}
-use Rattle.rinqebo_run.specs.Listed.{IsProfileOn}
-use Rattle.rinqebo_run.specs.LookedUp.{IsLookedUp}
-use Rattle.rinqebo_run.specs.Requested.{IsRequestedOf}
-use Rattle.rinqebo_run.specs.ReportsReasons.{configured_by}
+use Rattle.rinqebo_results.specs.Listed.{IsProfileOn}
+use Rattle.rinqebo_results.specs.LookedUp.{IsLookedUp}
+use Rattle.rinqebo_results.specs.Requested.{IsRequestedOf}
+use Rattle.rinqebo_results.specs.ReportsReasons.{configured_by}
 use Rattle.rinqebo_diff.specs.declared.request.DiffSide.{DiffSide}
 
 -- What a side is compared by: its session, its profile on the platforms of its build, and the

@@ -2,8 +2,8 @@
 use Rattle.std.specs.Prelude.{◌≡◌, ◌⊎◌, ℕ, List, Option}
 use Rattle.rinqebo_request.specs.declared.files.gathering.Gathered.{Gathered}
 use Rattle.rinqebo_report.specs.declared.format.Format.TheVariants as formats
-use Rattle.rinqebo_run.specs.Refused.{ReportsFailure}
-use Rattle.rinqebo_run.specs.Statuses.{failure_status}
+use Rattle.rinqebo_results.specs.Refused.{ReportsFailure}
+use Rattle.rinqebo_results.specs.Statuses.{failure_status}
 use Rattle.rinqebo_diff.specs.Failing.{DiffFails}
 use Rattle.rinqebo_diff.specs.declared.loaded.DiffFailure.{DiffFailure}
 use Rattle.rinqebo_diff.specs.declared.loaded.DiffFailure.TheVariants as failures

@@ -11,7 +11,7 @@ use rinqebo_findings::warning_findings;
 use rinqebo_load::{Config, Failure, Session};
 use rinqebo_report::{Content, Report};
 use rinqebo_request::Gathered;
-use rinqebo_run::config_looked_up;
+use rinqebo_results::config_looked_up;
 use std::alloc::{AllocError, Global};
 
 /// A side that is loaded.

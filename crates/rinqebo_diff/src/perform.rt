@@ -6,8 +6,8 @@ ghost use Rattle.rinqebo_diff.specs.Failing.{DiffFails, HasCause};
 ghost use Rattle.rinqebo_diff.specs.Statuses.{AreForJson, HasFailureStatus, ReportsDiffFailure, ReportsRefusal};
 ghost use Rattle.rinqebo_diff.specs.Written.{ReportsDiff};
 ghost use Rattle.rinqebo_report.specs.declared.format.Format.TheVariants as formats;
-ghost use Rattle.rinqebo_run.specs.Refused.{ReportsFailure};
-ghost use Rattle.rinqebo_run.specs.Statuses.{failure_status};
+ghost use Rattle.rinqebo_results.specs.Refused.{ReportsFailure};
+ghost use Rattle.rinqebo_results.specs.Statuses.{failure_status};
 
 use crate::format::render_diff;
 use crate::loaded::{DiffFailure, SideName, load_named};
@@ -17,8 +17,8 @@ use rinqebo_changes::Diff;
 use rinqebo_load::Failure;
 use rinqebo_report::{Report, render_findings};
 use rinqebo_request::Gathered;
+use rinqebo_results::{ProgressLine, Status, print_text, refuse_for_memory, refuse_in};
 use rinqebo_rules::{NoProgress, Progress};
-use rinqebo_run::{ProgressLine, Status, print_text, refuse_for_memory, refuse_in};
 use std::alloc::{AllocError, Global};
 use std::io::Write;
 

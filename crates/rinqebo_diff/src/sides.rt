@@ -25,8 +25,8 @@ use rinqebo_changes::{
 use rinqebo_load::chain_of_profile;
 use rinqebo_report::{SettingRow, TestId};
 use rinqebo_request::sources_of;
+use rinqebo_results::{Profile, entries_in, profile_on, requested_of, scripts_of_list};
 use rinqebo_rules::{Origins, Progress, reported_platform};
-use rinqebo_run::{Profile, entries_in, profile_on, requested_of, scripts_of_list};
 use std::alloc::{AllocError, Global};
 
 /// What a side is compared by.

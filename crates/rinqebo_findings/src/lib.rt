@@ -1,5 +1,5 @@
-//! What is wrong with the files of a session: the findings of warnings and of refusals, the reports
-//! that have them, and why a run returns nothing.
+//! The findings of what is wrong with files: one for each warning and each fault, with its place, its
+//! path, what was given and what was expected.
 #![tactic(auto)]
 
 mod below;
@@ -19,13 +19,15 @@ mod paths;
 mod refused;
 mod unknown_names;
 
-pub use findings::{Label, SourceAt, finding_at, other_warning_findings, unknown_key_at, warning_findings};
-pub use nextest_forms::nextest_findings;
 pub use elements::{add_element, fault_finding};
 pub use excerpts::{text_of, with_lines};
 pub use expressions::add_refused_texts;
 pub use features::add_features;
+pub use findings::{
+    Label, SourceAt, finding_at, other_warning_findings, unknown_key_at, warning_findings,
+};
 pub use foreign::{ScriptFault, add_groups, add_scripts};
+pub use nextest_forms::nextest_findings;
 pub use not_toml::add_no_document;
 pub use parents::add_parents;
 pub use refused::Refused;

@@ -31,8 +31,8 @@ use Rattle.rinqebo_report.specs.declared.report.TestRows.{TestRows}
 use Rattle.rinqebo_request.specs.declared.request.Request.{Request}
 use Rattle.rinqebo_request.specs.declared.request.RequestedSettings.{RequestedSettings}
 use Rattle.rinqebo_request.specs.declared.request.RequestedTest.{RequestedTest}
-use Rattle.rinqebo_run.specs.Explained.{Explains, IfExplained}
-use Rattle.rinqebo_run.specs.Listed.{IfListed, ReportsTests}
+use Rattle.rinqebo_results.specs.Explained.{Explains, IfExplained}
+use Rattle.rinqebo_results.specs.Listed.{IfListed, ReportsTests}
 
 -- ---- contents of reports
 

@@ -36,9 +36,9 @@ use Rattle.rinqebo_rules.specs.ProfileOrigins.{AreProfileOrigins}
 use Rattle.rinqebo_rules.specs.SettingRules.{rules_for}
 use Rattle.rinqebo_rules.specs.Settings.{IsSettingReported, is_by_rule, reported_settings}
 use Rattle.rinqebo_rules.specs.TestOrigins.{AreOriginsBy, wrapping_id}
-use Rattle.rinqebo_run.specs.Reasons.{IsRuleAsWritten}
-use Rattle.rinqebo_run.specs.ReportsReasons.{AreReasons}
-use Rattle.rinqebo_run.specs.RunsReasons.{AreRunsReasons, is_selected_on}
+use Rattle.rinqebo_results.specs.Reasons.{IsRuleAsWritten}
+use Rattle.rinqebo_results.specs.ReportsReasons.{AreReasons}
+use Rattle.rinqebo_results.specs.RunsReasons.{AreRunsReasons, is_selected_on}
 
 -- the fallback does not decide
 not_both : (fallback rule : Rule) → fallback ≡ rule → fallback.verdict ≡ verdicts.Fallback → rule.verdict ≡ verdicts.Decides → ⊥

@@ -29,8 +29,8 @@ use Rattle.rinqebo_rules.specs.Rows.{IsTestReported}
 use Rattle.rinqebo_rules.specs.Runs.{filtering_place, is_selected, runs_if}
 use Rattle.rinqebo_rules.specs.Settings.{reported_settings}
 use Rattle.rinqebo_rules.specs.TestOrigins.{wrapping_id}
-use Rattle.rinqebo_run.specs.Explained.{IsTestOf}
-use Rattle.rinqebo_run.specs.Listed.{AreTestsOf}
+use Rattle.rinqebo_results.specs.Explained.{IsTestOf}
+use Rattle.rinqebo_results.specs.Listed.{AreTestsOf}
 
 module _ {M K P : Type 0} (meets : K → P → Option Bool) (matches : M → Test → M → Bool) (platforms : BuildPlatforms P)
     (root : List ℕ) (config : ConfigModel M K) (layers : List Layer) (profile : Name) where

@@ -30,8 +30,8 @@ use Rattle.rinqebo_rules.specs.VerdictsBy.{decides_by, verdict_by, verdicts_by}
 use Rattle.rinqebo_rules.specs.declared.verdict.RuleFacts.{RuleFacts}
 use Rattle.rinqebo_rules.specs.declared.verdict.RuleVerdict.{RuleVerdict}
 use Rattle.rinqebo_rules.specs.declared.verdict.RuleVerdict.TheVariants.{PlatformNo, FilterNo, SetsNothing, DecidedBefore, Decides}
-use Rattle.rinqebo_run.specs.Reasons.{page_verdict}
-use Rattle.rinqebo_run.specs.RunsReasons.{AreFilterRulesReported, IsFilterRuleReported, default_value, filter_verdicts, is_decision}
+use Rattle.rinqebo_results.specs.Reasons.{page_verdict}
+use Rattle.rinqebo_results.specs.RunsReasons.{AreFilterRulesReported, IsFilterRuleReported, default_value, filter_verdicts, is_decision}
 
 -- ---- at most one decides
 

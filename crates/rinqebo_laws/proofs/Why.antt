@@ -35,7 +35,7 @@ use Rattle.rinqebo_rules.specs.TestOrigins.{AreOriginsBy}
 use Rattle.rinqebo_rules.specs.Verdicts.{verdicts_of}
 use Rattle.rinqebo_rules.specs.declared.verdict.RuleVerdict.{RuleVerdict}
 use Rattle.rinqebo_rules.specs.declared.verdict.RuleVerdict.TheVariants.{PlatformNo, FilterNo, SetsNothing, DecidedBefore, Decides}
-use Rattle.rinqebo_run.specs.Reasons.{AreRulesReported, IsRuleAsWritten, IsRuleReported, page_verdict}
+use Rattle.rinqebo_results.specs.Reasons.{AreRulesReported, IsRuleAsWritten, IsRuleReported, page_verdict}
 
 -- ---- verdicts as a report shows them
 

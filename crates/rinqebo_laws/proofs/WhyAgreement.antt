@@ -26,9 +26,9 @@ use Rattle.rinqebo_request.specs.declared.request.Request.{Request}
 use Rattle.rinqebo_request.specs.declared.request.RequestedSettings.{RequestedSettings}
 use Rattle.rinqebo_request.specs.declared.request.RequestedSettings.TheVariants as requests
 use Rattle.rinqebo_rules.specs.SettingRules.{rules_for}
-use Rattle.rinqebo_run.specs.Explained.{Explains, IfExplained}
-use Rattle.rinqebo_run.specs.ReportsReasons.{AreReasons, AreReasonsIn, IfWhy, ReportsReasons, configured_by}
-use Rattle.rinqebo_run.specs.RunsReasons.{AreRunsReasons, AreRunsReasonsIn, ReportsRunsReasons, is_selected_on}
+use Rattle.rinqebo_results.specs.Explained.{Explains, IfExplained}
+use Rattle.rinqebo_results.specs.ReportsReasons.{AreReasons, AreReasonsIn, IfWhy, ReportsReasons, configured_by}
+use Rattle.rinqebo_results.specs.RunsReasons.{AreRunsReasons, AreRunsReasonsIn, ReportsRunsReasons, is_selected_on}
 use Rattle.rinqebo_laws.proofs.Agreement.{if_explained, matches_of, meets_of, root_of}
 use Rattle.rinqebo_laws.proofs.ProfileRules.{RunsAgree, listed_if_decided, row_agrees, runs_agree}
 use Rattle.rinqebo_laws.proofs.Profiles.{explained_by, one_default, reported_of_one}

@@ -19,10 +19,10 @@ ghost use Rattle.rinqebo_report.specs.declared.report.SettingRow.{SettingRow};
 ghost use Rattle.rinqebo_request.specs.declared.request.Request.{Request};
 ghost use Rattle.rinqebo_request.specs.declared.request.RequestedSettings.{RequestedSettings};
 ghost use Rattle.rinqebo_request.specs.declared.request.RequestedTest.{RequestedTest};
-ghost use Rattle.rinqebo_run.specs.Explained.{Explains, IfExplained};
-ghost use Rattle.rinqebo_run.specs.Listed.{IfListed, ReportsTests};
-ghost use Rattle.rinqebo_run.specs.ReportsReasons.{IfWhy, ReportsReasons};
-ghost use Rattle.rinqebo_run.specs.RunsReasons.{ReportsRunsReasons};
+ghost use Rattle.rinqebo_results.specs.Explained.{Explains, IfExplained};
+ghost use Rattle.rinqebo_results.specs.Listed.{IfListed, ReportsTests};
+ghost use Rattle.rinqebo_results.specs.ReportsReasons.{IfWhy, ReportsReasons};
+ghost use Rattle.rinqebo_results.specs.RunsReasons.{ReportsRunsReasons};
 
 /// What `explain --why` and `explain` report of a setting of a test agree, in one session, profile
 /// and mode. At most one rule decides. If one does, the value is what that rule writes, and it

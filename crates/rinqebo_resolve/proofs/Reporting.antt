@@ -8,13 +8,13 @@ use Rattle.rinqebo_report.specs.declared.report.Report.{Report}
 use Rattle.rinqebo_request.specs.declared.request.Question.{Question}
 use Rattle.rinqebo_request.specs.declared.request.Question.TheVariants as questions
 use Rattle.rinqebo_request.specs.declared.request.Request.{Request}
-use Rattle.rinqebo_run.specs.Answered.{AnswersQuestion, IsAnswer}
-use Rattle.rinqebo_run.specs.Refused.{Fails, IsFailureIn, LackProfileFor, LackTestFor, LacksTestOf}
-use Rattle.rinqebo_run.specs.declared.answer.Answer.{Answer}
+use Rattle.rinqebo_results.specs.Answered.{AnswersQuestion, IsAnswer}
+use Rattle.rinqebo_results.specs.Refused.{Fails, IsFailureIn, LackProfileFor, LackTestFor, LacksTestOf}
+use Rattle.rinqebo_results.specs.declared.answer.Answer.{Answer}
 use Rattle.rinqebo_load.specs.declared.failure.Failure.{Failure}
 use Rattle.rinqebo_load.specs.declared.failure.Failure.TheVariants as failures
 use Rattle.rinqebo_load.specs.declared.session.Session.{Session}
-use Rattle.rinqebo_run.proofs.Refused.{failure_reported}
+use Rattle.rinqebo_results.proofs.Refused.{failure_reported}
 use Rattle.rinqebo_forms.specs.Runs.{RunText}
 use Rattle.rinqebo_resolve.specs.Asking.{RequestedText, AreFilesOf, AsksForAll, IsRequestFor, requested_of}
 use Rattle.rinqebo_session.specs.declared.status.TheConstants.{DONE}

@@ -5,9 +5,9 @@ use Rattle.rinqebo_request.specs.declared.files.gathering.Gathered.{Gathered}
 use Rattle.rinqebo_report.specs.Rendered.{json_text}
 use Rattle.rinqebo_report.specs.declared.report.Report.{Report}
 use Rattle.rinqebo_request.specs.declared.request.Request.{Request}
-use Rattle.rinqebo_run.specs.Answered.{IsAnswer}
-use Rattle.rinqebo_run.specs.Refused.{AreRefusedFor, HasUsageFailure, LackProfileFor}
-use Rattle.rinqebo_run.specs.declared.answer.Answer.{Answer}
+use Rattle.rinqebo_results.specs.Answered.{IsAnswer}
+use Rattle.rinqebo_results.specs.Refused.{AreRefusedFor, HasUsageFailure, LackProfileFor}
+use Rattle.rinqebo_results.specs.declared.answer.Answer.{Answer}
 use Rattle.rinqebo_load.specs.declared.failure.Failure.{Failure}
 use Rattle.rinqebo_load.specs.declared.failure.Failure.TheVariants as failures
 use Rattle.rinqebo_session.specs.declared.status.TheConstants.{DONE, REFUSED, SMALL, NOT_TEXT, MEMORY, NOT_UNDERSTOOD, NO_ENGINES, NO_PROFILE}

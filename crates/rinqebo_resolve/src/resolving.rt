@@ -12,8 +12,9 @@ use rinqebo_forms::{RequestFault, RunRequest};
 use rinqebo_load::{Failure, InputFault, OpenFilter};
 use rinqebo_report::{Report, render_json};
 use rinqebo_request::Gathered;
+use rinqebo_results::Answer;
 use rinqebo_rules::NoProgress;
-use rinqebo_run::{Answer, answer_of};
+use rinqebo_run::answer_of;
 use std::alloc::{AllocError, Global};
 
 /// The document of a report.

@@ -4,7 +4,7 @@ use Rattle.nextest_tables.specs.Written.{Name}
 use Rattle.rinqebo_request.specs.declared.files.layers.Layer.{Layer}
 use Rattle.rinqebo_report.specs.declared.origin.Origin.{Origin}
 use Rattle.rinqebo_rules.specs.ProfileOrigins.{AreProfileOrigins, built_in, written}
-use Rattle.rinqebo_run.specs.Reasons.{or_built_in}
+use Rattle.rinqebo_results.specs.Reasons.{or_built_in}
 
 -- the origins of a value of a chain are some
 some_origins : (layers : List Layer) (chain : List Name) (table : Option (List ℕ)) (name : List ℕ) (origins : List Origin)

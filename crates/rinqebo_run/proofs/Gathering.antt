@@ -29,17 +29,17 @@ use Rattle.platform_language.specs.Expressions.{spec_view}
 use Rattle.platform_language.specs.declared.expression.TargetSpec.{TargetSpec}
 use Rattle.platform_language.specs.declared.platforms.Platform.{Platform}
 use Rattle.rinqebo_run.proofs.Meant.{reasons_of_texts}
-use Rattle.rinqebo_run.proofs.Requests.{requested_meant}
-use Rattle.rinqebo_run.specs.Requested.{IsRequestedIn}
+use Rattle.rinqebo_results.proofs.Requests.{requested_meant}
+use Rattle.rinqebo_results.specs.Requested.{IsRequestedIn}
 use Rattle.rinqebo_load.specs.Accepted.{AreAccepted}
 use Rattle.rinqebo_load.specs.FoundTests.{found_view}
 use Rattle.rinqebo_rules.specs.Conditions.{is_met_by, filter_matches}
-use Rattle.rinqebo_run.specs.Reasons.{AreRulesReported, HasNoConditions, IsRuleAsWritten}
+use Rattle.rinqebo_results.specs.Reasons.{AreRulesReported, HasNoConditions, IsRuleAsWritten}
 use Rattle.rinqebo_load.specs.Sessions.{files_view, readings, IsLoadedFrom}
 use Rattle.rinqebo_rules.specs.Origins.{key_steps}
 use Rattle.rinqebo_rules.specs.ProfileOrigins.{AreProfileOrigins}
 use Rattle.rinqebo_rules.specs.SettingRules.{rules_for}
-use Rattle.rinqebo_run.specs.ReportsReasons.{AreReasons, AreReasonsIn, configured_by, IfWhy, IsTestNamed, ReportsReasons}
+use Rattle.rinqebo_results.specs.ReportsReasons.{AreReasons, AreReasonsIn, configured_by, IfWhy, IsTestNamed, ReportsReasons}
 use Rattle.rinqebo_load.specs.declared.found_test.FoundTest.{FoundTest}
 use Rattle.rinqebo_load.specs.declared.session.Session.{Session}
 use Rattle.rinqebo_rules.specs.Reported.{reported_of, value_view}

@@ -7,8 +7,8 @@ use Rattle.rinqebo_checks.specs.Faults.{ShowsFaults}
 use Rattle.rinqebo_load.specs.Accepted.{AreAccepted}
 use Rattle.rinqebo_report.specs.declared.finding.Finding.{Finding}
 use Rattle.rinqebo_report.specs.declared.report.Report.{Report}
-use Rattle.rinqebo_run.specs.Checked.{IsCheckStatus, accepted_status, is_error}
-use Rattle.rinqebo_run.specs.declared.answer.Answer.{Answer}
+use Rattle.rinqebo_results.specs.Checked.{IsCheckStatus, accepted_status, is_error}
+use Rattle.rinqebo_results.specs.declared.answer.Answer.{Answer}
 use Rattle.rinqebo_load.specs.declared.session.Session.{Session}
 
 -- the status of a check by whether a finding is an error, and whether one is denied

@@ -31,9 +31,9 @@ use Rattle.rinqebo_rules.specs.VerdictsBy.{verdicts_by}
 use Rattle.rinqebo_rules.specs.declared.verdict.RuleVerdict.{RuleVerdict}
 use Rattle.rinqebo_rules.specs.Conditions.{reported_condition, requested_if}
 use Rattle.rinqebo_rules.specs.RuleAnswers.{answers_by}
-use Rattle.rinqebo_run.specs.Reasons.{IsRuleReported, AreRulesReported}
+use Rattle.rinqebo_results.specs.Reasons.{IsRuleReported, AreRulesReported}
 use Rattle.rinqebo_rules.specs.SettingRules.{RuleFor, writes_it, for_setting, override_writes, wrapper_written, is_of_scripts, rules_for}
-use Rattle.rinqebo_run.specs.ReportsReasons.{AreReasons, AreReasonsIn}
+use Rattle.rinqebo_results.specs.ReportsReasons.{AreReasons, AreReasonsIn}
 
 -- what is made of one of two lists
 map_if : {X Y : Type 0} (h : X → Y) (b : Bool) (xs ys : List X)

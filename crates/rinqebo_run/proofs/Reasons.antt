@@ -16,7 +16,7 @@ use Rattle.rinqebo_rules.specs.declared.chain_rules.SettingRule.{SettingRule}
 use Rattle.rinqebo_rules.specs.declared.conditions.Asking.{Asking}
 use Rattle.rinqebo_rules.specs.declared.verdict.RuleVerdict.{RuleVerdict}
 use Rattle.rinqebo_run.proofs.Pairs.{zip_back, zip_moved}
-use Rattle.rinqebo_run.specs.Reasons.{AreRulesReportedHere, AreReportedWith, IsRuleReported}
+use Rattle.rinqebo_results.specs.Reasons.{AreRulesReportedHere, AreReportedWith, IsRuleReported}
 
 -- the verdicts of what is found out of rules are those that come of them
 reported_verdicts : (asking : Asking) (rules : List SettingRule) (written : List ReadRule)

@@ -27,12 +27,12 @@ use Rattle.rinqebo_report.specs.declared.report.Report.{Report}
 use Rattle.rinqebo_report.specs.declared.report.TestRows.{TestRows}
 use Rattle.rinqebo_request.specs.declared.request.RequestedSettings.{RequestedSettings}
 use Rattle.rinqebo_rules.specs.Conditions.{is_met_by}
-use Rattle.rinqebo_run.proofs.Listing.{given_means}
-use Rattle.rinqebo_run.proofs.Requests.{requested_meant}
-use Rattle.rinqebo_run.specs.Requested.{IsRequestedIn}
-use Rattle.rinqebo_run.specs.Explained.{Explains, IfExplained, IsTestOf}
-use Rattle.rinqebo_run.specs.Listed.{IsProfileOn}
-use Rattle.rinqebo_run.specs.ListedBy.{basis_of, explained_by, read_by}
+use Rattle.rinqebo_results.proofs.Listing.{given_means}
+use Rattle.rinqebo_results.proofs.Requests.{requested_meant}
+use Rattle.rinqebo_results.specs.Requested.{IsRequestedIn}
+use Rattle.rinqebo_results.specs.Explained.{Explains, IfExplained, IsTestOf}
+use Rattle.rinqebo_results.specs.Listed.{IsProfileOn}
+use Rattle.rinqebo_results.specs.ListedBy.{basis_of, explained_by, read_by}
 use Rattle.platform_language.specs.Expressions.{Spec, spec_view}
 use Rattle.platform_language.specs.declared.expression.TargetSpec.{TargetSpec}
 

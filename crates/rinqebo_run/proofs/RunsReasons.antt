@@ -49,11 +49,11 @@ use Rattle.rinqebo_rules.proofs.ListedTests.{made_twice}
 use Rattle.rinqebo_run.proofs.Gathering.{why_moved}
 use Rattle.rinqebo_run.proofs.Meant.{condition_meant, read_meets, specs_meant}
 use Rattle.rinqebo_run.proofs.Pairs.{zip_moved}
-use Rattle.rinqebo_run.proofs.Requests.{requested_meant}
-use Rattle.rinqebo_run.specs.Requested.{IsRequestedIn}
-use Rattle.rinqebo_run.specs.ConditionTexts.{HasText, IsAbsent, default_text}
-use Rattle.rinqebo_run.specs.RunsReasons.{AreFilterRulesReported, AreHeldReported, AreRunsReasons, AreRunsReasonsIn, AreRunsReported, IsFilterRuleReported, ReportsRunsReasons, default_answer, default_value, filter_verdicts, is_decision, is_selected_on}
-use Rattle.rinqebo_run.specs.ReportsReasons.{IfWhy, IsTestNamed, configured_by}
+use Rattle.rinqebo_results.proofs.Requests.{requested_meant}
+use Rattle.rinqebo_results.specs.Requested.{IsRequestedIn}
+use Rattle.rinqebo_results.specs.ConditionTexts.{HasText, IsAbsent, default_text}
+use Rattle.rinqebo_results.specs.RunsReasons.{AreFilterRulesReported, AreHeldReported, AreRunsReasons, AreRunsReasonsIn, AreRunsReported, IsFilterRuleReported, ReportsRunsReasons, default_answer, default_value, filter_verdicts, is_decision, is_selected_on}
+use Rattle.rinqebo_results.specs.ReportsReasons.{IfWhy, IsTestNamed, configured_by}
 
 -- the verdicts of rules as code holds them
 held_verdicts : (rules : List SettingRule) (found : List FilterRule) → map filter_rule_view rules ≡ found

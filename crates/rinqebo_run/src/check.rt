@@ -5,16 +5,15 @@ ghost use Rattle.nextest_sources.specs.Endings.{IsMemory};
 ghost use Rattle.rinqebo_checks.specs.Reports.{IsReportOf};
 ghost use Rattle.rinqebo_checks.specs.Faults.{ShowsFaults};
 ghost use Rattle.rinqebo_load.specs.declared.failure.Failure.TheVariants.{Memory};
-ghost use Rattle.rinqebo_run.specs.Checked.{IsCheckStatus, accepted_status, is_error};
+ghost use Rattle.rinqebo_results.specs.Checked.{IsCheckStatus, accepted_status, is_error};
 
-use crate::answer::Answer;
 use crate::open_filters::open_filters_note;
-use crate::status::Status;
 use nextest_config::{ConfigParseError, DefaultConfigWarnings};
 use rinqebo_checks::{report_of, report_of_refused_check};
 use rinqebo_findings::{nextest_findings, warning_findings};
 use rinqebo_load::{Config, Failure, Session};
 use rinqebo_report::{Content, Finding, Level};
+use rinqebo_results::{Answer, Status};
 use std::alloc::{AllocError, Global};
 
 /// Whether a finding is an error.

@@ -4,9 +4,8 @@ ghost use Rattle.std.specs.Io.KnownBytes.{Appends};
 ghost use Rattle.rinqebo_report.specs.Codes.CodePages.{listed_text, page_text};
 ghost use Rattle.rinqebo_report.specs.declared.codes.code.TheConstants.{CODES};
 
-use crate::printing::{print_text, refuse_for_memory};
-use crate::status::Status;
 use rinqebo_report::{Code, code_page, codes_list};
+use rinqebo_results::{Status, print_text, refuse_for_memory};
 use std::alloc::Global;
 use std::io::Write;
 

@@ -3,22 +3,18 @@ ghost use Rattle.std.specs.Prelude.{◌≡◌, IfErr, IfOk};
 ghost use Rattle.nextest_inheritance.specs.Parents.{parents_in};
 ghost use Rattle.nextest_load.specs.Config.{config_parents};
 ghost use Rattle.nextest_tables.specs.FileTexts.{names_in, IsIn};
-ghost use Rattle.rinqebo_run.specs.LookedUp.{IsFailureOn, IsLookedUp};
+ghost use Rattle.rinqebo_results.specs.LookedUp.{IsFailureOn, IsLookedUp};
 ghost use Rattle.rinqebo_checks.specs.Reports.{IsReportOf};
-ghost use Rattle.rinqebo_run.specs.Explained.{Explains, IfExplained};
-ghost use Rattle.rinqebo_run.specs.ListedBy.{explained_by};
-ghost use Rattle.rinqebo_run.specs.Requested.{IsRequestedIn};
+ghost use Rattle.rinqebo_results.specs.Explained.{Explains, IfExplained};
+ghost use Rattle.rinqebo_results.specs.ListedBy.{explained_by};
+ghost use Rattle.rinqebo_results.specs.Requested.{IsRequestedIn};
 
-use crate::answer::Answer;
-use crate::asked::requested_of;
-use crate::list::profile_on;
-use crate::looked_up::config_looked_up;
-use crate::reporting::answer_on_test;
 use filter_engine::NextestTally;
 use nextest_config::DefaultConfigWarnings;
 use rinqebo_load::{Config, Failure, FoundTest, Session, chain_of_profile};
 use rinqebo_report::Content;
 use rinqebo_request::RequestedSettings;
+use rinqebo_results::{Answer, answer_on_test, config_looked_up, profile_on, requested_of};
 use rinqebo_rules::{Lister, Origins};
 use std::alloc::{AllocError, Global};
 

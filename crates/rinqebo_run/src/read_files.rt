@@ -1,9 +1,8 @@
 //! The note of `check` about the files that it read.
-use crate::answer::Answer;
-use crate::status::Status;
 use nextest_config::{FileInput, ReadOutcome, ToolConfigFile};
 use rinqebo_report::Format;
 use rinqebo_request::{Gathered, Question, Request};
+use rinqebo_results::{Answer, Status};
 use std::alloc::{AllocError, Global};
 
 /// Whether a file was read.

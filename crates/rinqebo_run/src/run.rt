@@ -7,32 +7,22 @@ ghost use Rattle.nextest_shape.specs.Page.{schema_data};
 ghost use Rattle.serde_json.specs.Written.{compact_text};
 ghost use Rattle.rinqebo_checks.specs.Reports.{IsReportOf};
 ghost use Rattle.rinqebo_report.specs.Rendered.{rendered};
-ghost use Rattle.rinqebo_run.specs.Answered.{AnswersQuestion, HasObjectsFor, IsAboutTest, IsAnswer, Reports};
-ghost use Rattle.rinqebo_run.specs.Begun.{IsBegun};
-ghost use Rattle.rinqebo_run.specs.Explained.{Explains};
-ghost use Rattle.rinqebo_run.specs.LookedUp.{AreLookedUp, IsLookedUp};
-ghost use Rattle.rinqebo_run.specs.Prefixes.{AppendsPrefix, ReceivesPrefix};
-ghost use Rattle.rinqebo_run.specs.Received.{IsWhole};
-ghost use Rattle.rinqebo_run.specs.Refused.{Fails, IsFailureAboutTest, IsFailureIn, IsReportedBy, ReportsRefusal};
-ghost use Rattle.rinqebo_run.specs.RunsReasons.{ReportsRunsReasons};
-ghost use Rattle.rinqebo_run.specs.ReportsReasons.{ReportsReasons};
-ghost use Rattle.rinqebo_run.specs.Statuses.{IsStatus, IsAnswerStatus, IsGatherStatus, IsWordsStatus, ReportsWords};
-ghost use Rattle.rinqebo_run.specs.Written.{AsksList, IsStopStatus};
+ghost use Rattle.rinqebo_results.specs.Answered.{AnswersQuestion, HasObjectsFor, IsAboutTest, IsAnswer, Reports};
+ghost use Rattle.rinqebo_results.specs.Begun.{IsBegun};
+ghost use Rattle.rinqebo_results.specs.Explained.{Explains};
+ghost use Rattle.rinqebo_results.specs.LookedUp.{AreLookedUp, IsLookedUp};
+ghost use Rattle.rinqebo_results.specs.Prefixes.{AppendsPrefix, ReceivesPrefix};
+ghost use Rattle.rinqebo_results.specs.Received.{IsWhole};
+ghost use Rattle.rinqebo_results.specs.Refused.{Fails, IsFailureAboutTest, IsFailureIn, IsReportedBy, ReportsRefusal};
+ghost use Rattle.rinqebo_results.specs.RunsReasons.{ReportsRunsReasons};
+ghost use Rattle.rinqebo_results.specs.ReportsReasons.{ReportsReasons};
+ghost use Rattle.rinqebo_results.specs.Statuses.{IsStatus, IsAnswerStatus, IsGatherStatus, IsWordsStatus, ReportsWords};
+ghost use Rattle.rinqebo_results.specs.Written.{AsksList, IsStopStatus};
 ghost use Rattle.rinqebo_report.specs.declared.format.Format.TheVariants as formats;
 
-use crate::answer::Answer;
 use crate::check::check;
 use crate::explain::explain;
-use crate::list::list;
-use crate::list_fault::ListFault;
-use crate::list_page::RequestedList;
-use crate::list_text::write_list;
-use crate::printing::{print_text, print_texts, refuse_for_memory, refuse_message};
-use crate::progress::ProgressLine;
 use crate::read_files::add_read_files;
-use crate::refusing::{refuse, refuse_in};
-use crate::show::show;
-use crate::status::Status;
 use crate::unset::add_unset;
 use crate::why::why;
 use crate::why_runs::why_runs;
@@ -43,6 +33,10 @@ use rinqebo_load::{Failure, Session};
 use rinqebo_report::{Colour, Content, DOCUMENT_SCHEMA, Format, Report, render, render_findings};
 use rinqebo_request::{
     GatherFault, Gathered, ParseStop, Question, Request, RequestedSettings, RequestedTest,
+};
+use rinqebo_results::{
+    Answer, ListFault, ProgressLine, RequestedList, Status, list, print_text, print_texts, refuse,
+    refuse_for_memory, refuse_in, refuse_message, show, write_list,
 };
 use rinqebo_rules::Progress;
 use std::alloc::{AllocError, Global};

@@ -1,10 +1,10 @@
 //! The note of `show-config` where nothing is set under its keys.
-use crate::answer::Answer;
 use nextest_config::NextestRunMode;
 use nextest_shape::{Shape, file_shape, keys_of};
 use rinqebo_keys::all_keys;
 use rinqebo_report::{Content, Format, Report};
 use rinqebo_request::{Question, Request, text_hint};
+use rinqebo_results::Answer;
 use std::alloc::{AllocError, Global};
 
 /// The keys beside those of a profile.

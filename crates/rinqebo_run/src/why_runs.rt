@@ -10,26 +10,24 @@ ghost use Rattle.rinqebo_rules.specs.Conditions.{is_met_by, filter_matches};
 ghost use Rattle.rinqebo_rules.specs.FilterRules.{filter_rule_view};
 ghost use Rattle.rinqebo_rules.specs.ProfileOrigins.{AreProfileOrigins};
 ghost use Rattle.rinqebo_rules.specs.Reported.{value_view};
-ghost use Rattle.rinqebo_run.specs.ConditionTexts.{default_text, HasText, IsAbsent};
-ghost use Rattle.rinqebo_run.specs.ListedBy.{read_by};
-ghost use Rattle.rinqebo_run.specs.LookedUp.{IsFailureOn, IsLookedUp};
+ghost use Rattle.rinqebo_results.specs.ConditionTexts.{default_text, HasText, IsAbsent};
+ghost use Rattle.rinqebo_results.specs.ListedBy.{read_by};
+ghost use Rattle.rinqebo_results.specs.LookedUp.{IsFailureOn, IsLookedUp};
 ghost use Rattle.rinqebo_checks.specs.Reports.{IsReportOf};
-ghost use Rattle.rinqebo_run.specs.Requested.{IsRequestedIn};
-ghost use Rattle.rinqebo_run.specs.RunsReasons.{AreHeldReported, AreRunsReasons, AreRunsReasonsIn, IsFilterRuleReported, ReportsRunsReasons, default_answer, default_value, is_decision};
-ghost use Rattle.rinqebo_run.specs.ReportsReasons.{IfWhy, IsTestNamed};
+ghost use Rattle.rinqebo_results.specs.Requested.{IsRequestedIn};
+ghost use Rattle.rinqebo_results.specs.RunsReasons.{AreHeldReported, AreRunsReasons, AreRunsReasonsIn, IsFilterRuleReported, ReportsRunsReasons, default_answer, default_value, is_decision};
+ghost use Rattle.rinqebo_results.specs.ReportsReasons.{IfWhy, IsTestNamed};
 
-use crate::answer::Answer;
-use crate::asked::requested_of;
-use crate::condition_texts::{condition, default_text, host_text, no_condition, target_text};
-use crate::looked_up::config_looked_up;
-use crate::profile::{Early, early_profile};
-use crate::reporting::answer_on_test;
 use crate::why::{first_and_others, named_test, reported_verdict};
 use nextest_config::DefaultConfigWarnings;
 use rinqebo_keys::RUNS;
 use rinqebo_load::{Config, Failure, FoundTest, Session, chain_of_profile};
 use rinqebo_report::{ConditionAnswer, Content, Rule, Scalar, Value, Verdict};
 use rinqebo_request::Layer;
+use rinqebo_results::{
+    Answer, Early, answer_on_test, condition, config_looked_up, default_text, early_profile,
+    host_text, no_condition, requested_of, target_text,
+};
 use rinqebo_rules::{
     RuleVerdict, SettingRule, default_filter_key, filter_rules, is_matched_by_default,
     profile_grounds, verdicts_of,

@@ -7,8 +7,8 @@ use Rattle.nextest_settings.specs.Profiles.Meaning.{profile_meaning}
 use Rattle.rinqebo_changes.specs.Changes.{is_change}
 use Rattle.rinqebo_request.specs.declared.request.RequestedSettings.{RequestedSettings}
 use Rattle.rinqebo_rules.specs.TestOrigins.{Basis}
-use Rattle.rinqebo_run.proofs.Listing.{basis_here}
-use Rattle.rinqebo_run.specs.ListedBy.{basis_of}
+use Rattle.rinqebo_results.proofs.Listing.{basis_here}
+use Rattle.rinqebo_results.specs.ListedBy.{basis_of}
 use Rattle.rinqebo_changes.specs.Sides.Matched.{pair_view}
 use Rattle.rinqebo_diff.specs.Asked.{compares_runs}
 use Rattle.rinqebo_diff.specs.Compared.{AreCompared, ReportsBy}

@@ -1,7 +1,7 @@
 use Rattle.std.proofs.Common.{◌∙◌, ap, map}
 use Rattle.nextest_inheritance.specs.View.{borrowed_view}
 use Rattle.rinqebo_request.specs.Files.Origins.{reported_file}
-use Rattle.rinqebo_run.proofs.Requests.{requested_on}
+use Rattle.rinqebo_results.proofs.Requests.{requested_on}
 use Rattle.rinqebo_diff.proofs.sides.side_of.Goals as goal
 
 pub returns : goal.returns

@@ -1,5 +1,5 @@
 use Rattle.std.proofs.Common.{◌∙◌, ap}
-use Rattle.rinqebo_run.specs.Checked.{accepted_status}
+use Rattle.rinqebo_results.specs.Checked.{accepted_status}
 use Rattle.rinqebo_run.proofs.check.accepted.Goals as goal
 
 pub returns-clause-status : goal.returns-clause-status

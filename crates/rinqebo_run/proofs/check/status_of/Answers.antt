@@ -1,6 +1,6 @@
 use Rattle.std.proofs.Common.{◌&&◌, ◌==◌, not, length, sym}
 use Rattle.std.specs.List.{list_any}
-use Rattle.rinqebo_run.specs.Checked.{is_error}
+use Rattle.rinqebo_results.specs.Checked.{is_error}
 use Rattle.rinqebo_run.proofs.Loads.{by_denied, by_error, by_none}
 use Rattle.rinqebo_run.proofs.check.status_of.Goals as goal
 

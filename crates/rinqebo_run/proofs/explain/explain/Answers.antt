@@ -1,4 +1,4 @@
-use Rattle.rinqebo_run.proofs.Refused.{want_evaluated}
+use Rattle.rinqebo_results.proofs.Refused.{want_evaluated}
 use Rattle.rinqebo_run.proofs.Rows.{explains}
 use Rattle.rinqebo_run.proofs.explain.explain.Goals as goal
 

@@ -1,10 +1,10 @@
 use Rattle.std.proofs.Common.{◌∙◌, ap}
 use Rattle.nextest_inheritance.specs.View.{borrowed_view}
 use Rattle.filter_inputs.specs.Lists.ListView.{list_test_view}
-use Rattle.rinqebo_run.proofs.Listing.{basis_here}
-use Rattle.rinqebo_run.proofs.Requests.{requested_on}
+use Rattle.rinqebo_results.proofs.Listing.{basis_here}
+use Rattle.rinqebo_results.proofs.Requests.{requested_on}
 use Rattle.rinqebo_run.proofs.Rows.{explained_here}
-use Rattle.rinqebo_run.specs.ListedBy.{basis_of}
+use Rattle.rinqebo_results.specs.ListedBy.{basis_of}
 use Rattle.rinqebo_run.proofs.explain.explained.Goals as goal
 
 pub profile_on-requires : goal.profile_on-requires

@@ -1,5 +1,5 @@
-use Rattle.rinqebo_run.proofs.Received.{list_received, stop_begun}
-use Rattle.rinqebo_run.proofs.Writing.{stop_quiet, stop_silent, stop_status, stop_reported}
+use Rattle.rinqebo_results.proofs.Received.{list_received, stop_begun}
+use Rattle.rinqebo_results.proofs.Writing.{stop_quiet, stop_silent, stop_status, stop_reported}
 use Rattle.rinqebo_run.proofs.run.answer_list.Goals as goal
 
 pub returns-in-Err-clause-status : goal.returns-in-Err-clause-status

@@ -1,5 +1,5 @@
-use Rattle.rinqebo_run.proofs.Refused.{fails_in}
-use Rattle.rinqebo_run.proofs.Statuses.{is_answered}
+use Rattle.rinqebo_results.proofs.Refused.{fails_in}
+use Rattle.rinqebo_results.proofs.Statuses.{is_answered}
 use Rattle.rinqebo_run.proofs.run.answer_of.Goals as goal
 
 pub returns-clause-ok : goal.returns-clause-ok

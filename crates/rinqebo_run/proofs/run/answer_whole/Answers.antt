@@ -1,7 +1,7 @@
-use Rattle.rinqebo_run.proofs.Documents.{answer_ends, one_of_four, refusal_quiet, refusal_told}
-use Rattle.rinqebo_run.proofs.Received.{answer_begun, failure_begun}
-use Rattle.rinqebo_run.proofs.Refused.{answer_reported, failure_reported}
-use Rattle.rinqebo_run.proofs.Statuses.{answer_status, answered_status, reported_same, reported_page, tells, failed_silent, failed_status}
+use Rattle.rinqebo_results.proofs.Documents.{answer_ends, one_of_four, refusal_quiet, refusal_told}
+use Rattle.rinqebo_results.proofs.Received.{answer_begun, failure_begun}
+use Rattle.rinqebo_results.proofs.Refused.{answer_reported, failure_reported}
+use Rattle.rinqebo_results.proofs.Statuses.{answer_status, answered_status, reported_same, reported_page, tells, failed_silent, failed_status}
 use Rattle.rinqebo_run.proofs.run.answer_whole.Goals as goal
 
 pub returns-in-Ok-clause-status : goal.returns-in-Ok-clause-status

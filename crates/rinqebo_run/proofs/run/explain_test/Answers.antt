@@ -1,8 +1,8 @@
 use Rattle.std.proofs.Common.{inr}
 use Rattle.std.proofs.lemmas.Result.{IfErr-weaker}
-use Rattle.rinqebo_run.specs.LookedUp.{IsFailureOn}
-use Rattle.rinqebo_run.proofs.Refused.{is_about}
-use Rattle.rinqebo_run.specs.Refused.{IsFailureAboutTest}
+use Rattle.rinqebo_results.specs.LookedUp.{IsFailureOn}
+use Rattle.rinqebo_results.proofs.Refused.{is_about}
+use Rattle.rinqebo_results.specs.Refused.{IsFailureAboutTest}
 use Rattle.rinqebo_run.proofs.run.explain_test.Goals as goal
 
 pub returns-clause-ok : goal.returns-clause-ok

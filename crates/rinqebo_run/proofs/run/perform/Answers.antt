@@ -1,4 +1,4 @@
-use Rattle.rinqebo_run.proofs.Documents.{last_of_five, one_of_five, text_or_json}
+use Rattle.rinqebo_results.proofs.Documents.{last_of_five, one_of_five, text_or_json}
 use Rattle.rinqebo_run.proofs.run.perform.Goals as goal
 
 pub returns-in-Some-clause-quiet : goal.returns-in-Some-clause-quiet

@@ -1,5 +1,5 @@
 use Rattle.std.proofs.Common.{◌∙◌, inr, subst}
-use Rattle.rinqebo_run.specs.Prefixes.{AppendsPrefix}
+use Rattle.rinqebo_results.specs.Prefixes.{AppendsPrefix}
 use Rattle.rinqebo_run.proofs.run.print_schema.Goals as goal
 
 pub returns-in-Ok-clause-begun : goal.returns-in-Ok-clause-begun

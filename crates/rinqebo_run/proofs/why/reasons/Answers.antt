@@ -2,8 +2,8 @@ use Rattle.std.proofs.Common.{◌∙◌, ap, refl, subst}
 use Rattle.nextest_inheritance.specs.View.{borrowed_view}
 use Rattle.rinqebo_keys.specs.Keys.{dotted}
 use Rattle.rinqebo_rules.specs.Conditions.{is_met_by, filter_matches}
-use Rattle.rinqebo_run.proofs.Requests.{requested_on}
-use Rattle.rinqebo_run.specs.ReportsReasons.{AreReasons}
+use Rattle.rinqebo_results.proofs.Requests.{requested_on}
+use Rattle.rinqebo_results.specs.ReportsReasons.{AreReasons}
 use Rattle.rinqebo_run.proofs.why.reasons.Goals as goal
 
 pub early_profile-requires : goal.early_profile-requires

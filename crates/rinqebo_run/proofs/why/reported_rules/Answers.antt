@@ -2,7 +2,7 @@ use Rattle.std.proofs.Common.{◌∙◌, subst}
 use Rattle.std.proofs.lemmas.Result.{IfOk-weaker}
 use Rattle.rinqebo_run.proofs.Reasons.{reported_here}
 use Rattle.rinqebo_run.proofs.why.reported_rules.Goals as goal
-use Rattle.rinqebo_run.specs.Reasons.{AreRulesReportedHere, AreReportedWith}
+use Rattle.rinqebo_results.specs.Reasons.{AreRulesReportedHere, AreReportedWith}
 
 pub returns-clause-told : goal.returns-clause-told
 returns-clause-told c = λ asking written same.

@@ -5,7 +5,7 @@ use Rattle.rinqebo_rules.specs.Origins.{PathStep, key_steps}
 use Rattle.rinqebo_rules.specs.RuleViews.{setting_rule_view}
 use Rattle.rinqebo_rules.specs.SettingRules.{rules_for}
 use Rattle.rinqebo_run.proofs.Gathering.{reasons_here}
-use Rattle.rinqebo_run.specs.Reasons.{IsRuleAsWritten}
+use Rattle.rinqebo_results.specs.Reasons.{IsRuleAsWritten}
 use Rattle.rinqebo_run.proofs.why.rules_and_fallback.Goals as goal
 
 pub returns : goal.returns

@@ -1,5 +1,5 @@
 use Rattle.rinqebo_run.proofs.Gathering.{tells}
-use Rattle.rinqebo_run.proofs.Refused.{want_evaluated}
+use Rattle.rinqebo_results.proofs.Refused.{want_evaluated}
 use Rattle.rinqebo_run.proofs.why.why.Goals as goal
 
 pub returns-clause-ok : goal.returns-clause-ok

@@ -4,7 +4,7 @@ use Rattle.std.specs.Iterator.Adapters.{zip_first, zip_second}
 use Rattle.std.specs.Slice.Iter.{iter_rest}
 use Rattle.rinqebo_rules.specs.FilterRules.{filter_rule_view}
 use Rattle.rinqebo_run.proofs.Pairs.{pair_more, pairs_all}
-use Rattle.rinqebo_run.specs.RunsReasons.{IsFilterRuleReported}
+use Rattle.rinqebo_results.specs.RunsReasons.{IsFilterRuleReported}
 use Rattle.rinqebo_run.proofs.why_runs.reported_filter_rules.Goals as goal
 
 pub loop-rule-preserved : goal.loop-rule-preserved

@@ -1,7 +1,7 @@
 use Rattle.std.proofs.Common.{take, length}
 use Rattle.std.specs.List.{AllZip, zip}
 use Rattle.rinqebo_rules.specs.FilterRules.{filter_rule_view}
-use Rattle.rinqebo_run.specs.RunsReasons.{IsFilterRuleReported}
+use Rattle.rinqebo_results.specs.RunsReasons.{IsFilterRuleReported}
 use Rattle.rinqebo_run.proofs.why_runs.reported_filter_rules.Given as goal
 
 -- the rules so far

@@ -1,8 +1,8 @@
 use Rattle.std.proofs.Common.{ap, refl, subst}
 use Rattle.nextest_inheritance.specs.View.{borrowed_view}
 use Rattle.rinqebo_rules.specs.Conditions.{is_met_by, filter_matches}
-use Rattle.rinqebo_run.proofs.Requests.{requested_on}
-use Rattle.rinqebo_run.specs.RunsReasons.{AreRunsReasons}
+use Rattle.rinqebo_results.proofs.Requests.{requested_on}
+use Rattle.rinqebo_results.specs.RunsReasons.{AreRunsReasons}
 use Rattle.rinqebo_run.proofs.why_runs.runs_reasons.Goals as goal
 
 pub early_profile-requires : goal.early_profile-requires

@@ -2,7 +2,7 @@ use Rattle.std.proofs.Common.{◌∙◌, ap, false, map, not}
 use Rattle.std.specs.List.{list_any}
 use Rattle.rinqebo_rules.specs.VerdictsBy.{verdicts_by}
 use Rattle.rinqebo_run.proofs.RunsReasons.{runs_here}
-use Rattle.rinqebo_run.specs.RunsReasons.{default_answer, default_value, is_decision}
+use Rattle.rinqebo_results.specs.RunsReasons.{default_answer, default_value, is_decision}
 use Rattle.rinqebo_run.proofs.why_runs.runs_rules.Goals as goal
 
 pub returns : goal.returns

@@ -1,4 +1,4 @@
-use Rattle.rinqebo_run.proofs.Refused.{want_evaluated}
+use Rattle.rinqebo_results.proofs.Refused.{want_evaluated}
 use Rattle.rinqebo_run.proofs.RunsReasons.{tells_runs}
 use Rattle.rinqebo_run.proofs.why_runs.why_runs.Goals as goal
 

@@ -1,0 +1,12 @@
+pub mod Prefixes
+pub mod Statuses
+pub mod Refused
+pub mod Requests
+pub mod InForce
+pub mod Listing
+pub mod Showing
+pub mod Stops
+pub mod Writing
+pub mod Documents
+pub mod Received
+pub mod LookedUp

@@ -1,0 +1,19 @@
+use Rattle.std.proofs.Common.{◌∙◌}
+use Rattle.rinqebo_results.proofs.Refused.{want_reported}
+use Rattle.rinqebo_results.proofs.Showing.{shows_config}
+use Rattle.rinqebo_results.proofs.show.show.Goals as goal
+
+pub returns-clause-ok : goal.returns-clause-ok
+returns-clause-ok c =
+    let config = c.in_ok-config.ensures in
+    shows_config c.args.session.now c.args.profile.now _ c.args.with_hidden c.in_ok-answer.answer.report
+    c.in_ok-content.content c.in_ok-config.config c.in_ok-answer.answer.status config.accepted config.means config.known
+    c.in_ok-answer.ensures.content c.in_ok-content.ensures (c.in_ok-answer.ensures.status ∙ c.status_of-status.ensures)
+
+pub returns-in_err-content-clause-err : goal.returns-in_err-content-clause-err
+returns-in_err-content-clause-err c =
+    want_reported c.args.session.now c.args.profile.now _ c.from_residual-in_err-content.ensures.1
+
+pub returns-in_err-answer-clause-err : goal.returns-in_err-answer-clause-err
+returns-in_err-answer-clause-err c =
+    want_reported c.args.session.now c.args.profile.now _ c.from_residual-in_err-answer.ensures.1

@@ -1,0 +1,142 @@
+//! Writes a list as a text, test after test, as the program resolves them.
+ghost use Rattle.std.specs.Prelude.{◌≡◌, ◌⊎◌, IfErr, IfOk, OnOk};
+ghost use Rattle.nextest_tables.specs.FileTexts.{names_in, IsIn};
+ghost use Rattle.rinqebo_results.specs.Answered.{Reports};
+ghost use Rattle.rinqebo_results.specs.Refused.{Fails};
+ghost use Rattle.rinqebo_results.specs.LookedUp.{IsFailureOn};
+ghost use Rattle.rinqebo_results.specs.Begun.{BeginsList, IsBegun};
+ghost use Rattle.rinqebo_results.specs.Written.{AreFirstBy, AsksList, HasPage, StopsList, WritesList};
+ghost use Rattle.rinqebo_results.specs.declared.list_fault.ListFault.TheVariants as faults;
+ghost use Rattle.rinqebo_checks.specs.Reports.{IsReportOf};
+ghost use Rattle.rinqebo_report.specs.declared.format.Format.TheVariants as formats;
+
+use crate::list_fault::ListFault;
+use crate::list_page::{ListPage, RequestedList, write_last};
+use crate::looked_up::config_looked_up;
+use crate::progress::ProgressLine;
+use nextest_config::DefaultConfigWarnings;
+use rinqebo_checks::report_of;
+use rinqebo_findings::warning_findings;
+use rinqebo_load::{Config, Session};
+use rinqebo_report::{Colour, Content, Paper, Report, render_findings};
+use rinqebo_request::{Gathered, Request};
+use std::alloc::Global;
+use std::io::Write;
+
+/// Writes warnings to standard error, and returns the report that has them as findings, without its
+/// content.
+fn begin<E: Write>(
+    alloc: Global,
+    session: &Session<'_>,
+    warnings: &DefaultConfigWarnings,
+    colour: Colour,
+    err: &mut E,
+) -> Result<Report, ListFault>
+    ensures about { IfOk result (IsReportOf session.now) }
+    ensures err { IfErr result (λ fault. (fault ≡ faults.Memory) ⊎ (fault ≡ faults.Write)) }
+{
+    let findings = warning_findings(alloc, &session.layers, warnings)?;
+    let head = report_of(alloc, session, findings, Vec::new(alloc), Content::Check)?;
+    let notes = render_findings(alloc, &head, colour)?;
+    write_last(notes.as_str(), err)?;
+    Ok(head)
+}
+
+/// Writes a list of a session by a configuration that was loaded with warnings. These go to
+/// standard error, and then, where it is shown, how far the list is.
+fn write_by<O: Write, E: Write>(
+    alloc: Global,
+    session: &Session<'_>,
+    config: &Config,
+    warnings: &DefaultConfigWarnings,
+    list: &RequestedList<'_>,
+    paper: Paper,
+    shows_progress: bool,
+    out: &mut O,
+    err: &mut E,
+) -> Result<(), ListFault>
+    requires { IsIn (names_in config.now.config.profiles) list.now.profile.now }
+    ensures ok { OnOk result (HasPage session.now config.now list.now.profile.now list.now.mode
+        list.now.settings.now paper (O.contents out.old) (O.contents out.new)) }
+    ensures err { IfErr result (StopsList (λ _. ⊥)
+        (AreFirstBy session.now config.now list.now.profile.now list.now.mode
+        list.now.settings.now paper (O.contents out.old))
+        (HasPage session.now config.now list.now.profile.now list.now.mode list.now.settings.now
+        paper (O.contents out.old)) (O.contents out.old) (O.contents out.new)) }
+{
+    let head = begin(alloc, session, warnings, paper.colour, err)?;
+    let page = ListPage {
+        session,
+        config,
+        list: *list,
+        head: &head,
+        paper,
+    };
+    let mut progress = ProgressLine::new(&mut *err, shows_progress);
+    let written = page.write(alloc, &mut progress, out);
+    progress.clear();
+    written
+}
+
+/// Writes a list of a session.
+fn write_in<O: Write, E: Write>(
+    alloc: Global,
+    session: &Session<'_>,
+    list: &RequestedList<'_>,
+    paper: Paper,
+    shows_progress: bool,
+    out: &mut O,
+    err: &mut E,
+) -> Result<(), ListFault>
+    ensures ok { OnOk result (WritesList session.now list.now.profile.now list.now.mode
+        list.now.settings.now paper (O.contents out.old) (O.contents out.new)) }
+    ensures err { IfErr result (StopsList (IsFailureOn session.now list.now.profile.now)
+        (BeginsList session.now list.now.profile.now list.now.mode list.now.settings.now paper
+        (O.contents out.old)) (WritesList session.now list.now.profile.now list.now.mode
+        list.now.settings.now paper (O.contents out.old))
+        (O.contents out.old) (O.contents out.new)) }
+{
+    let mut warnings = DefaultConfigWarnings::new(alloc);
+    let config = config_looked_up(alloc, session, list.profile, &mut warnings)?;
+    write_by(
+        alloc,
+        session,
+        &config,
+        &warnings,
+        list,
+        paper,
+        shows_progress,
+        out,
+        err,
+    )
+}
+
+/// Writes the list of a request over the files that it names, as a text.
+pub fn write_list<O: Write, E: Write>(
+    alloc: Global,
+    request: &Request<'_>,
+    list: &RequestedList<'_>,
+    gathered: &Gathered,
+    out: &mut O,
+    err: &mut E,
+) -> Result<(), ListFault>
+    requires question { AsksList request.now.question list.now }
+    requires format { request.now.format ≡ formats.Text }
+    ensures ok { OnOk result
+        (Reports request.now gathered.now 0 (O.contents out.old) (O.contents out.new)) }
+    ensures err { IfErr result (StopsList (Fails request.now gathered.now)
+        (IsBegun request.now gathered.now (O.contents out.old))
+        (Reports request.now gathered.now 0 (O.contents out.old))
+        (O.contents out.old) (O.contents out.new)) }
+{
+    let session = Session::new(alloc, request, gathered)?;
+    write_in(
+        alloc,
+        &session,
+        list,
+        request.paper,
+        request.shows_progress,
+        out,
+        err,
+    )
+}

@@ -1,0 +1,300 @@
+//! Where the values of a run and the groups of a profile come from.
+ghost use Rattle.std.specs.Prelude.{◌≡◌, ◌∷◌, [], IfOk, MatchOption, None, codes, map, option_map};
+ghost use Rattle.std.specs.List.{AllZip};
+ghost use Rattle.filter_language.specs.Filtersets.{marks_view};
+ghost use Rattle.filter_engine.specs.Compiling.{names_of};
+ghost use Rattle.nextest_documents.specs.Layers.{IsHighest, Stands, keys_view};
+ghost use Rattle.nextest_elements.specs.TestGroup.{custom_group_text};
+ghost use Rattle.nextest_inheritance.specs.View.{borrowed_view};
+ghost use Rattle.nextest_load.specs.ConfigView.{groups_view};
+ghost use Rattle.nextest_settings.specs.Profiles.Meaning.{profile_meaning};
+ghost use Rattle.rinqebo_rules.specs.KnownOrigins.{AreOriginsAt};
+ghost use Rattle.rinqebo_rules.specs.Origins.{key, step_view};
+ghost use Rattle.rinqebo_rules.specs.ProfileOrigins.{AreProfileOrigins};
+ghost use Rattle.rinqebo_rules.specs.RulePlaces.{place_view};
+ghost use Rattle.rinqebo_rules.specs.Runs.{filtering_place};
+ghost use Rattle.rinqebo_rules.specs.Trees.{trees_of};
+ghost use Rattle.rinqebo_results.specs.ObjectOrigins.{AreBoundOrigins, AreGroupOrigins, AreNameOrigins, AreObjectOrigins, AreOriginsBeside, AreOutputOrigins, AreRunOrigins, IsOriginBeside};
+
+use crate::list::Profile;
+use nextest_documents::layer_of;
+use nextest_elements::{CustomTestGroup, TestGroupConfig};
+use nextest_places::Step;
+use rinqebo_keys::SettingKey;
+use rinqebo_objects::{
+    BoundOrigins, GroupOrigins, NameOrigins, ObjectOrigins, OutputOrigins, RunOrigins,
+};
+use rinqebo_report::Origin;
+use rinqebo_request::{Layer, path_place};
+use rinqebo_rules::{RulePlace, built_in, filtering_place, profile_grounds, trees_of};
+use std::alloc::{AllocError, Global};
+use std::collections::BTreeMap;
+
+/// Where the value at a key comes from that the nearest profile of a chain writes.
+fn of_chain(
+    alloc: Global,
+    layers: &[Layer],
+    chain: &[&str],
+    table: Option<&'static str>,
+    name: &'static str,
+) -> Result<Vec<Origin>, AllocError>
+    ensures { IfOk result (λ origins. AreProfileOrigins layers.now (borrowed_view chain.now)
+        (option_map (λ table. table.now) table.entry) name.entry.now origins.items) }
+{
+    profile_grounds(alloc, layers, chain, SettingKey { table, key: name })
+}
+
+/// Where what bounds a run comes from.
+fn bound_origins(
+    alloc: Global,
+    layers: &[Layer],
+    chain: &[&str],
+) -> Result<BoundOrigins, AllocError>
+    ensures { IfOk result (AreBoundOrigins
+        (record { layers = layers.now; chain = borrowed_view chain.now })) }
+{
+    Ok(BoundOrigins {
+        test_threads: of_chain(alloc, layers, chain, None, "test-threads")?,
+        max_fail: of_chain(alloc, layers, chain, None, "fail-fast")?,
+        global_timeout: of_chain(alloc, layers, chain, None, "global-timeout")?,
+        benchmark_timeout: of_chain(alloc, layers, chain, Some("bench"), "global-timeout")?,
+    })
+}
+
+/// The path of keys.
+fn steps_to<'k>(alloc: Global, path: &[&'k str]) -> Result<Vec<Step<'k>>, AllocError>
+    ensures { IfOk result (λ steps. map step_view steps.items ≡ map key (keys_view path.now)) }
+{
+    let mut steps = Vec::new(alloc);
+    for name in path {
+        steps.push(Step::Key(*name))?;
+    }
+    Ok(steps)
+}
+
+/// What the layer at a position writes at a path beside all profiles. The lowest layer is the
+/// default table.
+fn origin_beside(
+    alloc: Global,
+    layers: &[Layer],
+    position: usize,
+    path: &[&str],
+) -> Result<Origin, AllocError>
+    ensures { IfOk result (IsOriginBeside layers.now (keys_view path.now) position) }
+{
+    if position == 0 {
+        return Ok(Origin::DefaultTable);
+    }
+    let steps = steps_to(alloc, path)?;
+    Ok(Origin::File(path_place(layers, position, &steps)))
+}
+
+/// What the layer at a position writes at a path beside all profiles, alone.
+fn written_beside(
+    alloc: Global,
+    layers: &[Layer],
+    position: usize,
+    path: &[&str],
+) -> Result<Vec<Origin>, AllocError>
+    ensures { IfOk result (λ origins. AllZip (IsOriginBeside layers.now (keys_view path.now))
+        (position ∷ []) origins.items) }
+{
+    let mut origins = Vec::new(alloc);
+    origins.push(origin_beside(alloc, layers, position, path)?)?;
+    Ok(origins)
+}
+
+/// The position of the highest layer that writes something at a path.
+fn writing_layer(
+    alloc: Global,
+    layers: &[Layer],
+    path: &[&str],
+) -> Result<Option<usize>, AllocError>
+    ensures { let trees = trees_of layers.now in
+        IfOk result (λ found. MatchOption found (¬ Stands trees (keys_view path.now))
+        (IsHighest trees (keys_view path.now))) }
+{
+    let trees = trees_of(alloc, layers)?;
+    let found = layer_of(&trees, path);
+    Ok(found)
+}
+
+/// Where what files write at a path beside all profiles comes from: the highest layer that writes
+/// something there.
+fn origins_beside(alloc: Global, layers: &[Layer], path: &[&str]) -> Result<Vec<Origin>, AllocError>
+    ensures { IfOk result (λ origins.
+        AreOriginsBeside layers.now (keys_view path.now) origins.items) }
+{
+    match writing_layer(alloc, layers, path)? {
+        Some(position) => written_beside(alloc, layers, position, path),
+        None => built_in(alloc),
+    }
+}
+
+/// Where what a run shows and stores comes from.
+fn output_origins(
+    alloc: Global,
+    layers: &[Layer],
+    chain: &[&str],
+) -> Result<OutputOrigins, AllocError>
+    ensures { IfOk result (AreOutputOrigins
+        (record { layers = layers.now; chain = borrowed_view chain.now })) }
+{
+    Ok(OutputOrigins {
+        status_level: of_chain(alloc, layers, chain, None, "status-level")?,
+        final_status_level: of_chain(alloc, layers, chain, None, "final-status-level")?,
+        report_path: of_chain(alloc, layers, chain, Some("junit"), "path")?,
+        report_name: of_chain(alloc, layers, chain, Some("junit"), "report-name")?,
+        store_dir: origins_beside(alloc, layers, &["store", "dir"])?,
+    })
+}
+
+/// Where the default filter that counts comes from: the override at a place, or without one the
+/// nearest profile of a chain that writes one.
+fn filter_origins(
+    alloc: Global,
+    layers: &[Layer],
+    chain: &[&str],
+    place: Option<RulePlace<'_>>,
+) -> Result<Vec<Origin>, AllocError>
+    ensures { IfOk result (λ origins. AreOriginsAt
+        (record { layers = layers.now; chain = borrowed_view chain.now })
+        (option_map place_view place.entry) None (codes "default-filter") origins.items) }
+{
+    let key = SettingKey {
+        table: None,
+        key: "default-filter",
+    };
+    match place {
+        Some(place) => place.origins_at_key(alloc, layers, key),
+        None => profile_grounds(alloc, layers, chain, key),
+    }
+}
+
+/// Where the default filter that counts in a profile comes from.
+fn default_filter_origins(
+    alloc: Global,
+    layers: &[Layer],
+    chain: &[&str],
+    profile: &Profile<'_>,
+) -> Result<Vec<Origin>, AllocError>
+    ensures { let meant = profile_meaning (marks_view names_of) profile.now in
+        IfOk result (λ origins. AreOriginsAt
+        (record { layers = layers.now; chain = borrowed_view chain.now }) (filtering_place meant)
+        None (codes "default-filter") origins.items) }
+{
+    let place = filtering_place(profile);
+    filter_origins(alloc, layers, chain, place)
+}
+
+/// Where the parent of a profile comes from, which the profile alone writes.
+fn parent_origins(
+    alloc: Global,
+    layers: &[Layer],
+    profile: &Profile<'_>,
+) -> Result<Vec<Origin>, AllocError>
+    ensures { IfOk result (λ origins. AreProfileOrigins layers.now
+        (profile.now.facts.name ∷ []) None (codes "inherits") origins.items) }
+{
+    let name = profile.name();
+    of_chain(alloc, layers, &[name], None, "inherits")
+}
+
+/// Where the parent of a profile, its default filter, and the arguments of tests come from.
+fn name_origins(
+    alloc: Global,
+    layers: &[Layer],
+    chain: &[&str],
+    profile: &Profile<'_>,
+) -> Result<NameOrigins, AllocError>
+    ensures { let meant = profile_meaning (marks_view names_of) profile.now in
+        IfOk result (AreNameOrigins
+        (record { layers = layers.now; chain = borrowed_view chain.now }) (filtering_place meant)
+        meant.facts.name) }
+{
+    Ok(NameOrigins {
+        inherits: parent_origins(alloc, layers, profile)?,
+        default_filter: default_filter_origins(alloc, layers, chain, profile)?,
+        run_extra_args: of_chain(alloc, layers, chain, None, "run-extra-args")?,
+    })
+}
+
+/// Where the values that a profile has for a whole run come from.
+fn run_origins(
+    alloc: Global,
+    layers: &[Layer],
+    chain: &[&str],
+    profile: &Profile<'_>,
+) -> Result<RunOrigins, AllocError>
+    ensures { let meant = profile_meaning (marks_view names_of) profile.now in
+        IfOk result (AreRunOrigins
+        (record { layers = layers.now; chain = borrowed_view chain.now }) (filtering_place meant)
+        meant.facts.name) }
+{
+    Ok(RunOrigins {
+        names: name_origins(alloc, layers, chain, profile)?,
+        output: output_origins(alloc, layers, chain)?,
+        bounds: bound_origins(alloc, layers, chain)?,
+    })
+}
+
+/// Where the number of threads of a group comes from.
+fn group_origins(
+    alloc: Global,
+    layers: &[Layer],
+    group: &CustomTestGroup,
+) -> Result<GroupOrigins, AllocError>
+    ensures { IfOk result (AreGroupOrigins layers.now (custom_group_text group.now)) }
+{
+    let name = group.as_str();
+    let origins = origins_beside(alloc, layers, &["test-groups", name, "max-threads"])?;
+    Ok(GroupOrigins {
+        name: String::from_str(alloc, name)?,
+        origins,
+    })
+}
+
+/// Where the numbers of threads of groups come from.
+fn all_group_origins(
+    alloc: Global,
+    layers: &[Layer],
+    groups: &BTreeMap<CustomTestGroup, TestGroupConfig>,
+) -> Result<Vec<GroupOrigins>, AllocError>
+    ensures { IfOk result (λ told. AllZip (λ entry. AreGroupOrigins layers.now entry.0)
+        (groups_view groups.now.entries) told.items) }
+{
+    let mut told = Vec::new(alloc);
+    for (group, _) in groups.iter() {
+        told.push(group_origins(alloc, layers, group)?)?;
+    }
+    Ok(told)
+}
+
+/// Where the numbers of threads of the groups of a profile's configuration come from.
+fn origins_of_groups(
+    alloc: Global,
+    layers: &[Layer],
+    profile: &Profile<'_>,
+) -> Result<Vec<GroupOrigins>, AllocError>
+    ensures { IfOk result (λ told. AllZip (λ entry. AreGroupOrigins layers.now entry.0)
+        profile.now.facts.groups told.items) }
+{
+    all_group_origins(alloc, layers, profile.test_group_config())
+}
+
+/// Where the values that a profile has for a whole run come from, and the groups of its
+/// configuration.
+pub fn object_origins(
+    alloc: Global,
+    layers: &[Layer],
+    chain: &[&str],
+    profile: &Profile<'_>,
+) -> Result<ObjectOrigins, AllocError>
+    ensures { let meant = profile_meaning (marks_view names_of) profile.now in
+        IfOk result (AreObjectOrigins
+        (record { layers = layers.now; chain = borrowed_view chain.now }) meant) }
+{
+    let run = run_origins(alloc, layers, chain, profile)?;
+    let groups = origins_of_groups(alloc, layers, profile)?;
+    Ok(ObjectOrigins { run, groups })
+}

@@ -1,7 +1,0 @@
-use Rattle.std.proofs.Common.{◌≡◌, ◌++◌, map}
-use Rattle.rinqebo_run.specs.InForce.{hide}
-use Rattle.rinqebo_run.proofs.in_force.hidden.Given as goal
-
--- the entries so far, and those that are left
-abbrev pub invariant-loop-entry : goal.invariant-loop-entry
-invariant-loop-entry l = l.told.items ++ map hide l.entry-iterator.rest.items ≡ map hide l.fn.entries.items

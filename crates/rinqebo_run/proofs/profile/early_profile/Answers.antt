@@ -1,4 +1,0 @@
-use Rattle.rinqebo_run.proofs.profile.early_profile.Goals as goal
-
-pub returns : goal.returns
-returns c = rw c.as_str-root.ensures.value at c.new.ensures
