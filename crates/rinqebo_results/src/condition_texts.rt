@@ -22,7 +22,7 @@ fn text_at<'l>(layers: &'l [Layer<'_>], key: SettingKey, origin: &Origin) -> Opt
 }
 
 /// The text of what the host has to meet for a rule.
-pub(crate) fn host_text<'l>(layers: &'l [Layer<'_>], rule: &Origin) -> Option<&'l str>
+pub fn host_text<'l>(layers: &'l [Layer<'_>], rule: &Origin) -> Option<&'l str>
     ensures { option_copied result ≡ host_text layers.now rule.now }
 {
     let key = SettingKey {
@@ -33,7 +33,7 @@ pub(crate) fn host_text<'l>(layers: &'l [Layer<'_>], rule: &Origin) -> Option<&'
 }
 
 /// The text of what the platform has to meet for a rule which a binary runs on.
-pub(crate) fn target_text<'l>(layers: &'l [Layer<'_>], rule: &Origin) -> Option<&'l str>
+pub fn target_text<'l>(layers: &'l [Layer<'_>], rule: &Origin) -> Option<&'l str>
     ensures { option_copied result ≡ target_text layers.now rule.now }
 {
     let platform = SettingKey {
@@ -51,7 +51,7 @@ pub(crate) fn target_text<'l>(layers: &'l [Layer<'_>], rule: &Origin) -> Option<
 }
 
 /// The text of the filter of a rule.
-pub(crate) fn filter_text<'l>(layers: &'l [Layer<'_>], rule: &Origin) -> Option<&'l str>
+pub fn filter_text<'l>(layers: &'l [Layer<'_>], rule: &Origin) -> Option<&'l str>
     ensures { option_copied result ≡ filter_text layers.now rule.now }
 {
     let key = SettingKey {
@@ -73,7 +73,7 @@ fn table_text<'l>(layers: &'l [Layer<'_>]) -> Option<&'l str>
 }
 
 /// The text of the default filter at an origin, which the default table or a file writes.
-pub(crate) fn default_text<'l>(layers: &'l [Layer<'_>], origin: &Origin) -> Option<&'l str>
+pub fn default_text<'l>(layers: &'l [Layer<'_>], origin: &Origin) -> Option<&'l str>
     ensures { option_copied result ≡ default_text layers.now origin.now }
 {
     match origin {
@@ -85,7 +85,7 @@ pub(crate) fn default_text<'l>(layers: &'l [Layer<'_>], origin: &Origin) -> Opti
 }
 
 /// A condition, with its text.
-pub(crate) fn condition(
+pub fn condition(
     alloc: Global,
     text: Option<&str>,
     answer: ConditionAnswer,
@@ -100,7 +100,7 @@ pub(crate) fn condition(
 }
 
 /// A condition that a rule does not have.
-pub(crate) fn no_condition(alloc: Global) -> Condition
+pub fn no_condition(alloc: Global) -> Condition
     ensures { IsAbsent result }
 {
     Condition {
