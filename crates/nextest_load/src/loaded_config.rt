@@ -31,7 +31,6 @@ pub struct ScriptConfig {
 
 /// What load makes of its sources: the profiles, the groups and the scripts of the merged tree, and
 /// the rules of every source.
-#[derive(Drop)]
 pub struct LoadedConfig<F: Filters, S: Specs> {
     store_dir: String,
     profiles: BTreeMap<String, MergedProfile>,
@@ -39,6 +38,20 @@ pub struct LoadedConfig<F: Filters, S: Specs> {
     scripts: ScriptConfig,
     layers: Vec<LayerRules<F, S>>,
     match_all: F::Expr,
+}
+
+// Written out, so that the proof of a caller sees one call and not the drop of each part.
+impl<F: Filters, S: Specs> Drop for LoadedConfig<F, S> {
+    fn drop(self) {
+        let LoadedConfig {
+            store_dir: _store_dir,
+            profiles: _profiles,
+            test_groups: _test_groups,
+            scripts: _scripts,
+            layers: _layers,
+            match_all: _match_all,
+        } = self;
+    }
 }
 
 impl<F: Filters, S: Specs> Model for LoadedConfig<F, S> {

@@ -202,10 +202,19 @@ pub struct CompiledProfile<F: Filters, S: Specs> {
 }
 
 /// The rules of one source, by profile and in the order of the file.
-#[derive(Drop)]
 pub struct LayerRules<F: Filters, S: Specs> {
     /// The source.
     pub source: ConfigSource,
     /// The rules of each profile, by its name.
     pub profiles: BTreeMap<String, CompiledProfile<F, S>>,
+}
+
+// Written out, so that the proof of a caller sees one call and not the drop of each part.
+impl<F: Filters, S: Specs> Drop for LayerRules<F, S> {
+    fn drop(self) {
+        let LayerRules {
+            source: _source,
+            profiles: _profiles,
+        } = self;
+    }
 }

@@ -24,7 +24,7 @@ use std::collections::BTreeSet;
 use std::fmt;
 
 /// What is wrong with a source.
-#[derive(Debug, Drop)]
+#[derive(Debug)]
 pub enum ConfigParseErrorKind {
     /// A tool provides a second file. The fault is at the second.
     DuplicateToolConfigFile {
@@ -82,6 +82,43 @@ pub enum ConfigParseErrorKind {
     },
     /// A refusal of memory. It says nothing of any source.
     Memory,
+}
+
+// Written out, so that the proof of a caller sees one call and not the drop of each part.
+impl Drop for ConfigParseErrorKind {
+    fn drop(self) {
+        match self {
+            ConfigParseErrorKind::DuplicateToolConfigFile {
+                tool: _tool,
+                first: _first,
+            } => {}
+            ConfigParseErrorKind::ReadError(_part) => {}
+            ConfigParseErrorKind::BuildError(_part) => {}
+            ConfigParseErrorKind::DeserializeError(_part) => {}
+            ConfigParseErrorKind::InvalidTestGroupsDefined(_part) => {}
+            ConfigParseErrorKind::InvalidTestGroupsDefinedByTool(_part) => {}
+            ConfigParseErrorKind::InvalidTestGroupsDefinedByOrganisation(_part) => {}
+            ConfigParseErrorKind::BothScriptAndScriptsDefined => {}
+            ConfigParseErrorKind::ExperimentalFeaturesNotEnabled {
+                missing_features: _missing_features,
+            } => {}
+            ConfigParseErrorKind::DuplicateConfigScriptNames(_part) => {}
+            ConfigParseErrorKind::InvalidConfigScriptsDefined(_part) => {}
+            ConfigParseErrorKind::InvalidConfigScriptsDefinedByTool(_part) => {}
+            ConfigParseErrorKind::InvalidConfigScriptsDefinedByOrganisation(_part) => {}
+            ConfigParseErrorKind::InheritanceErrors(_part) => {}
+            ConfigParseErrorKind::CompileErrors(_part) => {}
+            ConfigParseErrorKind::UnknownTestGroups {
+                errors: _errors,
+                known_groups: _known_groups,
+            } => {}
+            ConfigParseErrorKind::ProfileScriptErrors {
+                errors: _errors,
+                known_scripts: _known_scripts,
+            } => {}
+            ConfigParseErrorKind::Memory => {}
+        }
+    }
 }
 
 impl ConfigParseErrorKind {
@@ -234,11 +271,21 @@ impl fmt::Display for ConfigParseErrorKind {
 impl std::error::Error for ConfigParseErrorKind {}
 
 /// Why a configuration is refused.
-#[derive(Debug, Drop)]
+#[derive(Debug)]
 pub struct ConfigParseError {
     source: Option<ConfigSource>,
     kind: ConfigParseErrorKind,
     ghost placed: { is_some source ≡ not (is_memory kind) },
+}
+
+// Written out, so that the proof of a caller sees one call and not the drop of each part.
+impl Drop for ConfigParseError {
+    fn drop(self) {
+        let ConfigParseError {
+            source: _source,
+            kind: _kind,
+        } = self;
+    }
 }
 
 /// The source, the kind's number and name, and then details, each on a line behind two spaces.

@@ -95,9 +95,18 @@ pub enum ConfigWarning {
 }
 
 /// Collects the warnings of a load.
-#[derive(Debug, Drop)]
+#[derive(Debug)]
 pub struct DefaultConfigWarnings {
     warnings: Vec<ConfigWarning>,
+}
+
+// Written out, so that the proof of a caller sees one call and not the drop of each part.
+impl Drop for DefaultConfigWarnings {
+    fn drop(self) {
+        let DefaultConfigWarnings {
+            warnings: _warnings,
+        } = self;
+    }
 }
 
 impl DefaultConfigWarnings {

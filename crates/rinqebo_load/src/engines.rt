@@ -17,13 +17,22 @@ use rinqebo_request::{FileOption, Gathered, NamedFile, Question, Request};
 use std::alloc::{AllocError, Global};
 
 /// The language of filters, and the platforms of a build.
-#[derive(Drop)]
 pub struct Engines {
     /// The language of filters, with the graph of packages if there are metadata. Else it leaves
     /// `deps` and `rdeps` open.
     pub filters: NextestFilters,
     /// The platform of the host, and the one that is built for, if there is one.
     pub platforms: BuildPlatforms<Platform>,
+}
+
+// Written out, so that the proof of a caller sees one call and not the drop of each part.
+impl Drop for Engines {
+    fn drop(self) {
+        let Engines {
+            filters: _filters,
+            platforms: _platforms,
+        } = self;
+    }
 }
 
 /// How a request names a machine.

@@ -4,7 +4,6 @@ use rinqebo_report::Report;
 use std::alloc::AllocError;
 
 /// Why a run returns nothing.
-#[derive(Drop)]
 pub enum Failure {
     /// The list of tests, the metadata or the platforms are not understood.
     Engines(InputFault),
@@ -18,6 +17,20 @@ pub enum Failure {
     SeveralTests(Report),
     /// Memory was refused.
     Memory,
+}
+
+// Written out, so that the proof of a caller sees one call and not the drop of each part.
+impl Drop for Failure {
+    fn drop(self) {
+        match self {
+            Failure::Engines(_part) => {}
+            Failure::Refused(_part) => {}
+            Failure::NoProfile(_part) => {}
+            Failure::NoTest(_part) => {}
+            Failure::SeveralTests(_part) => {}
+            Failure::Memory => {}
+        }
+    }
 }
 
 impl From<AllocError> for Failure {

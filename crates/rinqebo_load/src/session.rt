@@ -32,7 +32,6 @@ use std::collections::BTreeSet;
 pub type Config = LoadedConfig<NextestFilters, TargetSpecs>;
 
 /// What all commands begin with.
-#[derive(Drop)]
 pub struct Session<'g> {
     /// The files that the request names, as they were read.
     pub gathered: &'g Gathered,
@@ -48,6 +47,21 @@ pub struct Session<'g> {
     pub features: BTreeSet<ConfigExperimental>,
     /// The sources, the lowest first.
     pub layers: Vec<Layer<'g>>,
+}
+
+// Written out, so that the proof of a caller sees one call and not the drop of each part.
+impl Drop for Session<'_> {
+    fn drop(self) {
+        let Session {
+            gathered: _gathered,
+            profile_source: _profile_source,
+            tests: _tests,
+            triples: _triples,
+            engines: _engines,
+            features: _features,
+            layers: _layers,
+        } = self;
+    }
 }
 
 impl<'g> Session<'g> {

@@ -68,12 +68,21 @@ pub struct GroupOrigins {
 }
 
 /// Where the values of a run and the groups of its configuration come from.
-#[derive(Drop)]
 pub struct ObjectOrigins {
     /// The values of the run.
     pub run: RunOrigins,
     /// The groups, by name.
     pub groups: Vec<GroupOrigins>,
+}
+
+// Written out, so that the proof of a caller sees one call and not the drop of each part.
+impl Drop for ObjectOrigins {
+    fn drop(self) {
+        let ObjectOrigins {
+            run: _run,
+            groups: _groups,
+        } = self;
+    }
 }
 
 /// Where the two timeouts of a whole run come from.

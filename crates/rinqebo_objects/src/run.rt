@@ -15,7 +15,6 @@ use serde_json::{Map, Value, put};
 use std::alloc::{AllocError, Global};
 
 /// The values that a profile has for a whole run.
-#[derive(Drop)]
 pub struct RunSettings<'p> {
     /// The name of the profile.
     pub profile: &'p str,
@@ -41,6 +40,26 @@ pub struct RunSettings<'p> {
     pub store_dir: &'p str,
     /// The arguments that a test is given where no rule says so.
     pub run_extra_args: &'p [String],
+}
+
+// Written out, so that the proof of a caller sees one call and not the drop of each part.
+impl Drop for RunSettings<'_> {
+    fn drop(self) {
+        let RunSettings {
+            profile: _profile,
+            inherits: _inherits,
+            test_threads: _test_threads,
+            max_fail: _max_fail,
+            global_timeout: _global_timeout,
+            benchmark_timeout: _benchmark_timeout,
+            status_level: _status_level,
+            final_status_level: _final_status_level,
+            default_filter: _default_filter,
+            junit: _junit,
+            store_dir: _store_dir,
+            run_extra_args: _run_extra_args,
+        } = self;
+    }
 }
 
 /// The text of the default filter of a profile.

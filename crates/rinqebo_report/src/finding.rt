@@ -72,7 +72,6 @@ pub enum HelpPlace {
 }
 
 /// What is wrong, and where.
-#[derive(Drop)]
 pub struct Finding {
     /// Whether files are refused for it.
     pub level: Level,
@@ -100,6 +99,27 @@ pub struct Finding {
     pub help: Option<String>,
     /// Where pages show what to do.
     pub help_place: HelpPlace,
+}
+
+// Written out, so that the proof of a caller sees one call and not the drop of each part.
+impl Drop for Finding {
+    fn drop(self) {
+        let Finding {
+            level: _level,
+            code: _code,
+            upstream: _upstream,
+            place: _place,
+            column: _column,
+            path: _path,
+            message: _message,
+            lines: _lines,
+            expression: _expression,
+            expected: _expected,
+            notes: _notes,
+            help: _help,
+            help_place: _help_place,
+        } = self;
+    }
 }
 
 impl Finding {

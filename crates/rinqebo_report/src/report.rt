@@ -23,7 +23,6 @@ pub enum BuiltFor {
 }
 
 /// What was requested.
-#[derive(Drop)]
 pub struct Asked {
     /// The profile.
     pub profile: String,
@@ -39,8 +38,21 @@ pub struct Asked {
     pub target: Option<String>,
 }
 
+// Written out, so that the proof of a caller sees one call and not the drop of each part.
+impl Drop for Asked {
+    fn drop(self) {
+        let Asked {
+            profile: _profile,
+            chain: _chain,
+            mode: _mode,
+            host: _host,
+            assumes_host: _assumes_host,
+            target: _target,
+        } = self;
+    }
+}
+
 /// A setting of a test.
-#[derive(Drop)]
 pub struct SettingRow {
     /// The keys that lead to it, with dots between them.
     pub key: String,
@@ -48,6 +60,17 @@ pub struct SettingRow {
     pub value: Option<Value>,
     /// What decides it, each once.
     pub origins: Vec<Origin>,
+}
+
+// Written out, so that the proof of a caller sees one call and not the drop of each part.
+impl Drop for SettingRow {
+    fn drop(self) {
+        let SettingRow {
+            key: _key,
+            value: _value,
+            origins: _origins,
+        } = self;
+    }
 }
 
 /// A test, whether it runs, and its settings.
@@ -135,7 +158,6 @@ pub struct Condition {
 }
 
 /// A rule, and its result.
-#[derive(Drop)]
 pub struct Rule {
     /// Its result.
     pub verdict: Verdict,
@@ -151,6 +173,21 @@ pub struct Rule {
     pub filter: Condition,
     /// What it writes for the setting, if it decides or would.
     pub value: Option<Value>,
+}
+
+// Written out, so that the proof of a caller sees one call and not the drop of each part.
+impl Drop for Rule {
+    fn drop(self) {
+        let Rule {
+            verdict: _verdict,
+            origin: _origin,
+            others: _others,
+            host: _host,
+            target: _target,
+            filter: _filter,
+            value: _value,
+        } = self;
+    }
 }
 
 /// The script that wraps a binary while it lists its tests.
@@ -181,7 +218,6 @@ pub struct Unreached {
 }
 
 /// What a command reports beside its findings.
-#[derive(Drop)]
 pub enum Content {
     /// The settings of a test.
     Explain {
@@ -220,8 +256,38 @@ pub enum Content {
     Check,
 }
 
+// Written out, so that the proof of a caller sees one call and not the drop of each part.
+impl Drop for Content {
+    fn drop(self) {
+        match self {
+            Content::Explain {
+                asked: _asked,
+                test: _test,
+            } => {}
+            Content::Why {
+                asked: _asked,
+                test: _test,
+                key: _key,
+                rules: _rules,
+                is_ignored: _is_ignored,
+            } => {}
+            Content::List {
+                asked: _asked,
+                tests: _tests,
+                unused: _unused,
+                scripts: _scripts,
+                objects: _objects,
+            } => {}
+            Content::ShowConfig {
+                asked: _asked,
+                entries: _entries,
+            } => {}
+            Content::Check => {}
+        }
+    }
+}
+
 /// A report: what a command prints.
-#[derive(Drop)]
 pub struct Report {
     /// The root of the workspace.
     pub root: String,
@@ -233,4 +299,17 @@ pub struct Report {
     pub unreached: Vec<Unreached>,
     /// What the command reports beside the findings.
     pub content: Content,
+}
+
+// Written out, so that the proof of a caller sees one call and not the drop of each part.
+impl Drop for Report {
+    fn drop(self) {
+        let Report {
+            root: _root,
+            sources: _sources,
+            findings: _findings,
+            unreached: _unreached,
+            content: _content,
+        } = self;
+    }
 }

@@ -203,7 +203,6 @@ pub struct EngineOptions<'a> {
 }
 
 /// The request of a user.
-#[derive(Drop)]
 pub struct Request<'a> {
     /// What the user requests.
     pub question: Question<'a>,
@@ -222,6 +221,22 @@ pub struct Request<'a> {
     /// Whether standard error shows how far a list is: only if it is a terminal and standard output
     /// is not.
     pub shows_progress: bool,
+}
+
+// Written out, so that the proof of a caller sees one call and not the drop of each part.
+impl Drop for Request<'_> {
+    fn drop(self) {
+        let Request {
+            question: _question,
+            profile_source: _profile_source,
+            files: _files,
+            engines: _engines,
+            features: _features,
+            format: _format,
+            paper: _paper,
+            shows_progress: _shows_progress,
+        } = self;
+    }
 }
 
 impl<'a> Request<'a> {

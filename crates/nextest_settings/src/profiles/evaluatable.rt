@@ -40,10 +40,19 @@ use std::collections::BTreeMap;
 use std::marker::Model;
 
 /// A profile on the platforms of a build, with the default filter that counts there.
-#[derive(Drop)]
 pub struct EvaluatableProfile<'cfg, F: Filters, S: Specs> {
     facts: Facts<'cfg>,
     rules: EvaluatedRules<'cfg, F, S>,
+}
+
+// Written out, so that the proof of a caller sees one call and not the drop of each part.
+impl<'cfg, F: Filters, S: Specs> Drop for EvaluatableProfile<'cfg, F, S> {
+    fn drop(self) {
+        let EvaluatableProfile {
+            facts: _facts,
+            rules: _rules,
+        } = self;
+    }
 }
 
 impl<'cfg, F: Filters, S: Specs> Model for EvaluatableProfile<'cfg, F, S> {

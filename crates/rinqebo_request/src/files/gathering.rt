@@ -17,7 +17,6 @@ use std::alloc::{AllocError, Global};
 use thiserror::Error;
 
 /// The files that a request names, as they were read.
-#[derive(Drop)]
 pub struct Gathered {
     /// The workspace's root, and its own file.
     pub paths: ConfigPaths,
@@ -37,6 +36,23 @@ pub struct Gathered {
     pub metadata: Option<String>,
     /// What `cargo nextest list` prints, if the request has a list.
     pub list: Option<String>,
+}
+
+// Written out, so that the proof of a caller sees one call and not the drop of each part.
+impl Drop for Gathered {
+    fn drop(self) {
+        let Gathered {
+            paths: _paths,
+            config_file: _config_file,
+            organisation_file: _organisation_file,
+            tools: _tools,
+            rustc_version: _rustc_version,
+            host_cfg: _host_cfg,
+            target_cfg: _target_cfg,
+            metadata: _metadata,
+            list: _list,
+        } = self;
+    }
 }
 
 /// Why the files of a request were not read.

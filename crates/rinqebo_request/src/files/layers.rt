@@ -16,7 +16,6 @@ use rinqebo_report::{Source, SourceKind};
 use std::alloc::{AllocError, Global};
 
 /// A source.
-#[derive(Drop)]
 pub struct Layer<'t> {
     /// What brings it, and the path of its file, as reports show them.
     pub source: Source,
@@ -27,6 +26,18 @@ pub struct Layer<'t> {
     pub defaults: Option<Tree>,
     /// Why its text is not a document, if it is not one.
     pub fault: Option<NoDocument>,
+}
+
+// Written out, so that the proof of a caller sees one call and not the drop of each part.
+impl Drop for Layer<'_> {
+    fn drop(self) {
+        let Layer {
+            source: _source,
+            places: _places,
+            defaults: _defaults,
+            fault: _fault,
+        } = self;
+    }
 }
 
 impl Layer<'_> {
