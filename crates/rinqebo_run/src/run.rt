@@ -186,10 +186,10 @@ fn notes_of(
     }
 }
 
-/// Adds the note of a result. The formats for other programs have none.
+/// Adds the note of a result. A document of JSON has none.
 fn add_note(request: &Request<'_>, answer: &Answer, notes: &mut String) -> Result<(), AllocError> {
     match &answer.note {
-        Some(note) if matches!(request.format, Format::Text) => notes.push_str(note.as_str()),
+        Some(note) if !matches!(request.format, Format::Json) => notes.push_str(note.as_str()),
         _ => Ok(()),
     }
 }
