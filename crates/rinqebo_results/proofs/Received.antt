@@ -22,8 +22,8 @@ use Rattle.rinqebo_results.specs.Received.{BeginsFailure, IsWhole, of_nothing, o
 use Rattle.rinqebo_results.specs.Refused.{Fails, IsReportOfFailure}
 use Rattle.rinqebo_results.specs.Statuses.{failure_status}
 use Rattle.rinqebo_results.specs.Written.{IsListed, StopsList}
-use Rattle.rinqebo_results.specs.declared.list_fault.ListFault.{ListFault}
-use Rattle.rinqebo_results.specs.declared.list_fault.ListFault.TheVariants as faults
+use Rattle.rinqebo_results.specs.declared.list_stop.ListStop.{ListStop}
+use Rattle.rinqebo_results.specs.declared.list_stop.ListStop.TheVariants as faults
 
 -- a prefix of the document of a failure
 pub document_begun : (failure : Failure) (request : Request) (report : Report) (old new : Option (List ℕ))
@@ -87,7 +87,7 @@ module _ (request : Request) (gathered : Gathered) (old new : Option (List ℕ))
   listed_whole whole (inr (inr reports)) = of_result {status = 0} reports
 
   -- a prefix of a list that was not written whole
-  pub stop_begun : (fault : ListFault)
+  pub stop_begun : (fault : ListStop)
       → StopsList (Fails request gathered) (IsBegun request gathered old) (Reports request gathered 0 old) old new fault
       → ReceivesPrefix (IsWhole request gathered old) old new
   stop_begun (faults.Refused failure) stop =

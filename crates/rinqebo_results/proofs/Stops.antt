@@ -5,11 +5,11 @@ use Rattle.rinqebo_load.specs.declared.failure.Failure.{Failure}
 use Rattle.rinqebo_results.proofs.Prefixes.{received_behind, received_none, received_so, received_text}
 use Rattle.rinqebo_results.specs.Prefixes.{AppendsPrefix, Grows}
 use Rattle.rinqebo_results.specs.Written.{IsListed, StopsList}
-use Rattle.rinqebo_results.specs.declared.list_fault.ListFault.{ListFault}
-use Rattle.rinqebo_results.specs.declared.list_fault.ListFault.TheVariants as faults
+use Rattle.rinqebo_results.specs.declared.list_stop.ListStop.{ListStop}
+use Rattle.rinqebo_results.specs.declared.list_stop.ListStop.TheVariants as faults
 
 -- a fault is passed on
-pub passed_stop : {A : Type 0} (P : ListFault → Type 0) (r : Result A ListFault) (fault : ListFault)
+pub passed_stop : {A : Type 0} (P : ListStop → Type 0) (r : Result A ListStop) (fault : ListStop)
     → IsErrAnd r (λ told. told ≡ fault) → P fault → IfErr r P
 passed_stop P (Ok answer) fault same is = tt
 passed_stop P (Err told) fault same is = subst P (sym same) is
@@ -25,7 +25,7 @@ listed_so begun more ends last old first final whole (inr (inr is)) = inr (final
 
 -- why a list was not written whole, in other words
 pub stops_so : (refuses others : Failure → Type 0) (begun more ends last : Option (List ℕ) → Type 0)
-    (old new : Option (List ℕ)) (fault : ListFault) → ((failure : Failure) → refuses failure → others failure)
+    (old new : Option (List ℕ)) (fault : ListStop) → ((failure : Failure) → refuses failure → others failure)
     → ((whole : Option (List ℕ)) → begun whole → more whole)
     → ((whole : Option (List ℕ)) → ends whole → more whole ⊎ last whole)
     → StopsList refuses begun ends old new fault → StopsList others more last old new fault
@@ -47,7 +47,7 @@ listed_behind more begun ends last old mid further final whole (inr (inl is)) = 
 listed_behind more begun ends last old mid further final whole (inr (inr is)) = inr (final whole is)
 
 -- why a list was not written whole of which something was written before
-pub stops_behind : (more begun ends last : Option (List ℕ) → Type 0) (old mid new : Option (List ℕ)) (fault : ListFault)
+pub stops_behind : (more begun ends last : Option (List ℕ) → Type 0) (old mid new : Option (List ℕ)) (fault : ListStop)
     → Grows old mid → ((whole : Option (List ℕ)) → more whole ⊎ (whole ≡ mid) → begun whole)
     → ((whole : Option (List ℕ)) → ends whole → begun whole ⊎ last whole)
     → StopsList (λ _. ⊥) more ends mid new fault → StopsList (λ _. ⊥) begun last old new fault
@@ -66,7 +66,7 @@ first_or_none More Begun mid here none whole (inr same) = none whole same
 
 -- a list was not written whole since a write of a text failed
 pub stops_text : (refuses : Failure → Type 0) (begins ends : Option (List ℕ) → Type 0) (old mid new : Option (List ℕ))
-    (text : List ℕ) (fault : ListFault) → fault ≡ faults.Write → Grows old mid → AppendsPrefix mid new text
+    (text : List ℕ) (fault : ListStop) → fault ≡ faults.Write → Grows old mid → AppendsPrefix mid new text
     → ((whole : Option (List ℕ)) → Appends mid whole text → begins whole ⊎ ends whole)
     → StopsList refuses begins ends old new fault
 stops_text refuses begins ends old mid new text fault is grown prefix makes =
@@ -75,7 +75,7 @@ stops_text refuses begins ends old mid new text fault is grown prefix makes =
 
 -- a list was not written whole of which nothing was written
 pub stops_before : (refuses : Failure → Type 0) (begins ends : Option (List ℕ) → Type 0) (old : Option (List ℕ))
-    (fault : ListFault) → (fault ≡ faults.Memory) ⊎ (fault ≡ faults.Write) → StopsList refuses begins ends old old fault
+    (fault : ListStop) → (fault ≡ faults.Memory) ⊎ (fault ≡ faults.Write) → StopsList refuses begins ends old old fault
 stops_before refuses begins ends old fault (inl is) =
     subst (λ f. StopsList refuses begins ends old old f) (sym is) (inr refl)
 stops_before refuses begins ends old fault (inr is) =

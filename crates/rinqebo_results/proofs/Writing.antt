@@ -72,8 +72,8 @@ use Rattle.rinqebo_checks.specs.Reports.{IsReportOf}
 use Rattle.rinqebo_results.specs.Written.{AreFirstBy, AsksList, EndsPage, HasPage, IsStopStatus, StopsList, WritesList, WritesPage, WritesRest}
 use Rattle.rinqebo_load.specs.declared.failure.Failure.{Failure}
 use Rattle.rinqebo_load.specs.declared.failure.Failure.TheVariants as failures
-use Rattle.rinqebo_results.specs.declared.list_fault.ListFault.{ListFault}
-use Rattle.rinqebo_results.specs.declared.list_fault.ListFault.TheVariants as faults
+use Rattle.rinqebo_results.specs.declared.list_stop.ListStop.{ListStop}
+use Rattle.rinqebo_results.specs.declared.list_stop.ListStop.TheVariants as faults
 use Rattle.rinqebo_results.specs.declared.list_page.RequestedList.{RequestedList}
 use Rattle.rinqebo_load.specs.declared.session.Session.{Session}
 
@@ -373,7 +373,7 @@ list_reported request gathered list session old new begun asks is_text writes = 
 
 -- why a list of a session was not written whole is why that of the request was not
 pub list_stopped : (request : Request) (gathered : Gathered) (list : RequestedList) (session : Session)
-    (old new : Option (List ℕ)) (fault : ListFault) → IsSessionOf request gathered session
+    (old new : Option (List ℕ)) (fault : ListStop) → IsSessionOf request gathered session
     → AsksList request.question list → request.format ≡ formats.Text
     → StopsList (IsFailureOn session list.profile.now)
     (BeginsList session list.profile.now list.mode list.settings.now request.paper old)
@@ -399,13 +399,13 @@ list_stopped request gathered list session old new fault begun asks is_text stop
     (λ whole writes. inr (list_reported request gathered list session old whole begun asks is_text writes)) stop
 
 -- what a run ends with whose list was not written whole is a status
-pub stop_status : (q : Question) (fault : ListFault) (n : ℕ) → IsStopStatus fault n → IsStatus q n
+pub stop_status : (q : Question) (fault : ListStop) (n : ℕ) → IsStopStatus fault n → IsStatus q n
 stop_status q (faults.Refused failure) n ends = failed_status q failure n ends
 stop_status q faults.Memory n ends = failed_status q failures.Memory n (inr ends)
 stop_status q faults.Write n ends = failed_status q failures.Memory n (inr (inr ends))
 
 -- what went out of a list that was not written whole
-pub stop_quiet : (request : Request) (gathered : Gathered) (old new : Option (List ℕ)) (fault : ListFault) (n : ℕ)
+pub stop_quiet : (request : Request) (gathered : Gathered) (old new : Option (List ℕ)) (fault : ListStop) (n : ℕ)
     → StopsList (Fails request gathered) (IsBegun request gathered old) (Reports request gathered 0 old) old new fault → IsStopStatus fault n
     → IsAnswerStatus request.question n ⊎ (n ≡ 6) ⊎ (new ≡ old) ⊎ ((n ≡ 5) × IsBegun request gathered old new)
 stop_quiet request gathered old new (faults.Refused failure) n stop ends = inr (inr (inl stop.1))
@@ -416,7 +416,7 @@ stop_quiet request gathered old new faults.Write n stop ends = inr (inl ends)
 
 -- a list that was not written whole has no status of an answer
 pub stop_silent : {X : Type 0} (request : Request) (gathered : Gathered) (old new : Option (List ℕ))
-    (fault : ListFault) (n : ℕ)
+    (fault : ListStop) (n : ℕ)
     → StopsList (Fails request gathered) (IsBegun request gathered old) (Reports request gathered 0 old) old new fault → IsStopStatus fault n
     → IsAnswerStatus request.question n → X
 stop_silent request gathered old new (faults.Refused failure) n stop ends is =
@@ -427,7 +427,7 @@ stop_silent request gathered old new faults.Write n stop ends is =
     failed_silent request gathered failures.Memory n (inl tt) (inr (inr ends)) is
 
 -- the status of a run whose list was not written whole tells of files
-pub stop_reported : (request : Request) (gathered : Gathered) (old new : Option (List ℕ)) (fault : ListFault) (n : ℕ)
+pub stop_reported : (request : Request) (gathered : Gathered) (old new : Option (List ℕ)) (fault : ListStop) (n : ℕ)
     → StopsList (Fails request gathered) (IsBegun request gathered old) (Reports request gathered 0 old) old new fault → IsStopStatus fault n
     → IsReportedBy request gathered n
 stop_reported request gathered old new (faults.Refused failure) n stop ends =

@@ -53,8 +53,8 @@ use Rattle.rinqebo_results.specs.LookedUp.{IsLookedUp}
 use Rattle.rinqebo_load.specs.Sessions.{readings}
 use Rattle.rinqebo_results.specs.Statuses.{failure_status}
 use Rattle.rinqebo_load.specs.declared.failure.Failure.{Failure}
-use Rattle.rinqebo_results.specs.declared.list_fault.ListFault.{ListFault}
-use Rattle.rinqebo_results.specs.declared.list_fault.ListFault.TheVariants as faults
+use Rattle.rinqebo_results.specs.declared.list_stop.ListStop.{ListStop}
+use Rattle.rinqebo_results.specs.declared.list_stop.ListStop.TheVariants as faults
 use Rattle.rinqebo_results.specs.declared.list_page.RequestedList.{RequestedList}
 use Rattle.rinqebo_load.specs.declared.session.Session.{Session}
 
@@ -160,14 +160,14 @@ IsListed begins ends old whole = (whole ≡ old) ⊎ begins whole ⊎ ends whole
 -- ran out, and it wrote the first tests, or nothing; or a write failed, and it wrote a prefix of
 -- what it writes if no write fails.
 abbrev pub StopsList : (Failure → Type 0) → (Option (List ℕ) → Type 0)
-    → (Option (List ℕ) → Type 0) → Option (List ℕ) → Option (List ℕ) → ListFault → Type 0
+    → (Option (List ℕ) → Type 0) → Option (List ℕ) → Option (List ℕ) → ListStop → Type 0
 StopsList refuses begins ends old new (faults.Refused failure) = refuses failure × (new ≡ old)
 StopsList refuses begins ends old new faults.Memory = begins new ⊎ (new ≡ old)
 StopsList refuses begins ends old new faults.Write =
     ReceivesPrefix (IsListed begins ends old) old new
 
 -- the exit status of a run that did not write its list whole
-abbrev pub IsStopStatus : ListFault → ℕ → Type 0
+abbrev pub IsStopStatus : ListStop → ℕ → Type 0
 IsStopStatus (faults.Refused failure) n = (n ≡ failure_status failure) ⊎ (n ≡ 5) ⊎ (n ≡ 6)
 IsStopStatus faults.Memory n = (n ≡ 5) ⊎ (n ≡ 6)
 IsStopStatus faults.Write n = n ≡ 6

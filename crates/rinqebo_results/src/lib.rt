@@ -8,11 +8,11 @@ mod id_note;
 mod idle;
 mod in_force;
 mod list;
-mod list_fault;
 mod list_objects;
 mod list_origins;
 mod list_page;
 mod list_scripts;
+mod list_stop;
 mod list_text;
 mod looked_up;
 mod object_origins;
@@ -31,9 +31,9 @@ pub use condition_texts::{
     condition, default_text, filter_text, host_text, no_condition, target_text,
 };
 pub use list::{Profile, list, profile_on};
-pub use list_fault::ListFault;
 pub use list_page::RequestedList;
 pub use list_scripts::scripts_of_list;
+pub use list_stop::ListStop;
 pub use list_text::write_list;
 pub use looked_up::config_looked_up;
 pub use printing::{print_text, print_texts, refuse_for_memory, refuse_message};

@@ -24,13 +24,13 @@ ghost use Rattle.rinqebo_results.specs.ListedBy.{basis_of, places_of, read_by};
 ghost use Rattle.rinqebo_results.specs.Begun.{AreFirstWritten, AreWritten};
 ghost use Rattle.rinqebo_results.specs.Prefixes.{AppendsPrefix};
 ghost use Rattle.rinqebo_results.specs.Written.{AreFirstBy, EndsPage, ShowsTest, StopsList, WritesPage, WritesRest};
-ghost use Rattle.rinqebo_results.specs.declared.list_fault.ListFault.TheVariants as faults;
+ghost use Rattle.rinqebo_results.specs.declared.list_stop.ListStop.TheVariants as faults;
 
 use crate::asked::requested_of;
 use crate::list::{Profile, profile_on};
-use crate::list_fault::ListFault;
 use crate::list_origins::unused_origins;
 use crate::list_scripts::scripts_of_list;
+use crate::list_stop::ListStop;
 use crate::streams::{write_bytes, write_whole};
 use filter_engine::{NextestFilters, NextestTally};
 use filter_inputs::ListedTest;
@@ -75,7 +75,7 @@ pub struct ListPage<'c, 'g> {
 }
 
 /// Writes a text.
-pub fn write_text<W: Write>(text: &str, out: &mut W) -> Result<(), ListFault>
+pub fn write_text<W: Write>(text: &str, out: &mut W) -> Result<(), ListStop>
     ensures ok { OnOk result (Appends (W.contents out.old) (W.contents out.new) text.now) }
     ensures err { IfErr result (λ fault. fault ≡ faults.Write) }
     ensures begun { AppendsPrefix (W.contents out.old) (W.contents out.new) text.now }
@@ -85,7 +85,7 @@ pub fn write_text<W: Write>(text: &str, out: &mut W) -> Result<(), ListFault>
 }
 
 /// Writes the last text of a page.
-pub fn write_last<W: Write>(text: &str, out: &mut W) -> Result<(), ListFault>
+pub fn write_last<W: Write>(text: &str, out: &mut W) -> Result<(), ListStop>
     ensures ok { OnOk result (Appends (W.contents out.old) (W.contents out.new) text.now) }
     ensures err { IfErr result (λ fault. fault ≡ faults.Write) }
     ensures begun { AppendsPrefix (W.contents out.old) (W.contents out.new) text.now }
@@ -135,7 +135,7 @@ impl<'c> ListPage<'c, '_> {
         origins: &mut Origins<'_, '_, 'c>,
         progress: &mut P,
         out: &mut O,
-    ) -> Result<UnusedRules<'c>, ListFault>
+    ) -> Result<UnusedRules<'c>, ListStop>
         ensures tests { IfOk result (λ _. AreWritten origins.old filter_holds asking.now.mode
             (profile_meaning (marks_view names_of) asking.now.profile.now) asking.now.asked.now
             (map list_test_view listed.now) self.now.head.now self.now.paper
@@ -170,7 +170,7 @@ impl<'c> ListPage<'c, '_> {
         on: &Profile<'c>,
         progress: &mut P,
         out: &mut O,
-    ) -> Result<(usize, UnusedRules<'c>), ListFault>
+    ) -> Result<(usize, UnusedRules<'c>), ListStop>
         ensures tests { IfOk result (λ _. AreWritten
             (basis_of self.now.session.now (borrowed_view chain.now)) filter_holds
             self.now.list.mode (profile_meaning (marks_view names_of) on.now)
@@ -207,7 +207,7 @@ impl<'c> ListPage<'c, '_> {
         alloc: Global,
         asked: &Asked,
         out: &mut O,
-    ) -> Result<(), ListFault>
+    ) -> Result<(), ListStop>
         ensures ok { OnOk result (Appends (O.contents out.old) (O.contents out.new)
             (page_text self.now.paper.colour (list_head_runs self.now.paper.columns asked.now))) }
         ensures err { IfErr result (StopsList (λ _. ⊥) (λ _. ⊥)
@@ -227,7 +227,7 @@ impl<'c> ListPage<'c, '_> {
         count: u64,
         unused: &UnusedRules<'_>,
         out: &mut O,
-    ) -> Result<(), ListFault>
+    ) -> Result<(), ListStop>
         ensures ok { OnOk result (EndsPage self.now.session.now self.now.head.now self.now.paper
             count (places_of unused.now) (O.contents out.old) (O.contents out.new)) }
         ensures err { IfErr result (StopsList (λ _. ⊥) (λ _. ⊥) (EndsPage self.now.session.now
@@ -249,7 +249,7 @@ impl<'c> ListPage<'c, '_> {
         on: &Profile<'c>,
         progress: &mut P,
         out: &mut O,
-    ) -> Result<(), ListFault>
+    ) -> Result<(), ListStop>
         ensures ok { OnOk result (WritesRest self.now.session.now (borrowed_view chain.now)
             (profile_meaning (marks_view names_of) on.now) self.now.list.mode
             self.now.list.settings.now self.now.head.now self.now.paper
@@ -277,7 +277,7 @@ impl<'c> ListPage<'c, '_> {
         on: &Profile<'c>,
         progress: &mut P,
         out: &mut O,
-    ) -> Result<(), ListFault>
+    ) -> Result<(), ListStop>
         requires is_chain { IsChainAndDefault
             (parents_in (config_parents self.now.config.now.config)) self.now.list.profile.now
             (borrowed_view chain.now) }
@@ -310,7 +310,7 @@ impl<'c> ListPage<'c, '_> {
         alloc: Global,
         progress: &mut P,
         out: &mut O,
-    ) -> Result<(), ListFault>
+    ) -> Result<(), ListStop>
         requires { IsIn (names_in self.now.config.now.config.profiles) self.now.list.profile.now }
         ensures ok { OnOk result (WritesPage self.now.session.now self.now.config.now
             self.now.list.profile.now self.now.list.mode self.now.list.settings.now

@@ -6,12 +6,12 @@ ghost use Rattle.rinqebo_results.specs.Refused.{Fails};
 ghost use Rattle.rinqebo_results.specs.LookedUp.{IsFailureOn};
 ghost use Rattle.rinqebo_results.specs.Begun.{BeginsList, IsBegun};
 ghost use Rattle.rinqebo_results.specs.Written.{AreFirstBy, AsksList, HasPage, StopsList, WritesList};
-ghost use Rattle.rinqebo_results.specs.declared.list_fault.ListFault.TheVariants as faults;
+ghost use Rattle.rinqebo_results.specs.declared.list_stop.ListStop.TheVariants as faults;
 ghost use Rattle.rinqebo_checks.specs.Reports.{IsReportOf};
 ghost use Rattle.rinqebo_report.specs.declared.format.Format.TheVariants as formats;
 
-use crate::list_fault::ListFault;
 use crate::list_page::{ListPage, RequestedList, write_last};
+use crate::list_stop::ListStop;
 use crate::looked_up::config_looked_up;
 use crate::progress::ProgressLine;
 use nextest_config::DefaultConfigWarnings;
@@ -31,7 +31,7 @@ fn begin<E: Write>(
     warnings: &DefaultConfigWarnings,
     colour: Colour,
     err: &mut E,
-) -> Result<Report, ListFault>
+) -> Result<Report, ListStop>
     ensures about { IfOk result (IsReportOf session.now) }
     ensures err { IfErr result (λ fault. (fault ≡ faults.Memory) ⊎ (fault ≡ faults.Write)) }
 {
@@ -54,7 +54,7 @@ fn write_by<O: Write, E: Write>(
     shows_progress: bool,
     out: &mut O,
     err: &mut E,
-) -> Result<(), ListFault>
+) -> Result<(), ListStop>
     requires { IsIn (names_in config.now.config.profiles) list.now.profile.now }
     ensures ok { OnOk result (HasPage session.now config.now list.now.profile.now list.now.mode
         list.now.settings.now paper (O.contents out.old) (O.contents out.new)) }
@@ -87,7 +87,7 @@ fn write_in<O: Write, E: Write>(
     shows_progress: bool,
     out: &mut O,
     err: &mut E,
-) -> Result<(), ListFault>
+) -> Result<(), ListStop>
     ensures ok { OnOk result (WritesList session.now list.now.profile.now list.now.mode
         list.now.settings.now paper (O.contents out.old) (O.contents out.new)) }
     ensures err { IfErr result (StopsList (IsFailureOn session.now list.now.profile.now)
@@ -119,7 +119,7 @@ pub fn write_list<O: Write, E: Write>(
     gathered: &Gathered,
     out: &mut O,
     err: &mut E,
-) -> Result<(), ListFault>
+) -> Result<(), ListStop>
     requires question { AsksList request.now.question list.now }
     requires format { request.now.format ≡ formats.Text }
     ensures ok { OnOk result

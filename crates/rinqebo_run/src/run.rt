@@ -35,7 +35,7 @@ use rinqebo_request::{
     GatherFault, Gathered, ParseStop, Question, Request, RequestedSettings, RequestedTest,
 };
 use rinqebo_results::{
-    Answer, ListFault, ProgressLine, RequestedList, Status, list, print_text, print_texts, refuse,
+    Answer, ListStop, ProgressLine, RequestedList, Status, list, print_text, print_texts, refuse,
     refuse_for_memory, refuse_in, refuse_message, show, write_list,
 };
 use rinqebo_rules::Progress;
@@ -296,13 +296,13 @@ fn text_list<'r>(request: &'r Request<'_>) -> Option<RequestedList<'r>>
 
 /// Writes why a list was not written whole, and returns the exit status. For a failed write it
 /// writes nothing.
-fn refuse_list<E: Write>(alloc: Global, fault: &ListFault, request: &Request<'_>, err: &mut E) -> u8
+fn refuse_list<E: Write>(alloc: Global, fault: &ListStop, request: &Request<'_>, err: &mut E) -> u8
     ensures { IsStopStatus fault.now result }
 {
     match fault {
-        ListFault::Refused(failure) => refuse(alloc, failure, request, err),
-        ListFault::Memory => refuse_for_memory(err),
-        ListFault::Write => Status::Write as u8,
+        ListStop::Refused(failure) => refuse(alloc, failure, request, err),
+        ListStop::Memory => refuse_for_memory(err),
+        ListStop::Write => Status::Write as u8,
     }
 }
 

@@ -10,7 +10,7 @@ use Rattle.rinqebo_results.proofs.Writing.{all_first, rest_here}
 use Rattle.rinqebo_results.specs.Begun.{tests_text, AreFirstWritten}
 use Rattle.rinqebo_results.specs.ListedBy.{basis_of, places_of}
 use Rattle.rinqebo_results.specs.Written.{EndsPage, WritesRest}
-use Rattle.rinqebo_results.specs.declared.list_fault.ListFault.TheVariants as faults
+use Rattle.rinqebo_results.specs.declared.list_stop.ListStop.TheVariants as faults
 use Rattle.filter_inputs.specs.Lists.ListView.{list_view}
 use Rattle.filter_inputs.specs.Lists.Lists.{list_tests}
 use Rattle.rinqebo_results.proofs.list_page.ListPage.write_rest.Goals as goal

@@ -5,7 +5,7 @@ use std::alloc::AllocError;
 
 /// Why the program did not write the text of a list whole.
 #[derive(Drop)]
-pub enum ListFault {
+pub enum ListStop {
     /// A run returns no result. Nothing was written.
     Refused(Failure),
     /// Memory ran out. What was written ends with a whole test.
@@ -14,35 +14,35 @@ pub enum ListFault {
     Write,
 }
 
-impl From<AllocError> for ListFault {
+impl From<AllocError> for ListStop {
     ghost use Rattle.std.specs.Prelude.{◌≡◌};
-    ghost use Rattle.rinqebo_results.specs.declared.list_fault.ListFault.TheVariants.{Memory};
+    ghost use Rattle.rinqebo_results.specs.declared.list_stop.ListStop.TheVariants.{Memory};
 
     ghost from_gives = { λ _ fault. fault ≡ Memory };
 
-    fn from(_error: AllocError) -> ListFault {
-        ListFault::Memory
+    fn from(_error: AllocError) -> ListStop {
+        ListStop::Memory
     }
 }
 
-impl From<Failure> for ListFault {
+impl From<Failure> for ListStop {
     ghost use Rattle.std.specs.Prelude.{◌≡◌};
-    ghost use Rattle.rinqebo_results.specs.declared.list_fault.ListFault.TheVariants.{Refused};
+    ghost use Rattle.rinqebo_results.specs.declared.list_stop.ListStop.TheVariants.{Refused};
 
     ghost from_gives = { λ failure fault. fault ≡ Refused failure };
 
-    fn from(failure: Failure) -> ListFault {
-        ListFault::Refused(failure)
+    fn from(failure: Failure) -> ListStop {
+        ListStop::Refused(failure)
     }
 }
 
-impl From<WriteFault> for ListFault {
+impl From<WriteFault> for ListStop {
     ghost use Rattle.std.specs.Prelude.{◌≡◌};
-    ghost use Rattle.rinqebo_results.specs.declared.list_fault.ListFault.TheVariants.{Write};
+    ghost use Rattle.rinqebo_results.specs.declared.list_stop.ListStop.TheVariants.{Write};
 
     ghost from_gives = { λ _ fault. fault ≡ Write };
 
-    fn from(_fault: WriteFault) -> ListFault {
-        ListFault::Write
+    fn from(_fault: WriteFault) -> ListStop {
+        ListStop::Write
     }
 }
