@@ -17,7 +17,7 @@ use Rattle.rinqebo_report.specs.declared.report.SettingRow.{SettingRow}
 use Rattle.rinqebo_report.specs.declared.value.Scalar.TheVariants as scalars
 use Rattle.rinqebo_report.specs.declared.value.Value.{Value}
 use Rattle.rinqebo_report.specs.declared.value.Value.TheVariants as values
-use Rattle.rinqebo_rules.specs.LeafValue.{is_spelled, is_tellable, text_node, value_node}
+use Rattle.rinqebo_origins.specs.LeafValue.{is_spelled, is_tellable, text_node, value_node}
 use Rattle.rinqebo_rules.specs.Scripts.{wrapper_view}
 use Rattle.rinqebo_results.specs.ShownConfig.{ReportsLeaf, TellLeaves}
 use Rattle.rinqebo_changes.specs.Keyed.{AreAlike}

@@ -11,7 +11,7 @@ use Rattle.rinqebo_report.specs.declared.value.TableMember.{TableMember}
 use Rattle.rinqebo_report.specs.declared.value.Value.{Value}
 use Rattle.rinqebo_report.specs.declared.value.Value.TheVariants as values
 use Rattle.rinqebo_request.specs.declared.request.RequestedSettings.{RequestedSettings}
-use Rattle.rinqebo_rules.specs.Reported as shown
+use Rattle.rinqebo_origins.specs.Reported as shown
 use Rattle.rinqebo_changes.specs.Changes.{rows_in, runs_in, side_row}
 use Rattle.rinqebo_changes.specs.ValueViews as plain
 use Rattle.rinqebo_changes.specs.declared.change.SideRow.{SideRow}

@@ -12,7 +12,7 @@ use Rattle.rinqebo_changes.specs.declared.change.TestChanges.{TestChanges}
 use Rattle.rinqebo_report.specs.declared.report.TestRows.{TestRows}
 use Rattle.rinqebo_request.specs.declared.request.RequestedSettings.{RequestedSettings}
 use Rattle.rinqebo_rules.specs.Rows.{IsTestReported}
-use Rattle.rinqebo_rules.specs.TestOrigins.{Basis}
+use Rattle.rinqebo_origins.specs.TestOrigins.{Basis}
 use Rattle.rinqebo_changes.specs.Sides.Matched.{TestPair}
 
 -- A side reports rows of a test: those that its profile gives to the test.

@@ -12,7 +12,8 @@ ghost use Rattle.rinqebo_changes.specs.Sides.Matched.{pair_view};
 use filter_engine::{NextestFilters, NextestTally};
 use platform_language::TargetSpecs;
 use rinqebo_changes::{Comparison, Pair, TestChanges, changes_of};
-use rinqebo_rules::{Lister, Origins, Progress};
+use rinqebo_origins::Origins;
+use rinqebo_rules::{Lister, Progress};
 use std::alloc::{AllocError, Global};
 
 /// How the tests of a side are evaluated.

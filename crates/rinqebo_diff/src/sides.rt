@@ -23,10 +23,11 @@ use rinqebo_changes::{
     keyed_changes, match_tests, run_rows,
 };
 use rinqebo_load::chain_of_profile;
+use rinqebo_origins::Origins;
 use rinqebo_report::{SettingRow, TestId};
 use rinqebo_request::sources_of;
 use rinqebo_results::{Profile, entries_in, profile_on, requested_of, scripts_of_list};
-use rinqebo_rules::{Origins, Progress, reported_platform};
+use rinqebo_rules::{Progress, reported_platform};
 use std::alloc::{AllocError, Global};
 
 /// What a side is compared by.

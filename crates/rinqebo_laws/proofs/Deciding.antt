@@ -16,11 +16,11 @@ use Rattle.nextest_elements.specs.declared.setting.Setting.TheVariants as at
 use Rattle.nextest_tables.specs.Written.{WrittenFields}
 use Rattle.rinqebo_report.specs.declared.origin.Origin.{Origin as Reported}
 use Rattle.rinqebo_rules.proofs.VerdictsOf.{verdicts-none, verdicts-nth, verdicts-winner}
-use Rattle.rinqebo_rules.specs.Origins.{IsOriginOf, key_steps}
-use Rattle.rinqebo_rules.specs.Reported.{reported_of}
+use Rattle.rinqebo_origins.specs.Origins.{IsOriginOf, key_steps}
+use Rattle.rinqebo_origins.specs.Reported.{reported_of}
 use Rattle.rinqebo_rules.specs.SettingRules.{RuleFor, RuleValue, for_setting, on_setting, override_writes, rules_for, wrapper_written, writes_it}
-use Rattle.rinqebo_rules.specs.Settings.{is_by_rule}
-use Rattle.rinqebo_rules.specs.TestOrigins.{AreOriginsBy, Basis}
+use Rattle.rinqebo_origins.specs.Settings.{is_by_rule}
+use Rattle.rinqebo_origins.specs.TestOrigins.{AreOriginsBy, Basis}
 use Rattle.rinqebo_rules.specs.Verdicts.{verdicts_after, verdicts_of}
 use Rattle.rinqebo_rules.specs.declared.verdict.RuleVerdict.{RuleVerdict}
 use Rattle.rinqebo_rules.specs.declared.verdict.RuleVerdict.TheVariants.{Decides}

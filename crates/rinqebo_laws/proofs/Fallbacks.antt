@@ -16,10 +16,10 @@ use Rattle.rinqebo_report.specs.declared.origin.Origin.TheVariants as kinds
 use Rattle.rinqebo_report.specs.declared.report.Rule.{Rule}
 use Rattle.rinqebo_report.specs.declared.report.SettingRow.{SettingRow}
 use Rattle.rinqebo_keys.specs.Keys.{key_name, key_table}
-use Rattle.rinqebo_rules.specs.AsWritten.{node_alone}
-use Rattle.rinqebo_rules.specs.Origins.{PathStep}
-use Rattle.rinqebo_rules.specs.ProfileOrigins.{AreProfileOrigins, built_in, is_rule_key, written}
-use Rattle.rinqebo_rules.specs.TestOrigins.{AreOriginsBy}
+use Rattle.rinqebo_origins.specs.AsWritten.{node_alone}
+use Rattle.rinqebo_origins.specs.Origins.{PathStep}
+use Rattle.rinqebo_origins.specs.ProfileOrigins.{AreProfileOrigins, built_in, is_rule_key, written}
+use Rattle.rinqebo_origins.specs.TestOrigins.{AreOriginsBy}
 
 -- what rules alone write is not written by a chain
 of_rules : (layers : List Layer) (names : List Name) (table : Option (List ℕ)) (name : List ℕ) (origins : List Origin)

@@ -19,12 +19,12 @@ use Rattle.rinqebo_report.specs.declared.origin.Origin.TheVariants as kinds
 use Rattle.rinqebo_report.specs.declared.origin.Part.{Part}
 use Rattle.rinqebo_report.specs.declared.origin.Part.TheVariants as parts
 use Rattle.rinqebo_report.specs.declared.origin.Written.{Written}
-use Rattle.rinqebo_rules.specs.KnownOrigins.{AreOriginsAt}
-use Rattle.rinqebo_rules.specs.Origins.{IsOriginOf, IsWrittenAt, PathStep, key, key_steps, part_steps, profile_steps, step_view}
-use Rattle.rinqebo_rules.specs.ProfileOrigins.{AreProfileOrigins, AreWrittenOrigins, HasNoReport, IsBuiltIn, IsLayerOrigin, built_in, key_path, is_rule_key, no_key, no_leaf, no_profile, no_report, written}
-use Rattle.rinqebo_rules.specs.RulePlaces.{Place, id_place}
-use Rattle.rinqebo_rules.specs.TestOrigins.{AreOriginsBy, wrapping_places}
-use Rattle.rinqebo_rules.specs.Trees.{trees_of}
+use Rattle.rinqebo_origins.specs.KnownOrigins.{AreOriginsAt}
+use Rattle.rinqebo_origins.specs.Origins.{IsOriginOf, IsWrittenAt, PathStep, key, key_steps, part_steps, profile_steps, step_view}
+use Rattle.rinqebo_origins.specs.ProfileOrigins.{AreProfileOrigins, AreWrittenOrigins, HasNoReport, IsBuiltIn, IsLayerOrigin, built_in, key_path, is_rule_key, no_key, no_leaf, no_profile, no_report, written}
+use Rattle.rinqebo_origins.specs.RulePlaces.{Place, id_place}
+use Rattle.rinqebo_origins.specs.TestOrigins.{AreOriginsBy, wrapping_places}
+use Rattle.rinqebo_origins.specs.Trees.{trees_of}
 
 -- a path in a profile has a step
 has_steps : (path : List Step) (profile : Name) (part : Part) (rest : List PathStep)

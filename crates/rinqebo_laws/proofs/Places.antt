@@ -13,7 +13,7 @@ use Rattle.nextest_tree.specs.Node.{Node, as_array, member_of}
 use Rattle.rinqebo_request.specs.Files.Origins.{AreLinesAt}
 use Rattle.rinqebo_laws.proofs.Lists.{one_greatest, one_least}
 use Rattle.rinqebo_report.specs.declared.origin.FileLines.{FileLines}
-use Rattle.rinqebo_rules.specs.Origins.{step_view}
+use Rattle.rinqebo_origins.specs.Origins.{step_view}
 
 -- steps that are shown alike lead to the same
 into_alike : (p q : Step) (n : Node) → step_view p ≡ step_view q → step_into p n ≡ step_into q n

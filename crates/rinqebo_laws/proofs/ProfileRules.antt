@@ -31,11 +31,11 @@ use Rattle.rinqebo_report.specs.declared.report.Verdict.TheVariants as verdicts
 use Rattle.rinqebo_keys.specs.Keys.{key_name, key_table, key_text}
 use Rattle.rinqebo_request.specs.declared.request.RequestedSettings.{RequestedSettings}
 use Rattle.rinqebo_request.specs.declared.request.RequestedSettings.TheVariants as requests
-use Rattle.rinqebo_rules.specs.Origins.{key_steps}
-use Rattle.rinqebo_rules.specs.ProfileOrigins.{AreProfileOrigins}
+use Rattle.rinqebo_origins.specs.Origins.{key_steps}
+use Rattle.rinqebo_origins.specs.ProfileOrigins.{AreProfileOrigins}
 use Rattle.rinqebo_rules.specs.SettingRules.{rules_for}
-use Rattle.rinqebo_rules.specs.Settings.{IsSettingReported, is_by_rule, reported_settings}
-use Rattle.rinqebo_rules.specs.TestOrigins.{AreOriginsBy, wrapping_id}
+use Rattle.rinqebo_origins.specs.Settings.{IsSettingReported, is_by_rule, reported_settings}
+use Rattle.rinqebo_origins.specs.TestOrigins.{AreOriginsBy, wrapping_id}
 use Rattle.rinqebo_results.specs.Reasons.{IsRuleAsWritten}
 use Rattle.rinqebo_results.specs.ReportsReasons.{AreReasons}
 use Rattle.rinqebo_results.specs.RunsReasons.{AreRunsReasons, is_selected_on}

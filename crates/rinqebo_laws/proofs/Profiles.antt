@@ -27,8 +27,8 @@ use Rattle.rinqebo_report.specs.declared.report.TestRows.{TestRows}
 use Rattle.rinqebo_request.specs.declared.request.RequestedSettings.{RequestedSettings}
 use Rattle.rinqebo_rules.specs.Rows.{IsTestReported}
 use Rattle.rinqebo_rules.specs.Runs.{filtering_place, is_selected, runs_if}
-use Rattle.rinqebo_rules.specs.Settings.{reported_settings}
-use Rattle.rinqebo_rules.specs.TestOrigins.{wrapping_id}
+use Rattle.rinqebo_origins.specs.Settings.{reported_settings}
+use Rattle.rinqebo_origins.specs.TestOrigins.{wrapping_id}
 use Rattle.rinqebo_results.specs.Explained.{IsTestOf}
 use Rattle.rinqebo_results.specs.Listed.{AreTestsOf}
 

@@ -18,13 +18,13 @@ use Rattle.rinqebo_laws.specs.Rows.{SaySame}
 use Rattle.rinqebo_laws.specs.Shown.{origin_shown}
 use Rattle.rinqebo_report.specs.declared.report.SettingRow.{SettingRow}
 use Rattle.rinqebo_keys.specs.Keys.{key_name, key_table, key_text}
-use Rattle.rinqebo_rules.specs.AsWritten.{IsValueAsWritten, node_alone}
-use Rattle.rinqebo_rules.specs.Origins.{key_steps}
-use Rattle.rinqebo_rules.specs.Reported.{value_view}
-use Rattle.rinqebo_rules.specs.RulePlaces.{Place}
+use Rattle.rinqebo_origins.specs.AsWritten.{IsValueAsWritten, node_alone}
+use Rattle.rinqebo_origins.specs.Origins.{key_steps}
+use Rattle.rinqebo_origins.specs.Reported.{value_view}
+use Rattle.rinqebo_origins.specs.RulePlaces.{Place}
 use Rattle.rinqebo_rules.specs.Runs.{IsRunsRow}
-use Rattle.rinqebo_rules.specs.Settings.{IsSettingReported}
-use Rattle.rinqebo_rules.specs.TestOrigins.{Basis}
+use Rattle.rinqebo_origins.specs.Settings.{IsSettingReported}
+use Rattle.rinqebo_origins.specs.TestOrigins.{Basis}
 
 module _ (layers : List Layer)
     (one_layer : (file : Source) (n m : ℕ) → IsFileAt layers file n → IsFileAt layers file m → n ≡ m)

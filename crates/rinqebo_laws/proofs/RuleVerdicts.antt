@@ -7,7 +7,7 @@ use Rattle.nextest_settings.specs.Settings.{fallback_of}
 use Rattle.nextest_elements.specs.declared.setting.Setting.{Setting}
 use Rattle.rinqebo_laws.proofs.Deciding.{has_fallback, has_rule, mapped_back}
 use Rattle.rinqebo_laws.specs.Verdicts.{Judged, judged_rules, judged_value, judged_verdicts}
-use Rattle.rinqebo_rules.specs.Reported.{reported_of}
+use Rattle.rinqebo_origins.specs.Reported.{reported_of}
 use Rattle.rinqebo_rules.specs.SettingRules.{RuleValue, rules_for}
 use Rattle.rinqebo_rules.specs.declared.verdict.RuleVerdict.TheVariants.{Decides}
 

@@ -20,11 +20,11 @@ use Rattle.rinqebo_report.specs.declared.report.SettingRow.{SettingRow}
 use Rattle.rinqebo_report.specs.declared.report.Verdict.TheVariants as told
 use Rattle.rinqebo_rules.proofs.FilterChoice.{choice, first_decides}
 use Rattle.rinqebo_rules.specs.FilterRules.{FilterRule, filter_facts, filter_rule_on, filter_rules, has_default}
-use Rattle.rinqebo_rules.specs.KnownOrigins.{AreOriginsAt}
-use Rattle.rinqebo_rules.specs.Origins.{IsOriginOf, key_steps}
-use Rattle.rinqebo_rules.specs.ProfileOrigins.{AreProfileOrigins}
-use Rattle.rinqebo_rules.specs.Reported.{value_view}
-use Rattle.rinqebo_rules.specs.RulePlaces.{Place, id_place}
+use Rattle.rinqebo_origins.specs.KnownOrigins.{AreOriginsAt}
+use Rattle.rinqebo_origins.specs.Origins.{IsOriginOf, key_steps}
+use Rattle.rinqebo_origins.specs.ProfileOrigins.{AreProfileOrigins}
+use Rattle.rinqebo_origins.specs.Reported.{value_view}
+use Rattle.rinqebo_origins.specs.RulePlaces.{Place, id_place}
 use Rattle.rinqebo_rules.specs.Runs.{IsRunsRow, filtering_id, runs_if}
 use Rattle.rinqebo_rules.specs.VerdictsBy.{decides_by, verdict_by, verdicts_by}
 use Rattle.rinqebo_rules.specs.declared.verdict.RuleFacts.{RuleFacts}

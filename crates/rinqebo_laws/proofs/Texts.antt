@@ -13,9 +13,9 @@ use Rattle.rinqebo_report.specs.declared.value.Scalar.TheVariants as scalars
 use Rattle.rinqebo_report.specs.declared.value.TableMember.{TableMember}
 use Rattle.rinqebo_report.specs.declared.value.Value.{Value}
 use Rattle.rinqebo_report.specs.declared.value.Value.TheVariants as values
-use Rattle.rinqebo_rules.specs.AsWritten.{IsMemberAsWritten, IsScalarAsWritten, IsValueAsWritten, WritesDuration, are_defaults, member_text, node_alone, node_at, origin_node}
-use Rattle.rinqebo_rules.specs.Origins.{PathStep, profile_steps}
-use Rattle.rinqebo_rules.specs.Reported.{boolean, field_view, scalar, scalar_view, value_view}
+use Rattle.rinqebo_origins.specs.AsWritten.{IsMemberAsWritten, IsScalarAsWritten, IsValueAsWritten, WritesDuration, are_defaults, member_text, node_alone, node_at, origin_node}
+use Rattle.rinqebo_origins.specs.Origins.{PathStep, profile_steps}
+use Rattle.rinqebo_origins.specs.Reported.{boolean, field_view, scalar, scalar_view, value_view}
 
 -- ---- values that are as one node writes them
 

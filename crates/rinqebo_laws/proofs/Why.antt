@@ -24,14 +24,14 @@ use Rattle.rinqebo_report.specs.declared.report.Rule.{Rule}
 use Rattle.rinqebo_report.specs.declared.report.SettingRow.{SettingRow}
 use Rattle.rinqebo_report.specs.declared.report.Verdict.TheVariants as told
 use Rattle.rinqebo_keys.specs.Keys.{key_name, key_table}
-use Rattle.rinqebo_rules.specs.AsWritten.{IsValueAsWritten, node_alone, origin_node}
-use Rattle.rinqebo_rules.specs.Origins.{IsOriginOf, key_steps}
-use Rattle.rinqebo_rules.specs.ProfileOrigins.{AreProfileOrigins}
-use Rattle.rinqebo_rules.specs.Reported.{reported_of, value_view}
+use Rattle.rinqebo_origins.specs.AsWritten.{IsValueAsWritten, node_alone, origin_node}
+use Rattle.rinqebo_origins.specs.Origins.{IsOriginOf, key_steps}
+use Rattle.rinqebo_origins.specs.ProfileOrigins.{AreProfileOrigins}
+use Rattle.rinqebo_origins.specs.Reported.{reported_of, value_view}
 use Rattle.rinqebo_rules.specs.RuleAnswers.{answers_by}
 use Rattle.rinqebo_rules.specs.SettingRules.{RuleFor, writes_it}
-use Rattle.rinqebo_rules.specs.Settings.{IsSettingReported, is_by_rule}
-use Rattle.rinqebo_rules.specs.TestOrigins.{AreOriginsBy}
+use Rattle.rinqebo_origins.specs.Settings.{IsSettingReported, is_by_rule}
+use Rattle.rinqebo_origins.specs.TestOrigins.{AreOriginsBy}
 use Rattle.rinqebo_rules.specs.Verdicts.{verdicts_of}
 use Rattle.rinqebo_rules.specs.declared.verdict.RuleVerdict.{RuleVerdict}
 use Rattle.rinqebo_rules.specs.declared.verdict.RuleVerdict.TheVariants.{PlatformNo, FilterNo, SetsNothing, DecidedBefore, Decides}

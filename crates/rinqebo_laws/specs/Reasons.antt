@@ -19,9 +19,9 @@ use Rattle.rinqebo_report.specs.declared.report.Rule.{Rule}
 use Rattle.rinqebo_report.specs.declared.report.SettingRow.{SettingRow}
 use Rattle.rinqebo_report.specs.declared.report.Verdict.TheVariants as verdicts
 use Rattle.rinqebo_keys.specs.Keys.{key_name, key_table}
-use Rattle.rinqebo_rules.specs.Origins.{IsOriginOf, PathStep, key_steps}
-use Rattle.rinqebo_rules.specs.RulePlaces.{Place}
-use Rattle.rinqebo_rules.specs.TestOrigins.{AreOriginsBy}
+use Rattle.rinqebo_origins.specs.Origins.{IsOriginOf, PathStep, key_steps}
+use Rattle.rinqebo_origins.specs.RulePlaces.{Place}
+use Rattle.rinqebo_origins.specs.TestOrigins.{AreOriginsBy}
 
 -- the rule at a place decides
 abbrev pub DecidesAt : List Rule → ℕ → Type 0

@@ -13,9 +13,9 @@ use Rattle.rinqebo_report.specs.declared.origin.Origin.{Origin}
 use Rattle.rinqebo_report.specs.declared.report.Rule.{Rule}
 use Rattle.rinqebo_report.specs.declared.report.SettingRow.{SettingRow}
 use Rattle.rinqebo_report.specs.declared.report.Verdict.TheVariants as verdicts
-use Rattle.rinqebo_rules.specs.Origins.{key_steps}
-use Rattle.rinqebo_rules.specs.ProfileOrigins.{AreProfileOrigins}
-use Rattle.rinqebo_rules.specs.Reported.{boolean, scalar, value_view}
+use Rattle.rinqebo_origins.specs.Origins.{key_steps}
+use Rattle.rinqebo_origins.specs.ProfileOrigins.{AreProfileOrigins}
+use Rattle.rinqebo_origins.specs.Reported.{boolean, scalar, value_view}
 use Rattle.rinqebo_rules.specs.Runs.{runs_if}
 
 -- A row says that a test runs exactly if a rule says that its default filter matches the test,

@@ -9,7 +9,7 @@ use Rattle.rinqebo_report.specs.declared.value.Scalar.{Scalar}
 use Rattle.rinqebo_report.specs.declared.value.Scalar.TheVariants as scalars
 use Rattle.rinqebo_report.specs.declared.value.Value.{Value}
 use Rattle.rinqebo_report.specs.declared.value.Value.TheVariants as values
-use Rattle.rinqebo_rules.specs.Reported.{value_view}
+use Rattle.rinqebo_origins.specs.Reported.{value_view}
 
 -- An origin without its columns: nothing writes a value, the default table does, or a file does:
 -- under a profile, in its fields or in one of its rules, or outside of all profiles. A file is a

@@ -5,7 +5,7 @@ ghost use Rattle.nextest_settings.specs.Platforms.{EvaluatedRule};
 ghost use Rattle.nextest_settings.specs.Settings.{fallback_of};
 ghost use Rattle.nextest_elements.specs.declared.setting.Setting.{Setting};
 ghost use Rattle.rinqebo_laws.specs.Verdicts.{Judged, judged_rules, judged_value, judged_verdicts};
-ghost use Rattle.rinqebo_rules.specs.Reported.{reported_of};
+ghost use Rattle.rinqebo_origins.specs.Reported.{reported_of};
 ghost use Rattle.rinqebo_rules.specs.SettingRules.{RuleValue, writes_it};
 ghost use Rattle.rinqebo_rules.specs.Verdicts.{IsDeciding};
 ghost use Rattle.rinqebo_rules.specs.declared.verdict.RuleVerdict.{RuleVerdict};

@@ -24,7 +24,7 @@ use Rattle.nextest_settings.specs.Profile.{Configured, EvaluatableModel}
 use Rattle.nextest_settings.specs.Queries.{query_in}
 use Rattle.nextest_tables.specs.FileTexts.{names_in, IsIn}
 use Rattle.nextest_tables.specs.Written.{Name}
-use Rattle.rinqebo_rules.specs.TestOrigins.{Basis}
+use Rattle.rinqebo_origins.specs.TestOrigins.{Basis}
 use Rattle.rinqebo_rules.specs.Rows.{AreTestsReported}
 use Rattle.rinqebo_rules.specs.Scripts.{AreScriptsReported}
 use Rattle.rinqebo_rules.specs.Unused.{unused_among, AreUnusedIn}
@@ -47,8 +47,8 @@ use Rattle.rinqebo_results.specs.ListedBy.{basis_of, read_by, listed_by, places_
 use Rattle.rinqebo_results.specs.Requested.{IsRequestedIn}
 use Rattle.rinqebo_results.proofs.Requests.{requested_meant}
 use Rattle.rinqebo_request.specs.declared.files.layers.Layer.{Layer as FileLayer}
-use Rattle.rinqebo_rules.specs.Origins.{IsOriginOf}
-use Rattle.rinqebo_rules.specs.RulePlaces.{Place, id_place, script_place}
+use Rattle.rinqebo_origins.specs.Origins.{IsOriginOf}
+use Rattle.rinqebo_origins.specs.RulePlaces.{Place, id_place, script_place}
 use Rattle.rinqebo_load.specs.Sessions.{files_view, readings, IsLoadedFrom}
 use Rattle.rinqebo_load.specs.declared.session.Session.{Session}
 use Rattle.serde_json.specs.View.{view}

@@ -20,7 +20,7 @@ use Rattle.rinqebo_load.specs.Sessions.{files_view, readings, IsLoadedFrom}
 use Rattle.rinqebo_load.specs.declared.session.Session.{Session}
 use Rattle.rinqebo_rules.specs.Conditions.{is_met_by}
 use Rattle.rinqebo_rules.specs.EvaluatedFilters.{Site, default_site, evaluated_filters, evaluated_of, filter_of, open_filters, placed_view, which_has}
-use Rattle.rinqebo_rules.specs.RulePlaces.{Place, id_place, script_place}
+use Rattle.rinqebo_origins.specs.RulePlaces.{Place, id_place, script_place}
 use Rattle.rinqebo_rules.specs.Runs.{filtering_place}
 use Rattle.rinqebo_rules.specs.declared.evaluated_filters.PlacedFilter.{PlacedFilter}
 use Rattle.rinqebo_results.proofs.Listing.{given_means}

@@ -8,8 +8,8 @@ use Rattle.nextest_documents.specs.Entries.{Leaf, leaf_view}
 use Rattle.nextest_documents.specs.Sections.{base_path}
 use Rattle.nextest_documents.specs.declared.entries.LayerLeaf.{LayerLeaf as Found}
 use Rattle.nextest_places.specs.declared.step.Step.{Step}
-use Rattle.rinqebo_rules.specs.LeafValue.{is_tellable}
-use Rattle.rinqebo_rules.specs.ReportedEntries.{IsEntryOf, step_key}
+use Rattle.rinqebo_origins.specs.LeafValue.{is_tellable}
+use Rattle.rinqebo_origins.specs.ReportedEntries.{IsEntryOf, step_key}
 use Rattle.rinqebo_report.specs.declared.origin.FilePlace.{FilePlace}
 use Rattle.rinqebo_report.specs.declared.report.Entry.{Entry}
 use Rattle.filter_engine.specs.Compiling.{names_of}
@@ -32,7 +32,7 @@ use Rattle.rinqebo_load.specs.Sessions.{files_view, readings, IsLoadedFrom}
 use Rattle.rinqebo_load.specs.declared.session.Session.{Session}
 use Rattle.rinqebo_report.specs.declared.report.Content.{Content}
 use Rattle.rinqebo_report.specs.declared.report.Report.{Report}
-use Rattle.rinqebo_rules.specs.RulePlaces.{Place}
+use Rattle.rinqebo_origins.specs.RulePlaces.{Place}
 use Rattle.rinqebo_results.specs.ListedBy.{read_by}
 use Rattle.rinqebo_results.specs.ShownConfig.{AreShownOf, IsShownBy, ShowsConfig, ReportsLeaf, TellLeaves, shown_status}
 

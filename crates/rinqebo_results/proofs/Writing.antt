@@ -24,7 +24,7 @@ use Rattle.nextest_settings.specs.Queries.{query_in}
 use Rattle.nextest_tables.specs.FileTexts.{names_in, IsIn}
 use Rattle.nextest_tables.specs.Written.{Name}
 use Rattle.rinqebo_request.specs.declared.files.gathering.Gathered.{Gathered}
-use Rattle.rinqebo_rules.specs.TestOrigins.{Basis}
+use Rattle.rinqebo_origins.specs.TestOrigins.{Basis}
 use Rattle.rinqebo_rules.specs.Rows.{AreTestsReported, IsTestReported}
 use Rattle.rinqebo_rules.specs.Scripts.{AreScriptsReported}
 use Rattle.rinqebo_rules.specs.Unused.{AreUnusedIn}

@@ -10,8 +10,8 @@ use Rattle.rinqebo_report.specs.declared.origin.Part.TheVariants as parts
 use Rattle.rinqebo_report.specs.declared.report.Condition.{Condition}
 use Rattle.rinqebo_report.specs.declared.report.ConditionAnswer.TheVariants as says
 use Rattle.rinqebo_report.specs.declared.report.Rule.{Rule}
-use Rattle.rinqebo_rules.specs.AsWritten.{node_at, origin_node}
-use Rattle.rinqebo_rules.specs.Origins.{PathStep, key_steps, profile_steps}
+use Rattle.rinqebo_origins.specs.AsWritten.{node_at, origin_node}
+use Rattle.rinqebo_origins.specs.Origins.{PathStep, key_steps, profile_steps}
 
 -- the text that the file of an origin has at some steps from the rule or the profile of the origin,
 -- if it has one there

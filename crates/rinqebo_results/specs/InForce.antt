@@ -5,9 +5,9 @@ use Rattle.std.specs.Str.{bytes_eq}
 use Rattle.nextest_tree.specs.Node.{text}
 use Rattle.rinqebo_request.specs.declared.files.layers.Layer.{Layer}
 use Rattle.rinqebo_report.specs.declared.report.Entry.{Entry}
-use Rattle.rinqebo_rules.specs.LeafValue.{value_node}
-use Rattle.rinqebo_rules.specs.Origins.{IsOriginOf, key_steps}
-use Rattle.rinqebo_rules.specs.RulePlaces.{Place}
+use Rattle.rinqebo_origins.specs.LeafValue.{value_node}
+use Rattle.rinqebo_origins.specs.Origins.{IsOriginOf, key_steps}
+use Rattle.rinqebo_origins.specs.RulePlaces.{Place}
 use Rattle.rinqebo_results.specs.ConditionTexts.{default_text}
 
 -- whether an entry is a default filter of a profile

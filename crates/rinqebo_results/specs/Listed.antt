@@ -37,9 +37,9 @@ use Rattle.filter_inputs.specs.Lists.ListView.{list_view}
 use Rattle.filter_inputs.specs.Lists.Lists.{all_binaries, all_tests, list_tests, TestList}
 use Rattle.rinqebo_load.specs.Accepted.{AreAccepted}
 use Rattle.rinqebo_load.specs.Meant.{config_meant}
-use Rattle.rinqebo_rules.specs.Origins.{IsOriginOf}
-use Rattle.rinqebo_rules.specs.RulePlaces.{Place, id_place, script_place}
-use Rattle.rinqebo_rules.specs.TestOrigins.{Basis}
+use Rattle.rinqebo_origins.specs.Origins.{IsOriginOf}
+use Rattle.rinqebo_origins.specs.RulePlaces.{Place, id_place, script_place}
+use Rattle.rinqebo_origins.specs.TestOrigins.{Basis}
 use Rattle.rinqebo_load.specs.Sessions.{files_view, readings}
 use Rattle.rinqebo_results.specs.ObjectOrigins.{AreObjectOrigins}
 use Rattle.rinqebo_results.specs.Requested.{IsRequestedIn}

@@ -20,9 +20,9 @@ use Rattle.platform_language.specs.declared.expression.TargetSpec.{TargetSpec}
 use Rattle.filter_inputs.specs.Lists.ListView.{list_view}
 use Rattle.rinqebo_results.specs.Explained.{IsTestOf}
 use Rattle.rinqebo_results.specs.Listed.{AreTestsOf}
-use Rattle.rinqebo_rules.specs.TestOrigins.{Basis}
+use Rattle.rinqebo_origins.specs.TestOrigins.{Basis}
 use Rattle.rinqebo_rules.specs.declared.unused.UnusedRules.{UnusedRules}
-use Rattle.rinqebo_rules.specs.RulePlaces.{Place, id_place, script_place}
+use Rattle.rinqebo_origins.specs.RulePlaces.{Place, id_place, script_place}
 use Rattle.rinqebo_load.specs.Sessions.{readings}
 use Rattle.rinqebo_load.specs.declared.found_test.FoundTest.{FoundTest}
 use Rattle.rinqebo_load.specs.declared.session.Session.{Session}

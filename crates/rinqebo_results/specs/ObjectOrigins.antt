@@ -18,13 +18,13 @@ use Rattle.rinqebo_report.specs.declared.origin.Origin.{Origin}
 use Rattle.rinqebo_report.specs.declared.origin.Origin.TheVariants as kinds
 use Rattle.rinqebo_request.specs.Files.Origins.{IsPathPlace}
 use Rattle.rinqebo_request.specs.declared.files.layers.Layer.{Layer}
-use Rattle.rinqebo_rules.specs.KnownOrigins.{AreOriginsAt}
-use Rattle.rinqebo_rules.specs.Origins.{key, step_view}
-use Rattle.rinqebo_rules.specs.ProfileOrigins.{AreProfileOrigins}
-use Rattle.rinqebo_rules.specs.RulePlaces.{Place}
+use Rattle.rinqebo_origins.specs.KnownOrigins.{AreOriginsAt}
+use Rattle.rinqebo_origins.specs.Origins.{key, step_view}
+use Rattle.rinqebo_origins.specs.ProfileOrigins.{AreProfileOrigins}
+use Rattle.rinqebo_origins.specs.RulePlaces.{Place}
 use Rattle.rinqebo_rules.specs.Runs.{filtering_place}
-use Rattle.rinqebo_rules.specs.TestOrigins.{Basis}
-use Rattle.rinqebo_rules.specs.Trees.{trees_of}
+use Rattle.rinqebo_origins.specs.TestOrigins.{Basis}
+use Rattle.rinqebo_origins.specs.Trees.{trees_of}
 
 -- where files write the directory in which profiles store what they write
 abbrev pub store_path : Path

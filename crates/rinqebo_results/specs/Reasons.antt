@@ -10,13 +10,13 @@ use Rattle.rinqebo_report.specs.declared.origin.Origin.TheVariants as kinds
 use Rattle.rinqebo_report.specs.declared.report.Rule.{Rule}
 use Rattle.rinqebo_report.specs.declared.report.Verdict as report
 use Rattle.rinqebo_report.specs.declared.report.Verdict.TheVariants as told
-use Rattle.rinqebo_rules.specs.Reported.{value_view}
+use Rattle.rinqebo_origins.specs.Reported.{value_view}
 use Rattle.rinqebo_rules.specs.Verdicts.{verdicts_of}
 use Rattle.rinqebo_rules.specs.declared.verdict.RuleVerdict.{RuleVerdict}
 use Rattle.rinqebo_rules.specs.declared.verdict.RuleVerdict.TheVariants as verdicts
 use Rattle.rinqebo_rules.specs.Conditions.{is_met_by}
-use Rattle.rinqebo_rules.specs.AsWritten.{IsValueAsWritten, node_alone}
-use Rattle.rinqebo_rules.specs.Origins.{IsOriginOf, PathStep}
+use Rattle.rinqebo_origins.specs.AsWritten.{IsValueAsWritten, node_alone}
+use Rattle.rinqebo_origins.specs.Origins.{IsOriginOf, PathStep}
 use Rattle.rinqebo_rules.specs.RuleAnswers.{answers_by, requested_query}
 use Rattle.rinqebo_rules.specs.RuleViews.{setting_rule_view, Rule as ReadRule}
 use Rattle.rinqebo_rules.specs.SettingRules.{RuleFor, RuleValue, writes_it}

@@ -29,12 +29,12 @@ use Rattle.rinqebo_load.specs.Meant.{config_meant}
 use Rattle.rinqebo_results.specs.Requested.{IsRequestedIn}
 use Rattle.rinqebo_results.specs.Reasons.{AreRulesReported, HasNoConditions, IsRuleAsWritten}
 use Rattle.rinqebo_load.specs.Sessions.{files_view, readings}
-use Rattle.rinqebo_rules.specs.Origins.{key_steps}
-use Rattle.rinqebo_rules.specs.ProfileOrigins.{AreProfileOrigins}
+use Rattle.rinqebo_origins.specs.Origins.{key_steps}
+use Rattle.rinqebo_origins.specs.ProfileOrigins.{AreProfileOrigins}
 use Rattle.rinqebo_rules.specs.SettingRules.{rules_for}
 use Rattle.rinqebo_load.specs.declared.found_test.FoundTest.{FoundTest}
 use Rattle.rinqebo_load.specs.declared.session.Session.{Session}
-use Rattle.rinqebo_rules.specs.Reported.{reported_of, value_view}
+use Rattle.rinqebo_origins.specs.Reported.{reported_of, value_view}
 
 -- A report lists the rules of a setting for a test: each override of a profile, in order, or for a
 -- run wrapper each script rule, with its result on the platforms of a build, and then what counts

@@ -27,10 +27,10 @@ use Rattle.rinqebo_report.specs.declared.report.Rule.{Rule}
 use Rattle.rinqebo_report.specs.declared.report.Verdict.TheVariants as told
 use Rattle.rinqebo_rules.specs.Conditions.{reported_answer}
 use Rattle.rinqebo_rules.specs.FilterRules.{FilterRule, filter_rule_view, filter_rules}
-use Rattle.rinqebo_rules.specs.Origins.{IsOriginOf}
-use Rattle.rinqebo_rules.specs.ProfileOrigins.{AreProfileOrigins}
+use Rattle.rinqebo_origins.specs.Origins.{IsOriginOf}
+use Rattle.rinqebo_origins.specs.ProfileOrigins.{AreProfileOrigins}
 use Rattle.rinqebo_rules.specs.Runs.{is_selected}
-use Rattle.rinqebo_rules.specs.Reported.{ReportedScalar, ReportedValue, value_view}
+use Rattle.rinqebo_origins.specs.Reported.{ReportedScalar, ReportedValue, value_view}
 use Rattle.rinqebo_rules.specs.VerdictsBy.{verdicts_by}
 use Rattle.rinqebo_rules.specs.declared.chain_rules.SettingRule.{SettingRule}
 use Rattle.rinqebo_rules.specs.declared.verdict.RuleVerdict.{RuleVerdict}

@@ -14,12 +14,12 @@ use Rattle.nextest_places.specs.declared.step.Step.{Step}
 use Rattle.nextest_sources.specs.Inputs.{sources_in}
 use Rattle.nextest_tables.specs.FileTexts.{names_in, IsIn}
 use Rattle.nextest_tables.specs.Written.{Name}
-use Rattle.rinqebo_rules.specs.LeafValue.{is_tellable}
-use Rattle.rinqebo_rules.specs.ReportedEntries.{IsEntryOf, step_key}
-use Rattle.rinqebo_rules.specs.RulePlaces.{Place}
+use Rattle.rinqebo_origins.specs.LeafValue.{is_tellable}
+use Rattle.rinqebo_origins.specs.ReportedEntries.{IsEntryOf, step_key}
+use Rattle.rinqebo_origins.specs.RulePlaces.{Place}
 use Rattle.rinqebo_rules.specs.Runs.{filtering_place}
-use Rattle.rinqebo_rules.specs.SpelledLeaves.{AreSpelledOut}
-use Rattle.rinqebo_rules.specs.Trees.{trees_of}
+use Rattle.rinqebo_origins.specs.SpelledLeaves.{AreSpelledOut}
+use Rattle.rinqebo_origins.specs.Trees.{trees_of}
 use Rattle.rinqebo_request.specs.Files.Origins.{IsPathPlace}
 use Rattle.rinqebo_request.specs.declared.files.layers.Layer.{Layer}
 use Rattle.rinqebo_report.specs.declared.origin.FilePlace.{FilePlace}

@@ -19,10 +19,10 @@ use Rattle.nextest_settings.specs.Deciding.{QueryContext}
 use Rattle.nextest_settings.specs.Profile.{EvaluatableModel}
 use Rattle.nextest_settings.specs.Queries.{query_in}
 use Rattle.nextest_tables.specs.Written.{Name}
-use Rattle.rinqebo_rules.specs.TestOrigins.{Basis}
-use Rattle.rinqebo_rules.specs.Origins.{IsOriginOf}
+use Rattle.rinqebo_origins.specs.TestOrigins.{Basis}
+use Rattle.rinqebo_origins.specs.Origins.{IsOriginOf}
 use Rattle.rinqebo_rules.specs.Rows.{IsTestReported}
-use Rattle.rinqebo_rules.specs.RulePlaces.{Place}
+use Rattle.rinqebo_origins.specs.RulePlaces.{Place}
 use Rattle.rinqebo_rules.specs.Scripts.{AreScriptsReported}
 use Rattle.rinqebo_rules.specs.Unused.{AreUnusedIn}
 use Rattle.rinqebo_rules.specs.declared.unused.UnusedRules.{UnusedRules}

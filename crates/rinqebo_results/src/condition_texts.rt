@@ -1,13 +1,14 @@
 //! The texts of the conditions of rules.
 ghost use Rattle.std.specs.Prelude.{◌≡◌, IfOk, option_map};
 ghost use Rattle.std.specs.Option.{option_copied};
-ghost use Rattle.rinqebo_rules.specs.Origins.{key_steps};
+ghost use Rattle.rinqebo_origins.specs.Origins.{key_steps};
 ghost use Rattle.rinqebo_results.specs.ConditionTexts.{default_text, filter_text, HasText, host_text, IsAbsent, table_text, target_text, text_at};
 
 use rinqebo_keys::SettingKey;
+use rinqebo_origins::node_alone;
 use rinqebo_report::{Condition, ConditionAnswer, Origin};
 use rinqebo_request::Layer;
-use rinqebo_rules::{default_filter_key, node_alone};
+use rinqebo_rules::default_filter_key;
 use std::alloc::{AllocError, Global};
 
 /// The name of the profile of the defaults.

@@ -3,9 +3,9 @@ use nextest_config::{DefaultConfigWarnings, NextestRunMode, Setting};
 use rinqebo_findings::warning_findings;
 use rinqebo_keys::SettingKey;
 use rinqebo_load::Session;
+use rinqebo_origins::idle_grounds;
 use rinqebo_report::{Asked, Code, Content, Finding, Level, Origin, SettingRow, Written};
 use rinqebo_request::Layer;
-use rinqebo_rules::idle_grounds;
 use std::alloc::{AllocError, Global};
 
 /// The settings of the JUnit report.

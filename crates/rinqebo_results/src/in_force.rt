@@ -6,14 +6,15 @@ ghost use Rattle.std.specs.Option.{option_copied};
 ghost use Rattle.std.specs.Str.{bytes_eq};
 ghost use Rattle.nextest_documents.specs.Layers.{keys_view};
 ghost use Rattle.nextest_tree.specs.Node.{text};
-ghost use Rattle.rinqebo_rules.specs.LeafValue.{value_node};
-ghost use Rattle.rinqebo_rules.specs.RulePlaces.{place_view};
+ghost use Rattle.rinqebo_origins.specs.LeafValue.{value_node};
+ghost use Rattle.rinqebo_origins.specs.RulePlaces.{place_view};
 ghost use Rattle.rinqebo_results.specs.InForce.{IsDefaultEntry, IsInForce, hide, is_default, overridden};
 
 use crate::condition_texts::default_text;
+use rinqebo_origins::RulePlace;
 use rinqebo_report::{Entry, Scalar, Value};
 use rinqebo_request::Layer;
-use rinqebo_rules::{RulePlace, default_filter_key};
+use rinqebo_rules::default_filter_key;
 use std::alloc::{AllocError, Global};
 
 /// The key of a default filter.

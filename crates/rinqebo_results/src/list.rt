@@ -35,9 +35,10 @@ use platform_language::TargetSpecs;
 use rinqebo_checks::report_of;
 use rinqebo_findings::warning_findings;
 use rinqebo_load::{Config, Failure, Session, chain_of_profile};
+use rinqebo_origins::Origins;
 use rinqebo_report::{Content, Report};
 use rinqebo_request::RequestedSettings;
-use rinqebo_rules::{ListedRows, Lister, Origins, Progress};
+use rinqebo_rules::{ListedRows, Lister, Progress};
 use std::alloc::{AllocError, Global};
 
 /// A profile on the platforms of a build.

@@ -1,13 +1,14 @@
 //! Where the rules are that hold for none of the tests of a list.
 ghost use Rattle.std.specs.Prelude.{◌≡◌, [], IfOk, map};
 ghost use Rattle.std.specs.List.{AllZip};
-ghost use Rattle.rinqebo_rules.specs.Origins.{IsOriginOf};
-ghost use Rattle.rinqebo_rules.specs.RulePlaces.{place_view};
+ghost use Rattle.rinqebo_origins.specs.Origins.{IsOriginOf};
+ghost use Rattle.rinqebo_origins.specs.RulePlaces.{place_view};
 ghost use Rattle.rinqebo_results.specs.ListedBy.{places_of};
 
+use rinqebo_origins::RulePlace;
 use rinqebo_report::Origin;
 use rinqebo_request::Layer;
-use rinqebo_rules::{RulePlace, UnusedRules};
+use rinqebo_rules::UnusedRules;
 use std::alloc::{AllocError, Global};
 
 /// The places of the rules that hold for no test: those of the overrides in order, and then those

@@ -37,9 +37,10 @@ use filter_inputs::ListedTest;
 use nextest_config::NextestRunMode;
 use platform_language::TargetSpecs;
 use rinqebo_load::{Config, Session, chain_of_profile};
+use rinqebo_origins::Origins;
 use rinqebo_report::{Asked, Paper, Report, render_list_end, render_list_head, render_listed};
 use rinqebo_request::RequestedSettings;
-use rinqebo_rules::{Lister, Listing, Origins, Progress, UnusedRules, UsedRules};
+use rinqebo_rules::{Lister, Listing, Progress, UnusedRules, UsedRules};
 use std::alloc::{AllocError, Global};
 use std::io::Write;
 

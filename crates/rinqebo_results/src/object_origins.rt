@@ -8,12 +8,12 @@ ghost use Rattle.nextest_elements.specs.TestGroup.{custom_group_text};
 ghost use Rattle.nextest_inheritance.specs.View.{borrowed_view};
 ghost use Rattle.nextest_load.specs.ConfigView.{groups_view};
 ghost use Rattle.nextest_settings.specs.Profiles.Meaning.{profile_meaning};
-ghost use Rattle.rinqebo_rules.specs.KnownOrigins.{AreOriginsAt};
-ghost use Rattle.rinqebo_rules.specs.Origins.{key, step_view};
-ghost use Rattle.rinqebo_rules.specs.ProfileOrigins.{AreProfileOrigins};
-ghost use Rattle.rinqebo_rules.specs.RulePlaces.{place_view};
+ghost use Rattle.rinqebo_origins.specs.KnownOrigins.{AreOriginsAt};
+ghost use Rattle.rinqebo_origins.specs.Origins.{key, step_view};
+ghost use Rattle.rinqebo_origins.specs.ProfileOrigins.{AreProfileOrigins};
+ghost use Rattle.rinqebo_origins.specs.RulePlaces.{place_view};
 ghost use Rattle.rinqebo_rules.specs.Runs.{filtering_place};
-ghost use Rattle.rinqebo_rules.specs.Trees.{trees_of};
+ghost use Rattle.rinqebo_origins.specs.Trees.{trees_of};
 ghost use Rattle.rinqebo_results.specs.ObjectOrigins.{AreBoundOrigins, AreGroupOrigins, AreNameOrigins, AreObjectOrigins, AreOriginsBeside, AreOutputOrigins, AreRunOrigins, IsOriginBeside};
 
 use crate::list::Profile;
@@ -24,9 +24,10 @@ use rinqebo_keys::SettingKey;
 use rinqebo_objects::{
     BoundOrigins, GroupOrigins, NameOrigins, ObjectOrigins, OutputOrigins, RunOrigins,
 };
+use rinqebo_origins::{RulePlace, built_in, profile_grounds, trees_of};
 use rinqebo_report::Origin;
 use rinqebo_request::{Layer, path_place};
-use rinqebo_rules::{RulePlace, built_in, filtering_place, profile_grounds, trees_of};
+use rinqebo_rules::filtering_place;
 use std::alloc::{AllocError, Global};
 use std::collections::BTreeMap;
 

@@ -6,11 +6,11 @@ ghost use Rattle.nextest_documents.specs.Entries.{leaf_view};
 ghost use Rattle.nextest_documents.specs.Layers.{keys_view};
 ghost use Rattle.nextest_settings.specs.Profiles.Meaning.{configured_meaning};
 ghost use Rattle.nextest_tables.specs.FileTexts.{names_in, IsIn};
-ghost use Rattle.rinqebo_rules.specs.LeafValue.{is_tellable};
+ghost use Rattle.rinqebo_origins.specs.LeafValue.{is_tellable};
 ghost use Rattle.rinqebo_checks.specs.Failures.{IsFailureAbout};
 ghost use Rattle.rinqebo_checks.specs.Reports.{IsReportOf};
 ghost use Rattle.platform_language.specs.Expressions.{spec_view};
-ghost use Rattle.rinqebo_rules.specs.RulePlaces.{place_view};
+ghost use Rattle.rinqebo_origins.specs.RulePlaces.{place_view};
 ghost use Rattle.rinqebo_results.specs.ListedBy.{read_by};
 ghost use Rattle.rinqebo_results.specs.ShownConfig.{ReportsLeaf, TellLeaves, AreShown, AreShownOf, IsShownBy, shown_status, ShowsConfig};
 
@@ -24,11 +24,10 @@ use nextest_config::{DefaultConfigWarnings, NextestRunMode};
 use nextest_documents::{LayerLeaf, entries_of};
 use rinqebo_checks::config_with;
 use rinqebo_load::{Config, Failure, Session, chain_of_profile};
+use rinqebo_origins::{RulePlace, reported_entry, spelled_entries, steps_of, trees_of};
 use rinqebo_report::{Content, Entry};
 use rinqebo_request::{Layer, path_place};
-use rinqebo_rules::{
-    RulePlace, filtering_place, reported_entry, spelled_entries, steps_of, trees_of,
-};
+use rinqebo_rules::filtering_place;
 use std::alloc::{AllocError, Global};
 
 /// A leaf as a report shows it, with its place in the file of its layer. There is none where its

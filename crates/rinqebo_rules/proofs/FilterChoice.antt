@@ -8,7 +8,7 @@ use Rattle.nextest_settings.specs.Chains.{FilterChoice, first_of}
 use Rattle.nextest_settings.specs.Platforms.{platforms_hold, rule_on}
 use Rattle.nextest_tree.specs.Schema.{first}
 use Rattle.rinqebo_rules.specs.FilterRules.{FilterRule, filter_facts, filter_rule_on, filter_rules, has_default}
-use Rattle.rinqebo_rules.specs.RulePlaces.{Place, id_place}
+use Rattle.rinqebo_origins.specs.RulePlaces.{Place, id_place}
 use Rattle.rinqebo_rules.specs.Runs.{filtering_id}
 use Rattle.rinqebo_rules.specs.VerdictsBy.{decides_by, verdict_by, verdicts_by}
 use Rattle.rinqebo_rules.specs.declared.verdict.RuleVerdict.{RuleVerdict}

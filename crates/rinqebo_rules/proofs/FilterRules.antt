@@ -12,7 +12,7 @@ use Rattle.platform_language.specs.declared.expression.TargetSpec.{TargetSpec}
 use Rattle.platform_language.specs.declared.platforms.Platform.{Platform}
 use Rattle.rinqebo_rules.specs.Conditions.{is_met_by}
 use Rattle.rinqebo_rules.specs.FilterRules.{filter_rule, filter_rule_on, filter_rules, has_default, held_default, held_filter_rule}
-use Rattle.rinqebo_rules.proofs.RowsMore.{filter_more, filter_same}
+use Rattle.rinqebo_origins.proofs.RowsMore.{filter_more, filter_same}
 
 -- one more element that passes a test, and what is made of it
 pub mapped_more : {X Y Z : Type 0} (view : Z → Y) (f : X → Y) (p : X → Bool) (xs : List X) (i : ℕ) (x d : X)

@@ -1,26 +1,15 @@
-pub mod Results
-pub mod Zips
-mod ProfileOrigins
 pub mod Finding
 pub mod VerdictsOf
 pub mod Judged
 pub mod ReportedOf
-pub mod Items
-pub mod OriginNodes
-pub mod Copies
 pub mod ListedTests
 pub mod NoneHold
-pub mod RowsMore
 pub mod FilterRules
 pub mod FilterChoice
-pub mod SpelledLeaves
-pub mod Spelling
-pub mod SpelledEntries
 pub mod Selected
 pub mod ScriptRules
 pub mod Selecting
 pub mod OpenFilters
-pub mod Moved
 pub mod Passing
 pub mod Marked
 pub mod BinaryRules

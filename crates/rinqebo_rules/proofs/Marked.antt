@@ -5,7 +5,7 @@ use Rattle.std.proofs.lemmas.List.Folds.{list_any-append}
 use Rattle.std.proofs.lemmas.Option.{get_or_from_slice_get, slice_get-get_or, slice_get-map, slice_get_within}
 use Rattle.nextest_settings.specs.Deciding.{QueryContext, rule_holds}
 use Rattle.nextest_settings.specs.Platforms.{EvaluatedRule}
-use Rattle.rinqebo_rules.proofs.RowsMore.{filter_more, filter_same}
+use Rattle.rinqebo_origins.proofs.RowsMore.{filter_more, filter_same}
 use Rattle.rinqebo_rules.specs.Unused.{is_used, unused_among}
 
 -- what is made of one element more

@@ -10,7 +10,7 @@ use Rattle.filter_language.specs.declared.words.Field.TheVariants.{Deps, Rdeps}
 use Rattle.nextest_settings.specs.Platforms.{EvaluatedRule}
 use Rattle.nextest_settings.specs.Profile.{EvaluatableModel}
 use Rattle.rinqebo_rules.specs.EvaluatedFilters.{Site, asks_any, evaluated_filters, evaluated_of, filter_of, open_filters, which_has}
-use Rattle.rinqebo_rules.specs.RulePlaces.{Place, id_place, script_place}
+use Rattle.rinqebo_origins.specs.RulePlaces.{Place, id_place, script_place}
 
 or_false : (b : Bool) → (b || false) ≡ b
 or_false true = refl

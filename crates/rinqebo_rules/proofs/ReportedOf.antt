@@ -4,8 +4,8 @@ use Rattle.nextest_settings.specs.Settings.{ValueOf}
 use Rattle.nextest_settings.specs.SettingValues.{by_kind, setting_value_view}
 use Rattle.nextest_elements.specs.declared.setting.Setting.{Setting}
 use Rattle.nextest_settings.specs.declared.setting_value.SettingValue.{SettingValue}
-use Rattle.rinqebo_rules.specs.SettingValues.{reported_value}
-use Rattle.rinqebo_rules.specs.Reported.{told, reported_of}
+use Rattle.rinqebo_origins.specs.SettingValues.{reported_value}
+use Rattle.rinqebo_origins.specs.Reported.{told, reported_of}
 
 -- f, and then told
 through : {X Y Z : Type 0} (f : X → Y) (h : Y → Z) (o : Option X)

@@ -10,9 +10,9 @@ use Rattle.nextest_settings.specs.View.{evaluated_override_view, meant_override}
 use Rattle.nextest_settings.specs.declared.platforms.EvaluatedRule.{EvaluatedRule as EvaluatedRule'}
 use Rattle.rinqebo_report.specs.declared.report.SettingRow.{SettingRow}
 use Rattle.rinqebo_rules.proofs.NoneHold.{meant_overrides}
-use Rattle.rinqebo_rules.specs.RulePlaces.{id_place}
+use Rattle.rinqebo_origins.specs.RulePlaces.{id_place}
 use Rattle.rinqebo_rules.specs.Runs.{IsRunReported, IsRunsRow, filtering_id, filtering_place, is_selected, runs_if}
-use Rattle.rinqebo_rules.specs.TestOrigins.{Basis}
+use Rattle.rinqebo_origins.specs.TestOrigins.{Basis}
 
 -- the row tells what the default filter and the list say
 pub reported_run : {M : Type 0} (basis : Basis) (query : QueryContext M) (profile : EvaluatableModel M)

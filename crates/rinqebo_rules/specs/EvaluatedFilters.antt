@@ -10,7 +10,7 @@ use Rattle.filter_language.specs.Filtersets.{marks_view}
 use Rattle.filter_language.specs.declared.words.Field.{Field}
 use Rattle.nextest_settings.specs.Platforms.{EvaluatedRule}
 use Rattle.nextest_settings.specs.Profile.{EvaluatableModel}
-use Rattle.rinqebo_rules.specs.RulePlaces.{Place, id_place, script_place, place_view}
+use Rattle.rinqebo_origins.specs.RulePlaces.{Place, id_place, script_place, place_view}
 use Rattle.rinqebo_rules.specs.Runs.{filtering_place}
 use Rattle.rinqebo_rules.specs.declared.evaluated_filters.FilterPlace.{FilterPlace}
 use Rattle.rinqebo_rules.specs.declared.evaluated_filters.FilterPlace.TheVariants as places

@@ -11,7 +11,7 @@ use Rattle.platform_language.specs.declared.expression.TargetSpec.{TargetSpec}
 use Rattle.platform_language.specs.declared.platforms.Platform.{Platform}
 use Rattle.rinqebo_report.specs.declared.report.ConditionAnswer.{ConditionAnswer}
 use Rattle.rinqebo_rules.specs.Conditions.{is_met_by, reported_condition}
-use Rattle.rinqebo_rules.specs.RulePlaces.{Place, id_place, place_view}
+use Rattle.rinqebo_origins.specs.RulePlaces.{Place, id_place, place_view}
 use Rattle.rinqebo_rules.specs.declared.chain_rules.SettingRule.{SettingRule}
 use Rattle.rinqebo_rules.specs.declared.verdict.RuleFacts.{RuleFacts}
 

@@ -8,9 +8,9 @@ use Rattle.nextest_settings.specs.Deciding.{QueryContext}
 use Rattle.nextest_settings.specs.Profile.{EvaluatableModel}
 use Rattle.nextest_settings.specs.Queries.{query_in, setting_origin, setting_value}
 use Rattle.nextest_elements.specs.declared.setting.Setting.{Setting}
-use Rattle.rinqebo_rules.specs.TestOrigins.{Basis, wrapping_id}
+use Rattle.rinqebo_origins.specs.TestOrigins.{Basis, wrapping_id}
 use Rattle.rinqebo_rules.specs.Runs.{IsRunReported, is_selected, runs_if, shows_runs}
-use Rattle.rinqebo_rules.specs.Settings.{IsSettingReported, reported_settings}
+use Rattle.rinqebo_origins.specs.Settings.{IsSettingReported, reported_settings}
 use Rattle.rinqebo_request.specs.declared.request.RequestedSettings.{RequestedSettings}
 use Rattle.rinqebo_report.specs.declared.report.SettingRow.{SettingRow}
 use Rattle.rinqebo_report.specs.declared.report.TestRows.{TestRows}

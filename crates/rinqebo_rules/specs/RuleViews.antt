@@ -11,9 +11,9 @@ use Rattle.nextest_settings.specs.declared.platforms.EvaluatedRule.{EvaluatedRul
 use Rattle.nextest_elements.specs.declared.setting.Setting.{Setting}
 use Rattle.platform_language.specs.declared.expression.TargetSpec.{TargetSpec}
 use Rattle.rinqebo_rules.specs.RuleAnswers.{Judged, judged}
-use Rattle.rinqebo_rules.specs.RulePlaces.{place_view}
+use Rattle.rinqebo_origins.specs.RulePlaces.{place_view}
 use Rattle.rinqebo_rules.specs.SettingRules.{RuleFor, for_setting, on_setting, override_writes, wrapper_written}
-use Rattle.rinqebo_rules.specs.SettingValues.{reported_value}
+use Rattle.rinqebo_origins.specs.SettingValues.{reported_value}
 use Rattle.rinqebo_rules.specs.declared.chain_rules.SettingRule.{SettingRule}
 use Rattle.rinqebo_rules.specs.declared.conditions.Asking.{Asking}
 

@@ -5,10 +5,10 @@ use Rattle.nextest_settings.specs.Chains.{first_of}
 use Rattle.nextest_settings.specs.Deciding.{QueryContext}
 use Rattle.nextest_settings.specs.Platforms.{EvaluatedRule, filter_of_override}
 use Rattle.nextest_settings.specs.Profile.{EvaluatableModel}
-use Rattle.rinqebo_rules.specs.KnownOrigins.{AreOriginsAt}
-use Rattle.rinqebo_rules.specs.RulePlaces.{Place, id_place}
-use Rattle.rinqebo_rules.specs.TestOrigins.{Basis}
-use Rattle.rinqebo_rules.specs.Reported.{ReportedScalar, ReportedValue, value_view}
+use Rattle.rinqebo_origins.specs.KnownOrigins.{AreOriginsAt}
+use Rattle.rinqebo_origins.specs.RulePlaces.{Place, id_place}
+use Rattle.rinqebo_origins.specs.TestOrigins.{Basis}
+use Rattle.rinqebo_origins.specs.Reported.{ReportedScalar, ReportedValue, value_view}
 use Rattle.rinqebo_request.specs.declared.request.RequestedSettings.{RequestedSettings}
 use Rattle.rinqebo_request.specs.declared.request.RequestedSettings.TheVariants as asks
 use Rattle.rinqebo_report.specs.declared.report.SettingRow.{SettingRow}

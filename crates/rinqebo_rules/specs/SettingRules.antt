@@ -6,8 +6,8 @@ use Rattle.nextest_settings.specs.Platforms.{EvaluatedRule}
 use Rattle.nextest_settings.specs.Settings.{sets}
 use Rattle.nextest_elements.specs.declared.setting.Setting.{Setting}
 use Rattle.nextest_elements.specs.declared.setting.Setting.TheVariants as at
-use Rattle.rinqebo_rules.specs.Reported.{ReportedValue, reported_of}
-use Rattle.rinqebo_rules.specs.RulePlaces.{Place, id_place, script_place}
+use Rattle.rinqebo_origins.specs.Reported.{ReportedValue, reported_of}
+use Rattle.rinqebo_origins.specs.RulePlaces.{Place, id_place, script_place}
 
 -- the place of a rule, and what it writes for a setting as it is reported, if it writes it
 pub record RuleValue : Type 0 where

@@ -6,11 +6,10 @@ ghost use Rattle.rinqebo_rules.specs.Conditions.{is_met_by};
 ghost use Rattle.rinqebo_rules.specs.RuleAnswers.{judged_here};
 ghost use Rattle.rinqebo_rules.specs.RuleViews.{ReadOverride, ReadScriptRule, judged_override, judged_script_rule, setting_rule_view};
 ghost use Rattle.rinqebo_rules.specs.SettingRules.{is_of_scripts, rules_for, wrapper_written};
-ghost use Rattle.rinqebo_rules.specs.SettingValues.{reported_value};
+ghost use Rattle.rinqebo_origins.specs.SettingValues.{reported_value};
 
 use crate::conditions::{Answers, Asking, answers_of};
 use crate::holds::{override_holds, script_rule_holds};
-use crate::rule_places::RulePlace;
 use crate::verdict::RuleFacts;
 use filter_engine::{NextestFilters, NextestTally};
 use nextest_elements::{NextestRunMode, Setting};
@@ -18,6 +17,7 @@ use nextest_settings::{
     EvaluatedOverride, EvaluatedRules, EvaluatedScriptRule, SettingValue, SettingValues,
 };
 use platform_language::TargetSpecs;
+use rinqebo_origins::RulePlace;
 use std::alloc::{AllocError, Global};
 
 /// The rules of a profile on the platforms of a build.

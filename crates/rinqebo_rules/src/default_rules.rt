@@ -9,13 +9,13 @@ ghost use Rattle.rinqebo_rules.specs.RuleViews.{ReadOverride};
 
 use crate::SettingRule;
 use crate::conditions::{Answers, spec_answer};
-use crate::rule_places::RulePlace;
 use crate::runs::NUMBER;
 use crate::verdict::RuleFacts;
 use filter_engine::{NextestFilters, NextestTally};
 use nextest_engines::{BuildPlatform, BuildPlatforms, EvalContext, Filters, TestQuery};
 use nextest_settings::{EvaluatedOverride, EvaluatedRules, runs_on};
 use platform_language::{Platform, TargetSpecs};
+use rinqebo_origins::RulePlace;
 use rinqebo_report::ConditionAnswer;
 use std::alloc::{AllocError, Global};
 

@@ -6,7 +6,7 @@ ghost use Rattle.nextest_settings.specs.Chains.{first_of};
 ghost use Rattle.nextest_settings.specs.Engines.{meets_by};
 ghost use Rattle.nextest_settings.specs.Platforms.{rule_on};
 ghost use Rattle.rinqebo_rules.specs.FilterRules.{FilterRule, filter_rules};
-ghost use Rattle.rinqebo_rules.specs.RulePlaces.{id_place};
+ghost use Rattle.rinqebo_origins.specs.RulePlaces.{id_place};
 ghost use Rattle.rinqebo_rules.specs.Runs.{filtering_id};
 ghost use Rattle.rinqebo_rules.specs.VerdictsBy.{decides_by, verdicts_by};
 ghost use Rattle.rinqebo_rules.specs.declared.verdict.RuleVerdict.TheVariants as verdicts;

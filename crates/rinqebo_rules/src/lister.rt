@@ -9,7 +9,6 @@ ghost use Rattle.rinqebo_rules.specs.Rows.{AreTestsReported, IsTestReported};
 ghost use Rattle.rinqebo_rules.specs.Unused.{AreUnusedIn, AreUsedIn};
 
 use crate::listing::Listing;
-use crate::origins::Origins;
 use crate::progress::Progress;
 use crate::rows::rows_of;
 use crate::runs::{is_selected, runs_if, runs_row, shows_runs};
@@ -19,6 +18,7 @@ use filter_inputs::ListedTest;
 use nextest_elements::NextestRunMode;
 use nextest_engines::{BuildPlatform, Filters, Specs};
 use nextest_settings::EvaluatableProfile;
+use rinqebo_origins::Origins;
 use rinqebo_report::{BuiltFor, TestRows};
 use rinqebo_request::RequestedSettings;
 use std::alloc::{AllocError, Global};

@@ -13,13 +13,13 @@ ghost use Rattle.rinqebo_rules.specs.Rows.{IsTestReported};
 ghost use Rattle.rinqebo_rules.specs.Unused.{AreUsedIn};
 
 use crate::lister::Lister;
-use crate::origins::Origins;
 use crate::unused::UsedRules;
 use crate::values::SourcedSettings;
 use filter_inputs::ListedTest;
 use nextest_elements::NextestRunMode;
 use nextest_engines::{BinaryQuery, Filters, Specs, TestQuery};
 use nextest_settings::{BinaryAnswers, EvaluatableProfile};
+use rinqebo_origins::Origins;
 use rinqebo_report::TestRows;
 use std::alloc::{AllocError, Global};
 

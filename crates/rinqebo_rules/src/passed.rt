@@ -11,13 +11,13 @@ ghost use Rattle.nextest_settings.specs.SettingsView.{origin_at};
 ghost use Rattle.nextest_settings.specs.View.{meant_override};
 ghost use Rattle.rinqebo_rules.specs.Passed.{HasNoId, IsPassed, IsRuledOut, IsWritten, override_in};
 
-use crate::origins::is_same_source;
 use crate::rows::source_of;
 use crate::values::SourcedSettings;
 use nextest_elements::{NextestRunMode, Setting};
 use nextest_engines::{Filters, Specs};
 use nextest_rules::OverrideId;
 use nextest_settings::{EvaluatedOverride, SettingSource, SettingValues};
+use rinqebo_origins::is_same_source;
 use std::alloc::{AllocError, Global};
 
 /// Whether two ids are of one override.

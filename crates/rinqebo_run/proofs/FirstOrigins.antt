@@ -3,7 +3,7 @@ use Rattle.std.proofs.Common.{◌≡◌, ◌∙◌, ℕ, List, [], ◌∷◌, Op
 use Rattle.nextest_tables.specs.Written.{Name}
 use Rattle.rinqebo_request.specs.declared.files.layers.Layer.{Layer}
 use Rattle.rinqebo_report.specs.declared.origin.Origin.{Origin}
-use Rattle.rinqebo_rules.specs.ProfileOrigins.{AreProfileOrigins, built_in, written}
+use Rattle.rinqebo_origins.specs.ProfileOrigins.{AreProfileOrigins, built_in, written}
 use Rattle.rinqebo_results.specs.Reasons.{or_built_in}
 
 -- the origins of a value of a chain are some

@@ -36,13 +36,13 @@ use Rattle.rinqebo_load.specs.FoundTests.{found_view}
 use Rattle.rinqebo_rules.specs.Conditions.{is_met_by, filter_matches}
 use Rattle.rinqebo_results.specs.Reasons.{AreRulesReported, HasNoConditions, IsRuleAsWritten}
 use Rattle.rinqebo_load.specs.Sessions.{files_view, readings, IsLoadedFrom}
-use Rattle.rinqebo_rules.specs.Origins.{key_steps}
-use Rattle.rinqebo_rules.specs.ProfileOrigins.{AreProfileOrigins}
+use Rattle.rinqebo_origins.specs.Origins.{key_steps}
+use Rattle.rinqebo_origins.specs.ProfileOrigins.{AreProfileOrigins}
 use Rattle.rinqebo_rules.specs.SettingRules.{rules_for}
 use Rattle.rinqebo_results.specs.ReportsReasons.{AreReasons, AreReasonsIn, configured_by, IfWhy, IsTestNamed, ReportsReasons}
 use Rattle.rinqebo_load.specs.declared.found_test.FoundTest.{FoundTest}
 use Rattle.rinqebo_load.specs.declared.session.Session.{Session}
-use Rattle.rinqebo_rules.specs.Reported.{reported_of, value_view}
+use Rattle.rinqebo_origins.specs.Reported.{reported_of, value_view}
 
 -- what is reported of the rules of a profile for a setting, and then of the fallback
 pub reasons_here : (layers : List FileLayer) (platforms : BuildPlatforms Platform) (test : FoundTest) (query : TestQuery) (s : Setting)

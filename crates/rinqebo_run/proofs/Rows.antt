@@ -15,7 +15,7 @@ use Rattle.nextest_settings.specs.Profile.{EvaluatableModel}
 use Rattle.nextest_settings.specs.Queries.{query_in}
 use Rattle.nextest_tables.specs.FileTexts.{names_in, IsIn}
 use Rattle.nextest_tables.specs.Written.{Name}
-use Rattle.rinqebo_rules.specs.TestOrigins.{Basis}
+use Rattle.rinqebo_origins.specs.TestOrigins.{Basis}
 use Rattle.rinqebo_rules.specs.Rows.{IsTestReported}
 use Rattle.rinqebo_load.specs.Accepted.{AreAccepted}
 use Rattle.rinqebo_load.specs.FoundTests.{found_view}

@@ -39,9 +39,9 @@ use Rattle.rinqebo_report.specs.declared.report.TestId.{TestId}
 use Rattle.rinqebo_report.specs.declared.report.Verdict.TheVariants as told
 use Rattle.rinqebo_rules.specs.Conditions.{is_met_by, filter_matches}
 use Rattle.rinqebo_rules.specs.FilterRules.{FilterRule, filter_facts, filter_rule_on, filter_rule_view, filter_rules, has_default}
-use Rattle.rinqebo_rules.specs.ProfileOrigins.{AreProfileOrigins}
-use Rattle.rinqebo_rules.specs.RulePlaces.{id_place}
-use Rattle.rinqebo_rules.specs.Reported.{value_view}
+use Rattle.rinqebo_origins.specs.ProfileOrigins.{AreProfileOrigins}
+use Rattle.rinqebo_origins.specs.RulePlaces.{id_place}
+use Rattle.rinqebo_origins.specs.Reported.{value_view}
 use Rattle.rinqebo_rules.specs.VerdictsBy.{verdicts_by}
 use Rattle.rinqebo_rules.specs.declared.chain_rules.SettingRule.{SettingRule}
 use Rattle.rinqebo_rules.specs.declared.verdict.RuleVerdict.{RuleVerdict}

@@ -12,10 +12,11 @@ ghost use Rattle.rinqebo_results.specs.Requested.{IsRequestedIn};
 use filter_engine::NextestTally;
 use nextest_config::DefaultConfigWarnings;
 use rinqebo_load::{Config, Failure, FoundTest, Session, chain_of_profile};
+use rinqebo_origins::Origins;
 use rinqebo_report::Content;
 use rinqebo_request::RequestedSettings;
 use rinqebo_results::{Answer, answer_on_test, config_looked_up, profile_on, requested_of};
-use rinqebo_rules::{Lister, Origins};
+use rinqebo_rules::Lister;
 use std::alloc::{AllocError, Global};
 
 /// Whether a test runs and its settings, by a configuration: the rows of a list of this one test.

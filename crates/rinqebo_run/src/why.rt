@@ -10,8 +10,8 @@ ghost use Rattle.rinqebo_keys.specs.Keys.{key_name, key_table, key_text};
 ghost use Rattle.rinqebo_rules.specs.Conditions.{is_met_by, filter_matches};
 ghost use Rattle.rinqebo_results.specs.ListedBy.{read_by};
 ghost use Rattle.rinqebo_results.specs.Reasons.{page_verdict, AreRulesReportedHere, AreReportedWith, HasNoConditions, IsRuleAsWritten, IsRuleReported, or_built_in};
-ghost use Rattle.rinqebo_rules.specs.Origins.{key_steps};
-ghost use Rattle.rinqebo_rules.specs.ProfileOrigins.{AreProfileOrigins};
+ghost use Rattle.rinqebo_origins.specs.Origins.{key_steps};
+ghost use Rattle.rinqebo_origins.specs.ProfileOrigins.{AreProfileOrigins};
 ghost use Rattle.rinqebo_rules.specs.RuleAnswers.{judged_here};
 ghost use Rattle.rinqebo_results.specs.LookedUp.{IsFailureOn, IsLookedUp};
 ghost use Rattle.rinqebo_checks.specs.Reports.{IsReportOf};
@@ -19,7 +19,7 @@ ghost use Rattle.rinqebo_rules.specs.RuleViews.{setting_rule_view, Rule as ReadR
 ghost use Rattle.rinqebo_rules.specs.declared.conditions.Asking.{Asking};
 ghost use Rattle.rinqebo_results.specs.Requested.{IsRequestedIn};
 ghost use Rattle.rinqebo_results.specs.ReportsReasons.{AreReasons, AreReasonsIn, IfWhy, IsTestNamed, ReportsReasons};
-ghost use Rattle.rinqebo_rules.specs.Reported.{reported_of, value_view};
+ghost use Rattle.rinqebo_origins.specs.Reported.{reported_of, value_view};
 
 use filter_engine::NextestFilters;
 use nextest_config::{
@@ -28,16 +28,14 @@ use nextest_config::{
 use platform_language::Platform;
 use rinqebo_keys::SettingKey;
 use rinqebo_load::{Config, Failure, FoundTest, Session, chain_of_profile};
+use rinqebo_origins::{node_alone, profile_grounds, reported_if_set};
 use rinqebo_report::{Content, Origin, Rule, TestId, Verdict};
 use rinqebo_request::Layer;
 use rinqebo_results::{
     Answer, Early, answer_on_test, condition, config_looked_up, early_profile, filter_text,
     host_text, no_condition, requested_of, target_text,
 };
-use rinqebo_rules::{
-    Asking, SettingRule, node_alone, profile_grounds, reported_if_set, reported_platform,
-    rules_for, verdicts_of,
-};
+use rinqebo_rules::{Asking, SettingRule, reported_platform, rules_for, verdicts_of};
 use std::alloc::{AllocError, Global};
 
 /// A verdict, as a report shows it.

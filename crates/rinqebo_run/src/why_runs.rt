@@ -8,8 +8,8 @@ ghost use Rattle.nextest_tables.specs.FileTexts.{names_in, IsIn};
 ghost use Rattle.rinqebo_report.specs.declared.report.Verdict.TheVariants as told;
 ghost use Rattle.rinqebo_rules.specs.Conditions.{is_met_by, filter_matches};
 ghost use Rattle.rinqebo_rules.specs.FilterRules.{filter_rule_view};
-ghost use Rattle.rinqebo_rules.specs.ProfileOrigins.{AreProfileOrigins};
-ghost use Rattle.rinqebo_rules.specs.Reported.{value_view};
+ghost use Rattle.rinqebo_origins.specs.ProfileOrigins.{AreProfileOrigins};
+ghost use Rattle.rinqebo_origins.specs.Reported.{value_view};
 ghost use Rattle.rinqebo_results.specs.ConditionTexts.{default_text, HasText, IsAbsent};
 ghost use Rattle.rinqebo_results.specs.ListedBy.{read_by};
 ghost use Rattle.rinqebo_results.specs.LookedUp.{IsFailureOn, IsLookedUp};
@@ -22,6 +22,7 @@ use crate::why::{first_and_others, named_test, reported_verdict};
 use nextest_config::DefaultConfigWarnings;
 use rinqebo_keys::RUNS;
 use rinqebo_load::{Config, Failure, FoundTest, Session, chain_of_profile};
+use rinqebo_origins::profile_grounds;
 use rinqebo_report::{ConditionAnswer, Content, Rule, Scalar, Value, Verdict};
 use rinqebo_request::Layer;
 use rinqebo_results::{
@@ -29,8 +30,7 @@ use rinqebo_results::{
     host_text, no_condition, requested_of, target_text,
 };
 use rinqebo_rules::{
-    RuleVerdict, SettingRule, default_filter_key, filter_rules, is_matched_by_default,
-    profile_grounds, verdicts_of,
+    RuleVerdict, SettingRule, default_filter_key, filter_rules, is_matched_by_default, verdicts_of,
 };
 use std::alloc::{AllocError, Global};
 

@@ -6,7 +6,7 @@ use Rattle.nextest_inheritance.specs.View.{borrowed_view}
 use Rattle.nextest_settings.specs.Profiles.Meaning.{profile_meaning}
 use Rattle.rinqebo_changes.specs.Changes.{is_change}
 use Rattle.rinqebo_request.specs.declared.request.RequestedSettings.{RequestedSettings}
-use Rattle.rinqebo_rules.specs.TestOrigins.{Basis}
+use Rattle.rinqebo_origins.specs.TestOrigins.{Basis}
 use Rattle.rinqebo_results.proofs.Listing.{basis_here}
 use Rattle.rinqebo_results.specs.ListedBy.{basis_of}
 use Rattle.rinqebo_changes.specs.Sides.Matched.{pair_view}

@@ -1,7 +1,7 @@
 use Rattle.std.proofs.Common.{◌∙◌, [], ap, refl, subst, unwrap_or}
 use Rattle.nextest_tree.specs.Node.{text}
-use Rattle.rinqebo_rules.specs.Origins.{IsOriginOf, key_steps}
-use Rattle.rinqebo_rules.specs.RulePlaces.{place_view}
+use Rattle.rinqebo_origins.specs.Origins.{IsOriginOf, key_steps}
+use Rattle.rinqebo_origins.specs.RulePlaces.{place_view}
 use Rattle.rinqebo_results.proofs.in_force.default_entry.Goals as goal
 
 pub returns : goal.returns

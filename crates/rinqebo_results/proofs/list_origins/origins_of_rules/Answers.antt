@@ -2,9 +2,9 @@ use Rattle.std.proofs.Common.{[], subst}
 use Rattle.std.proofs.lemmas.List.{take_all}
 use Rattle.std.specs.List.{AllZip}
 use Rattle.rinqebo_results.proofs.Listing.{zip_mapped}
-use Rattle.rinqebo_rules.proofs.Zips.{zip_more}
-use Rattle.rinqebo_rules.specs.Origins.{IsOriginOf}
-use Rattle.rinqebo_rules.specs.RulePlaces.{place_view}
+use Rattle.rinqebo_origins.proofs.Zips.{zip_more}
+use Rattle.rinqebo_origins.specs.Origins.{IsOriginOf}
+use Rattle.rinqebo_origins.specs.RulePlaces.{place_view}
 use Rattle.rinqebo_results.proofs.list_origins.origins_of_rules.Goals as goal
 
 pub loop-rule-preserved : goal.loop-rule-preserved

@@ -1,7 +1,7 @@
 use Rattle.std.proofs.Common.{[], take}
 use Rattle.std.specs.List.{AllZip}
-use Rattle.rinqebo_rules.specs.Origins.{IsOriginOf}
-use Rattle.rinqebo_rules.specs.RulePlaces.{place_view}
+use Rattle.rinqebo_origins.specs.Origins.{IsOriginOf}
+use Rattle.rinqebo_origins.specs.RulePlaces.{place_view}
 use Rattle.rinqebo_results.proofs.list_origins.origins_of_rules.Given as goal
 
 -- the rules so far

@@ -1,6 +1,6 @@
 use Rattle.std.proofs.Common.{◌≡◌, ◌++◌, map, take}
 use Rattle.nextest_rules.specs.View.{id_view, script_rule_id_view}
-use Rattle.rinqebo_rules.specs.RulePlaces.{id_place, place_view, script_place}
+use Rattle.rinqebo_origins.specs.RulePlaces.{id_place, place_view, script_place}
 use Rattle.rinqebo_results.proofs.list_origins.places_of.Given as goal
 
 -- the overrides so far

@@ -1,7 +1,7 @@
 use Rattle.std.proofs.Common.{◌∙◌, [], IfOk, ap, map, subst}
 use Rattle.std.specs.List.{AllZip}
-use Rattle.rinqebo_rules.specs.Origins.{IsOriginOf}
-use Rattle.rinqebo_rules.specs.RulePlaces.{place_view}
+use Rattle.rinqebo_origins.specs.Origins.{IsOriginOf}
+use Rattle.rinqebo_origins.specs.RulePlaces.{place_view}
 use Rattle.rinqebo_results.proofs.list_origins.unused_origins.Goals as goal
 
 pub returns : goal.returns

@@ -1,6 +1,6 @@
 use Rattle.std.proofs.Common.{◌≡◌, map, take}
 use Rattle.nextest_documents.specs.Layers.{keys_view}
-use Rattle.rinqebo_rules.specs.Origins.{key, step_view}
+use Rattle.rinqebo_origins.specs.Origins.{key, step_view}
 use Rattle.rinqebo_results.proofs.object_origins.steps_to.Given as goal
 
 -- the steps so far

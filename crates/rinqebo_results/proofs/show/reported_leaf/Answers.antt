@@ -1,6 +1,6 @@
 use Rattle.std.proofs.Common.{◌∙◌, ap, map}
 use Rattle.nextest_documents.specs.Entries.{leaf_view}
-use Rattle.rinqebo_rules.specs.ReportedEntries.{step_key}
+use Rattle.rinqebo_origins.specs.ReportedEntries.{step_key}
 use Rattle.rinqebo_results.proofs.Showing.{leaf_reported}
 use Rattle.rinqebo_results.proofs.show.reported_leaf.Goals as goal
 

@@ -1,7 +1,7 @@
 use Rattle.std.proofs.Common.{◌∙◌, ap, option_map}
 use Rattle.nextest_settings.specs.View.{script_rule_ref_view}
 use Rattle.nextest_elements.specs.declared.setting.Setting.TheVariants as at
-use Rattle.rinqebo_rules.specs.Reported.{reported_of}
+use Rattle.rinqebo_origins.specs.Reported.{reported_of}
 use Rattle.rinqebo_rules.proofs.chain_rules.named_wrapper.Goals as goal
 
 pub returns-in-Some : goal.returns-in-Some

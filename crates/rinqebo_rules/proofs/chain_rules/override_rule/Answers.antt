@@ -12,9 +12,9 @@ use Rattle.nextest_settings.specs.View.{override_ref_view, evaluated_override_vi
 use Rattle.filter_engine.specs.Compiling.{names_of}
 use Rattle.filter_engine.specs.Engine.{filter_holds}
 use Rattle.rinqebo_rules.specs.Conditions.{is_met_by, reported_by_facts, reported_condition}
-use Rattle.rinqebo_rules.specs.RulePlaces.{id_place}
+use Rattle.rinqebo_origins.specs.RulePlaces.{id_place}
 use Rattle.rinqebo_rules.specs.SettingRules.{override_writes}
-use Rattle.rinqebo_rules.specs.SettingValues.{reported_value}
+use Rattle.rinqebo_origins.specs.SettingValues.{reported_value}
 use Rattle.rinqebo_rules.specs.declared.verdict.RuleFacts.{RuleFacts}
 use Rattle.rinqebo_rules.proofs.Judged.{holds_meant, rule_judged}
 use Rattle.rinqebo_rules.proofs.ReportedOf.{reported_by_kind}

@@ -3,7 +3,7 @@ use Rattle.nextest_settings.specs.Platforms.{rule_on}
 use Rattle.nextest_settings.specs.View.{override_ref_view, script_rule_ref_view, evaluated_override_view, evaluated_script_rule_view}
 use Rattle.rinqebo_rules.proofs.Judged.{made_of_both}
 use Rattle.rinqebo_rules.proofs.ListedTests.{made_twice}
-use Rattle.rinqebo_rules.proofs.Results.{ok_same}
+use Rattle.rinqebo_origins.proofs.Results.{ok_same}
 use Rattle.rinqebo_rules.specs.Conditions.{is_met_by}
 use Rattle.rinqebo_rules.specs.RuleAnswers.{judged, judged_here}
 use Rattle.rinqebo_rules.specs.RuleViews.{setting_rule_view}

@@ -2,7 +2,7 @@ use Rattle.std.proofs.Common.{◌∙◌, ap}
 use Rattle.nextest_settings.specs.View.{override_ref_view}
 use Rattle.rinqebo_rules.specs.Conditions.{is_met_by, reported_condition}
 use Rattle.rinqebo_rules.specs.FilterRules.{filter_facts}
-use Rattle.rinqebo_rules.specs.RulePlaces.{id_place}
+use Rattle.rinqebo_origins.specs.RulePlaces.{id_place}
 use Rattle.rinqebo_rules.proofs.default_rules.filter_rule.Goals as goal
 
 pub returns : goal.returns

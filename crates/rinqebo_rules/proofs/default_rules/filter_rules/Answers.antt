@@ -1,6 +1,6 @@
 use Rattle.std.proofs.Common.{map}
 use Rattle.rinqebo_rules.proofs.FilterRules.{rules_here}
-use Rattle.rinqebo_rules.proofs.Results.{ok_same}
+use Rattle.rinqebo_origins.proofs.Results.{ok_same}
 use Rattle.rinqebo_rules.specs.FilterRules.{filter_rule_view}
 use Rattle.rinqebo_rules.proofs.default_rules.filter_rules.Goals as goal
 

@@ -6,7 +6,7 @@ use Rattle.nextest_settings.specs.View.{evaluated_override_view, evaluated_scrip
 use Rattle.rinqebo_rules.proofs.NoneHold.{meant_overrides}
 use Rattle.rinqebo_rules.proofs.ScriptRules.{meant_scripts}
 use Rattle.rinqebo_rules.specs.EvaluatedFilters.{asks_any, evaluated_of, placed_view, site_view, which_has}
-use Rattle.rinqebo_rules.specs.RulePlaces.{id_place, script_place}
+use Rattle.rinqebo_origins.specs.RulePlaces.{id_place, script_place}
 use Rattle.rinqebo_rules.specs.declared.evaluated_filters.PlacedFilter.{PlacedFilter}
 use Rattle.rinqebo_rules.proofs.evaluated_filters.filters_asking.Goals as goal
 

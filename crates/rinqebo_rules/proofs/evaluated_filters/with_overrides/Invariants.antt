@@ -4,7 +4,7 @@ use Rattle.filter_engine.specs.Compiling.{names_of}
 use Rattle.filter_language.specs.Filtersets.{marks_view}
 use Rattle.nextest_settings.specs.View.{meant_override}
 use Rattle.rinqebo_rules.specs.EvaluatedFilters.{asks_any, evaluated_of, placed_view}
-use Rattle.rinqebo_rules.specs.RulePlaces.{id_place}
+use Rattle.rinqebo_origins.specs.RulePlaces.{id_place}
 use Rattle.rinqebo_rules.proofs.evaluated_filters.with_overrides.Given as goal
 
 -- the filters of the overrides so far

@@ -2,7 +2,7 @@ use Rattle.std.proofs.Common.{refl, subst}
 use Rattle.std.proofs.lemmas.List.{take_all}
 use Rattle.std.specs.List.{AllZip}
 use Rattle.nextest_elements.specs.Settings.{settings}
-use Rattle.rinqebo_rules.proofs.RowsMore.{zip_more}
+use Rattle.rinqebo_origins.proofs.RowsMore.{zip_more}
 use Rattle.rinqebo_rules.specs.Passed.{IsPassed}
 use Rattle.rinqebo_rules.proofs.passed.passed_in.Goals as goal
 

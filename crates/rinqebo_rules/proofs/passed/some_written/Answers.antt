@@ -3,7 +3,7 @@ use Rattle.std.proofs.lemmas.List.{take_all}
 use Rattle.std.specs.List.{AllZip}
 use Rattle.nextest_settings.specs.View.{meant_override}
 use Rattle.rinqebo_rules.proofs.ListedTests.{zip_mapped}
-use Rattle.rinqebo_rules.proofs.RowsMore.{zip_more}
+use Rattle.rinqebo_origins.proofs.RowsMore.{zip_more}
 use Rattle.rinqebo_rules.specs.Passed.{IsWritten}
 use Rattle.rinqebo_rules.proofs.passed.some_written.Goals as goal
 

@@ -3,8 +3,8 @@ use Rattle.std.proofs.lemmas.List.{take_all}
 use Rattle.nextest_elements.specs.Settings.{settings}
 use Rattle.nextest_settings.specs.SettingsView.{origin_at}
 use Rattle.nextest_elements.specs.declared.setting.Setting.{Setting}
-use Rattle.rinqebo_rules.specs.Settings.{is_by_rule}
-use Rattle.rinqebo_rules.proofs.RowsMore.{filter_more, filter_same}
+use Rattle.rinqebo_origins.specs.Settings.{is_by_rule}
+use Rattle.rinqebo_origins.proofs.RowsMore.{filter_more, filter_same}
 use Rattle.rinqebo_rules.proofs.rows.decided_settings.Goals as goal
 use Rattle.rinqebo_rules.proofs.rows.decided_settings.Goals.{then-is_by_rule+in_ok-push, else-is_by_rule}
 

@@ -1,4 +1,4 @@
-use Rattle.rinqebo_rules.proofs.RowsMore.{marked}
+use Rattle.rinqebo_origins.proofs.RowsMore.{marked}
 use Rattle.rinqebo_rules.proofs.rows.source_of.Goals as goal
 
 pub returns : goal.returns

@@ -2,9 +2,9 @@ use Rattle.std.proofs.Common.{◌∙◌, refl, subst}
 use Rattle.std.proofs.lemmas.List.{take_all}
 use Rattle.std.specs.List.{AllZip}
 use Rattle.nextest_settings.specs.SettingsView.{origin_at, value_at}
-use Rattle.rinqebo_rules.specs.TestOrigins.{wrapping_at}
-use Rattle.rinqebo_rules.specs.Settings.{IsSettingReported}
-use Rattle.rinqebo_rules.proofs.RowsMore.{zip_more_by}
+use Rattle.rinqebo_origins.specs.TestOrigins.{wrapping_at}
+use Rattle.rinqebo_origins.specs.Settings.{IsSettingReported}
+use Rattle.rinqebo_origins.proofs.RowsMore.{zip_more_by}
 use Rattle.rinqebo_rules.proofs.rows.these_rows.Goals as goal
 
 pub loop-setting-preserved : goal.loop-setting-preserved

@@ -1,8 +1,8 @@
 use Rattle.std.proofs.Common.{◌≡◌, take}
 use Rattle.std.specs.List.{AllZip}
 use Rattle.nextest_settings.specs.SettingsView.{origin_at, value_at}
-use Rattle.rinqebo_rules.specs.TestOrigins.{wrapping_at}
-use Rattle.rinqebo_rules.specs.Settings.{IsSettingReported}
+use Rattle.rinqebo_origins.specs.TestOrigins.{wrapping_at}
+use Rattle.rinqebo_origins.specs.Settings.{IsSettingReported}
 use Rattle.rinqebo_rules.proofs.rows.these_rows.Given as goal
 
 -- the settings so far

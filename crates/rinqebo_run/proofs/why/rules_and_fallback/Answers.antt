@@ -1,7 +1,7 @@
 use Rattle.std.proofs.Common.{◌≡◌, ◌∙◌, All, List, ap, map, option_map, subst}
 use Rattle.std.proofs.lemmas.List.Elements.{All-push}
 use Rattle.rinqebo_keys.specs.Keys.{key_name, key_table}
-use Rattle.rinqebo_rules.specs.Origins.{PathStep, key_steps}
+use Rattle.rinqebo_origins.specs.Origins.{PathStep, key_steps}
 use Rattle.rinqebo_rules.specs.RuleViews.{setting_rule_view}
 use Rattle.rinqebo_rules.specs.SettingRules.{rules_for}
 use Rattle.rinqebo_run.proofs.Gathering.{reasons_here}

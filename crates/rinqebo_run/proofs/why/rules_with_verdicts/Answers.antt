@@ -5,7 +5,7 @@ use Rattle.std.specs.Iterator.Adapters.{zip_first, zip_second}
 use Rattle.std.specs.Slice.Iter.{iter_rest}
 use Rattle.rinqebo_rules.specs.RuleViews.{setting_rule_view}
 use Rattle.rinqebo_run.proofs.Pairs.{pair_more, pairs_all}
-use Rattle.rinqebo_rules.specs.Origins.{key_steps}
+use Rattle.rinqebo_origins.specs.Origins.{key_steps}
 use Rattle.rinqebo_results.specs.Reasons.{IsRuleAsWritten, IsRuleReported}
 use Rattle.rinqebo_run.proofs.why.rules_with_verdicts.Goals as goal
 

@@ -1,7 +1,7 @@
 use Rattle.std.proofs.Common.{All, option_map, take, length}
 use Rattle.std.specs.List.{AllZip, zip}
 use Rattle.rinqebo_rules.specs.RuleViews.{setting_rule_view}
-use Rattle.rinqebo_rules.specs.Origins.{key_steps}
+use Rattle.rinqebo_origins.specs.Origins.{key_steps}
 use Rattle.rinqebo_results.specs.Reasons.{IsRuleAsWritten, IsRuleReported}
 use Rattle.rinqebo_run.proofs.why.rules_with_verdicts.Given as goal
 

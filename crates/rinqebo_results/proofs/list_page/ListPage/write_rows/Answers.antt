@@ -6,7 +6,7 @@ use Rattle.filter_engine.specs.Engine.{filter_holds}
 use Rattle.nextest_inheritance.specs.View.{borrowed_view}
 use Rattle.nextest_settings.specs.Profiles.Meaning.{profile_meaning}
 use Rattle.nextest_settings.specs.Queries.{query_in}
-use Rattle.rinqebo_rules.specs.TestOrigins.{Basis}
+use Rattle.rinqebo_origins.specs.TestOrigins.{Basis}
 use Rattle.rinqebo_rules.specs.Unused.{AreUnusedIn}
 use Rattle.rinqebo_results.specs.Begun.{AreFirstWritten, AreWritten}
 use Rattle.rinqebo_results.specs.Written.{StopsList}

@@ -12,7 +12,7 @@ use Rattle.rinqebo_rules.specs.Rows.{IsTestReported}
 use Rattle.rinqebo_rules.specs.Unused.{AreUnusedIn, AreUsedIn}
 use Rattle.rinqebo_rules.proofs.ListedTests.{zip_mapped}
 use Rattle.rinqebo_rules.proofs.Marked.{map_more, twice}
-use Rattle.rinqebo_rules.proofs.RowsMore.{zip_more_by}
+use Rattle.rinqebo_origins.proofs.RowsMore.{zip_more_by}
 use Rattle.rinqebo_results.specs.declared.list_fault.ListFault.TheVariants as faults
 use Rattle.rinqebo_results.specs.Begun.{tests_text, AreFirstWritten}
 use Rattle.rinqebo_results.proofs.Stops.{passed_stop, stops_text}

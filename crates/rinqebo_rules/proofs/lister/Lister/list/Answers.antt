@@ -8,7 +8,7 @@ use Rattle.rinqebo_rules.specs.Rows.{IsTestReported}
 use Rattle.rinqebo_rules.specs.Unused.{AreUnusedIn, AreUsedIn}
 use Rattle.rinqebo_rules.proofs.ListedTests.{zip_mapped}
 use Rattle.rinqebo_rules.proofs.Marked.{map_more, twice}
-use Rattle.rinqebo_rules.proofs.RowsMore.{zip_more_by}
+use Rattle.rinqebo_origins.proofs.RowsMore.{zip_more_by}
 use Rattle.rinqebo_rules.proofs.lister.Lister.list.Goals as goal
 
 pub loop-test-preserved : goal.loop-test-preserved

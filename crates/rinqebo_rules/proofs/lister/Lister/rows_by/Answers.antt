@@ -5,9 +5,9 @@ use Rattle.nextest_settings.specs.Queries.{query_in, setting_origin, setting_val
 use Rattle.nextest_settings.specs.SettingsView.{origin_at, value_at}
 use Rattle.rinqebo_rules.specs.Rows.{AreSettingsReported}
 use Rattle.rinqebo_rules.specs.Runs.{runs_if, shows_runs}
-use Rattle.rinqebo_rules.specs.Settings.{reported_settings}
-use Rattle.rinqebo_rules.specs.TestOrigins.{wrapping_at, wrapping_id}
-use Rattle.rinqebo_rules.proofs.RowsMore.{reported_alike, wrapping_alike}
+use Rattle.rinqebo_origins.specs.Settings.{reported_settings}
+use Rattle.rinqebo_origins.specs.TestOrigins.{wrapping_at, wrapping_id}
+use Rattle.rinqebo_origins.proofs.RowsMore.{reported_alike, wrapping_alike}
 use Rattle.rinqebo_rules.proofs.Selected.{reported_run}
 use Rattle.rinqebo_rules.proofs.lister.Lister.rows_by.Goals as goal
 

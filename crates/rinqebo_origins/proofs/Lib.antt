@@ -1,0 +1,11 @@
+pub mod Results
+pub mod Zips
+pub mod ProfileOrigins
+pub mod Items
+pub mod OriginNodes
+pub mod Copies
+pub mod RowsMore
+pub mod SpelledLeaves
+pub mod Spelling
+pub mod SpelledEntries
+pub mod Moved

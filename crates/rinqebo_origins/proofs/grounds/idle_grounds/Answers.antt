@@ -1,0 +1,14 @@
+use Rattle.std.proofs.Common.{◌∙◌, ap, subst}
+use Rattle.nextest_documents.specs.Layers.{layers_view, keys_view}
+use Rattle.rinqebo_origins.specs.ProfileOrigins.{IsUnwritten, unwritten}
+use Rattle.rinqebo_origins.specs.Trees.{trees_of}
+use Rattle.rinqebo_origins.proofs.grounds.idle_grounds.Goals as goal
+
+pub returns : goal.returns
+returns c =
+    let chain = keys_view c.args.chain.now in
+    let none = rw c.in-None.is at c.in_ok-grounds.ensures in
+    let trees = ap layers_view c.deref-2.ensures.value ∙ c.in_ok-trees.ensures in
+    let path = ap keys_view c.deref-3.ensures.value ∙ c.in_ok-path.ensures in
+    unwritten (subst (λ p. IsUnwritten (trees_of c.args.layers.now) chain p) path
+    (subst (λ ts. IsUnwritten ts chain (keys_view c.deref-3.result.now)) trees none)) c.new-in-None.ensures.items

@@ -1,0 +1,13 @@
+pub mod RulePlaces
+pub mod Origins
+pub mod Trees
+pub mod ProfileOrigins
+pub mod Reported
+pub mod SettingValues
+pub mod AsWritten
+pub mod LeafValue
+pub mod ReportedEntries
+pub mod TestOrigins
+pub mod KnownOrigins
+pub mod Settings
+pub mod SpelledLeaves

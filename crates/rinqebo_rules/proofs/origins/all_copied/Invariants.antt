@@ -1,8 +1,0 @@
-use Rattle.std.proofs.Common.{take}
-use Rattle.std.specs.List.{AllZip}
-use Rattle.rinqebo_rules.specs.KnownOrigins.{IsCopyOf}
-use Rattle.rinqebo_rules.proofs.origins.all_copied.Given as goal
-
--- the copies so far
-abbrev pub invariant-loop-origin : goal.invariant-loop-origin
-invariant-loop-origin l = AllZip IsCopyOf (take l.origin-index l.origins) l.copies.items
