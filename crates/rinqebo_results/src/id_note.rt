@@ -2,7 +2,7 @@
 //! alone.
 ghost use Rattle.nextest_tables.specs.FileTexts.{names_in, IsIn};
 
-use crate::list::profile_on;
+use crate::list_report::profile_on;
 use crate::looked_up::place_text;
 use filter_engine::Field;
 use rinqebo_load::{Config, FoundTest, Session, TestSource, chain_of_profile};

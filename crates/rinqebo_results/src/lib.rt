@@ -7,10 +7,11 @@ mod condition_texts;
 mod id_note;
 mod idle;
 mod in_force;
-mod list;
+mod leaves;
 mod list_objects;
 mod list_origins;
 mod list_page;
+mod list_report;
 mod list_scripts;
 mod list_stop;
 mod list_text;
@@ -21,7 +22,6 @@ mod profile;
 mod progress;
 mod refusing;
 mod reporting;
-mod show;
 mod status;
 mod streams;
 
@@ -30,8 +30,9 @@ pub use asked::requested_of;
 pub use condition_texts::{
     condition, default_text, filter_text, host_text, no_condition, target_text,
 };
-pub use list::{Profile, list, profile_on};
+pub use leaves::{entries_in, show};
 pub use list_page::RequestedList;
+pub use list_report::{Profile, list, profile_on};
 pub use list_scripts::scripts_of_list;
 pub use list_stop::ListStop;
 pub use list_text::write_list;
@@ -41,5 +42,4 @@ pub use profile::{Early, early_profile};
 pub use progress::ProgressLine;
 pub use refusing::{refuse, refuse_in};
 pub use reporting::answer_on_test;
-pub use show::{entries_in, show};
 pub use status::Status;

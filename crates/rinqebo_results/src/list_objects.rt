@@ -13,7 +13,7 @@ ghost use Rattle.rinqebo_objects.specs.Scripts.{directories_view};
 ghost use Rattle.rinqebo_results.specs.ListedBy.{basis_of};
 ghost use Rattle.rinqebo_results.specs.Listed.{AreObjectsListed, FindsWarnings, directories_for};
 
-use crate::list::Profile;
+use crate::list_report::Profile;
 use crate::object_origins::object_origins;
 use filter_engine::NextestTally;
 use nextest_config::{DefaultConfigWarnings, MergedProfile};

@@ -27,8 +27,8 @@ ghost use Rattle.rinqebo_results.specs.Written.{AreFirstBy, EndsPage, ShowsTest,
 ghost use Rattle.rinqebo_results.specs.declared.list_stop.ListStop.TheVariants as faults;
 
 use crate::asked::requested_of;
-use crate::list::{Profile, profile_on};
 use crate::list_origins::unused_origins;
+use crate::list_report::{Profile, profile_on};
 use crate::list_scripts::scripts_of_list;
 use crate::list_stop::ListStop;
 use crate::streams::{write_bytes, write_whole};

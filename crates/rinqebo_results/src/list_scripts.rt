@@ -8,7 +8,7 @@ ghost use Rattle.filter_inputs.specs.Lists.ListView.{list_view};
 ghost use Rattle.filter_inputs.specs.Lists.Lists.{all_binaries, all_tests};
 ghost use Rattle.rinqebo_rules.specs.Scripts.{AreScriptsReported};
 
-use crate::list::Profile;
+use crate::list_report::Profile;
 use filter_engine::NextestTally;
 use rinqebo_load::Session;
 use rinqebo_report::ListScripts;

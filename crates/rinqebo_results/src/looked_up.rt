@@ -13,7 +13,7 @@ ghost use Rattle.rinqebo_load.specs.Warned.{warnings_met};
 ghost use Rattle.rinqebo_rules.specs.declared.evaluated_filters.PlacedFilter.{PlacedFilter};
 ghost use Rattle.rinqebo_results.specs.LookedUp.{IsFailureFor, IsFailureOn, IsLookedUp};
 
-use crate::list::profile_on;
+use crate::list_report::profile_on;
 use filter_engine::{Field, NextestFilters};
 use nextest_config::{DefaultConfigWarnings, Filters};
 use rinqebo_checks::config_with;

@@ -16,7 +16,7 @@ ghost use Rattle.rinqebo_rules.specs.Runs.{filtering_place};
 ghost use Rattle.rinqebo_origins.specs.Trees.{trees_of};
 ghost use Rattle.rinqebo_results.specs.ObjectOrigins.{AreBoundOrigins, AreGroupOrigins, AreNameOrigins, AreObjectOrigins, AreOriginsBeside, AreOutputOrigins, AreRunOrigins, IsOriginBeside};
 
-use crate::list::Profile;
+use crate::list_report::Profile;
 use nextest_documents::layer_of;
 use nextest_elements::{CustomTestGroup, TestGroupConfig};
 use nextest_places::Step;

@@ -10,7 +10,7 @@ use Rattle.rinqebo_results.proofs.Listing.{given_means}
 use Rattle.rinqebo_results.proofs.Requests.{requested_on}
 use Rattle.rinqebo_results.proofs.Showing.{shown_at}
 use Rattle.rinqebo_results.specs.ListedBy.{read_by}
-use Rattle.rinqebo_results.proofs.show.shown.Goals as goal
+use Rattle.rinqebo_results.proofs.leaves.shown.Goals as goal
 
 pub profile_on-requires : goal.profile_on-requires
 profile_on-requires c = c.requires

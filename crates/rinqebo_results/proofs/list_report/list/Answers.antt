@@ -3,7 +3,7 @@ use Rattle.rinqebo_load.specs.Warned.{warnings_met}
 use Rattle.rinqebo_results.proofs.Listing.{tells_tests}
 use Rattle.rinqebo_results.proofs.Refused.{want_evaluated}
 use Rattle.rinqebo_results.specs.Listed.{HasObjects}
-use Rattle.rinqebo_results.proofs.list.list.Goals as goal
+use Rattle.rinqebo_results.proofs.list_report.list.Goals as goal
 
 pub returns-clause-ok : goal.returns-clause-ok
 returns-clause-ok g c =

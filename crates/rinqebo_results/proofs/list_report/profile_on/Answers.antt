@@ -1,7 +1,7 @@
 use Rattle.std.proofs.Common.{◌∙◌, ap}
 use Rattle.nextest_settings.specs.Profile.{profile_on}
 use Rattle.rinqebo_rules.specs.Conditions.{is_met_by}
-use Rattle.rinqebo_results.proofs.list.profile_on.Goals as goal
+use Rattle.rinqebo_results.proofs.list_report.profile_on.Goals as goal
 
 pub early_profile-requires : goal.early_profile-requires
 early_profile-requires c = c.requires

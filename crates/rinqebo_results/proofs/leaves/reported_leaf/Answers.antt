@@ -2,7 +2,7 @@ use Rattle.std.proofs.Common.{◌∙◌, ap, map}
 use Rattle.nextest_documents.specs.Entries.{leaf_view}
 use Rattle.rinqebo_origins.specs.ReportedEntries.{step_key}
 use Rattle.rinqebo_results.proofs.Showing.{leaf_reported}
-use Rattle.rinqebo_results.proofs.show.reported_leaf.Goals as goal
+use Rattle.rinqebo_results.proofs.leaves.reported_leaf.Goals as goal
 
 pub returns : goal.returns
 returns c =

@@ -11,7 +11,7 @@ use Rattle.rinqebo_results.proofs.Requests.{requested_on}
 use Rattle.rinqebo_results.specs.Listed.{AreObjectsListed}
 use Rattle.rinqebo_results.specs.ListedBy.{basis_of}
 use Rattle.serde_json.specs.View.{view}
-use Rattle.rinqebo_results.proofs.list.listed.Goals as goal
+use Rattle.rinqebo_results.proofs.list_report.listed.Goals as goal
 
 pub profile_on-requires : goal.profile_on-requires
 profile_on-requires g c = c.requires

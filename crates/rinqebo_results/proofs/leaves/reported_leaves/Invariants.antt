@@ -1,7 +1,7 @@
 use Rattle.std.proofs.Common.{map, take}
 use Rattle.nextest_documents.specs.Entries.{leaf_view}
 use Rattle.rinqebo_results.specs.ShownConfig.{TellLeaves}
-use Rattle.rinqebo_results.proofs.show.reported_leaves.Given as goal
+use Rattle.rinqebo_results.proofs.leaves.reported_leaves.Given as goal
 
 -- the leaves so far
 abbrev pub invariant-loop-leaf : goal.invariant-loop-leaf

@@ -1,7 +1,7 @@
 use Rattle.std.proofs.Common.{◌+◌, ◌∙◌, ap, refl}
 use Rattle.rinqebo_results.proofs.Showing.{reported_less, reported_more}
-use Rattle.rinqebo_results.proofs.show.reported_leaves.Goals as goal
-use Rattle.rinqebo_results.proofs.show.reported_leaves.Goals.{in-Some+in_ok-push-in-Some, in-None}
+use Rattle.rinqebo_results.proofs.leaves.reported_leaves.Goals as goal
+use Rattle.rinqebo_results.proofs.leaves.reported_leaves.Goals.{in-Some+in_ok-push-in-Some, in-None}
 
 pub loop-leaf-preserved : goal.loop-leaf-preserved
 loop-leaf-preserved c =

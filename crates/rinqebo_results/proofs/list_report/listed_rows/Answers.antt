@@ -12,7 +12,7 @@ use Rattle.rinqebo_rules.specs.Unused.{AreUnusedIn}
 use Rattle.rinqebo_results.proofs.Listing.{basis_here}
 use Rattle.filter_inputs.specs.Lists.ListView.{list_view}
 use Rattle.filter_inputs.specs.Lists.Lists.{ListTest, list_tests}
-use Rattle.rinqebo_results.proofs.list.listed_rows.Goals as goal
+use Rattle.rinqebo_results.proofs.list_report.listed_rows.Goals as goal
 
 pub returns-clause-tests : goal.returns-clause-tests
 returns-clause-tests g c =

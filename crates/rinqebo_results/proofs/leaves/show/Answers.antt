@@ -1,7 +1,7 @@
 use Rattle.std.proofs.Common.{◌∙◌}
 use Rattle.rinqebo_results.proofs.Refused.{want_reported}
 use Rattle.rinqebo_results.proofs.Showing.{shows_config}
-use Rattle.rinqebo_results.proofs.show.show.Goals as goal
+use Rattle.rinqebo_results.proofs.leaves.show.Goals as goal
 
 pub returns-clause-ok : goal.returns-clause-ok
 returns-clause-ok c =

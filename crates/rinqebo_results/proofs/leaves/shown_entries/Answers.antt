@@ -1,4 +1,4 @@
-use Rattle.rinqebo_results.proofs.show.shown_entries.Goals as goal
+use Rattle.rinqebo_results.proofs.leaves.shown_entries.Goals as goal
 
 pub returns : goal.returns
 returns c = record {

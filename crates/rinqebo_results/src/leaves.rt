@@ -17,7 +17,7 @@ ghost use Rattle.rinqebo_results.specs.ShownConfig.{ReportsLeaf, TellLeaves, Are
 use crate::answer::Answer;
 use crate::asked::requested_of;
 use crate::in_force::with_default_in_force;
-use crate::list::profile_on;
+use crate::list_report::profile_on;
 use crate::reporting::answer_with;
 use crate::status::Status;
 use nextest_config::{DefaultConfigWarnings, NextestRunMode};
