@@ -6,7 +6,7 @@ while True:
         try:
             s=open(f'/proc/{p}/stat').read(); a,b=s.index('('),s.rindex(')'); comm=s[a+1:b]
             if comm not in('rattle','antt-kernel','clang','rattle-link'): continue
-            m=re.match(r'@WORK@/t/land2?/crates/([^/]+)',os.readlink(f'/proc/{p}/cwd'))
+            m=re.match(r'@WORK@/t/(?:g|k)/crates/([^/]+)',os.readlink(f'/proc/{p}/cwd'))
             if not m: continue
             f=s[b+2:].split(); k=(m.group(1),p,f[19]); seen[k]=(int(f[11])+int(f[12]))/H; cur[m.group(1)]=cur.get(m.group(1),0)+int(f[21])*4096/1e9
         except (OSError,ValueError,IndexError): pass

@@ -35,7 +35,7 @@ lib.Crate.below=_below
 lib.guarded()
 os.chdir(tree)
 STORE='@WORK@/kept'
-CHAIN=set('rinqebo_report rinqebo_changes nextest_tree nextest_elements nextest_scripts nextest_tables nextest_rules nextest_load nextest_settings nextest_config rinqebo_request rinqebo_load rinqebo_rules rinqebo_faults rinqebo_findings rinqebo_run rinqebo_diff rinqebo_resolve rinqebo_c'.split())
+CHAIN=set('nextest_places rule_lists nextest_sources nextest_shape rinqebo_findings rinqebo_checks rinqebo_results rinqebo_forms rinqebo_keys rinqebo_report rinqebo_changes nextest_tree nextest_elements nextest_scripts nextest_tables nextest_rules nextest_load nextest_settings nextest_config rinqebo_request rinqebo_load rinqebo_rules rinqebo_faults rinqebo_findings rinqebo_run rinqebo_diff rinqebo_resolve rinqebo_c'.split())
 crates=sorted(lib.crates_below(tree), key=lambda it: len(it.below()))
 by={c.name:c for c in crates}
 if not names or names==['all']: names=[c.name for c in crates]
@@ -48,7 +48,31 @@ for c in reversed(crates):
     behind[c.name]+=c.count(rb"\n")+300
     for d in c.deps: 
         if d.name in behind: behind[d.name]=max(behind[d.name],behind[c.name])
+def jobs_for(n):
+    try: d=dict(l.split() for l in open('@BASE@/jobs.txt') if l.strip())
+    except Exception: d={}
+    return d.get(n) or d.get('*') or (os.environ.get('CHAIN','4') if n in CHAIN else os.environ.get('JOBS','2'))
 plock=threading.Lock()
+turn=threading.Lock()
+def running_now():
+    found=set()
+    for p in filter(str.isdigit,os.listdir('/proc')):
+        try:
+            if open(f'/proc/{p}/comm').read().strip()!='rattle': continue
+            d=os.readlink(f'/proc/{p}/cwd')
+            if '/crates/' in d: found.add(d.rsplit('/',1)[1])
+        except OSError: pass
+    return found
+def wait_turn(n):
+    while True:
+        with turn:
+            lim=int(open('@BASE@/limit').read())
+            best=min(waiting,key=lambda x:-behind.get(x,0)) if waiting else n
+            if len(running_now())<lim and avail()>float(os.environ.get('ROOM','3.0')) and best==n:
+                waiting.discard(n); time.sleep(3); return
+            waiting.add(n)
+        time.sleep(2)
+waiting=set()
 def say(s):
     with plock: print(time.strftime('%H:%M:%S'),s,flush=True)
 def place(c,stamp): return f'{STORE}/{c.name}-{stamp[:20]}'
@@ -65,11 +89,11 @@ def avail():
 def work(c):
     stamp=c.stamp(); p=place(c,stamp)
     os.makedirs(STORE,exist_ok=True)
-    with open(f'{STORE}/{c.name}-{stamp[:20]}.lock','w') as lock:
+    with open(f'{STORE}/{c.name}-{stamp[:20]}.'+('lock' if c.name in ('nextest_load','nextest_shape','rinqebo_forms','rinqebo_changes') else 'lk'),'w') as lock:
         fcntl.flock(lock,fcntl.LOCK_EX)
         if os.path.isdir(p): 
             give(c,stamp); say(f'{c.name} kept'); return True
-        t0=time.time(); jobs=os.environ.get('CHAIN','4') if c.name in CHAIN else os.environ.get('JOBS','2')
+        t0=time.time(); jobs=jobs_for(c.name)
         why=None
         log=f'@WORK@/log/{os.path.basename(tree)}-{c.name}.log'
         c.out=open(log,'w+',errors='replace')
@@ -79,8 +103,11 @@ def work(c):
             try: lib.stop_on_text(c,'verdict'); rt.stop_on_words(c)
             except SystemExit: say(f'{c.name} FAILED: stopped'); return False
             os.makedirs(f'{c.folder}/out',exist_ok=True)
+            wait_turn(c.name)
+            jobs=jobs_for(c.name)
             say(f'{c.name} begins, {jobs} jobs')
-            status=c.ci(['--jobs',jobs],False)
+            inc=f'/tmp/prof/{c.name}'; shutil.rmtree(inc,ignore_errors=True); os.makedirs(inc)
+            status=c.ci(['--jobs',jobs]+(['--incremental',inc] if os.environ.get('PROF') else []),False)
             if status==-signal.SIGKILL: say(f'{c.name} killed, again'); status=c.ci(['--jobs','1'],False)
         except SystemExit: status=2
         c.out.close()
@@ -93,7 +120,10 @@ def work(c):
             for n in os.listdir(f'{c.folder}/out'):
                 if n.startswith(c.name) and os.path.isfile(f'{c.folder}/out/{n}'): shutil.copy(f'{c.folder}/out/{n}',p+'.part/')
         shutil.copy(log,p+'.part/log'); os.rename(p+'.part',p)
-        say(f'{c.name} proved ({time.time()-t0:.0f}s)'); return True
+        say(f'{c.name} proved ({time.time()-t0:.0f}s)')
+        if os.environ.get('PROF'):
+            import subprocess as sp; r=sp.run([sys.executable,'@BASE@/profsum.py',c.name,'60'],capture_output=True,text=True); open(f'@WORK@/log/prof-{c.name}','w').write(r.stdout+r.stderr); shutil.rmtree(inc,ignore_errors=True)
+        return True
 crates_all=lib.crates_below(tree)
 done={}; running={}; cond=threading.Condition()
 def run(c):
