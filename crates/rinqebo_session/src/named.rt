@@ -57,7 +57,8 @@ pub fn profile_names(alloc: Global, config: &Config) -> Result<Vec<String>, Allo
 /// The name of a profile, as a configuration has it, if it has the profile.
 pub fn known_name<'c>(config: &'c Config, name: &str) -> Option<&'c str>
     ensures { let names = names_in config.now.config.profiles in
-        MatchOption result (is_one_of names name.now ≡ false) (IsKnownName names name.now) }
+        MatchOption result (is_one_of names name.now ≡ false)
+        (λ known. IsKnownName names name.now known.now) }
 {
     match config.profiles().get_key_value(name) {
         Some((known, _)) => Some(known.as_str()),
