@@ -30,20 +30,24 @@ stays from to a b alike =
     no_change (option_eq same_value a.row.value b.row.value)
     ((setting_decides a.row.value b.row.value).1 alike.same)
 
-none_from : (from to : List Source) (n : ℕ) (xs ys : List SideRow) → AllZip HaveSameValue xs ys
-    → changed_from (is_change from to false) n xs ys ≡ []
-none_from from to n [] [] all = refl
-none_from from to n [] (y ∷ ys) all = absurd all
-none_from from to n (x ∷ xs) [] all = absurd all
-none_from from to n (x ∷ xs) (y ∷ ys) all =
-    let rest = changed_from (is_change from to false) (n + 1) xs ys in
-    ap (λ q. cond q (change_of (n, (x, y)) ∷ rest) rest) (stays from to x y all.0)
-    ∙ none_from from to (n + 1) xs ys all.1
+module _ (test : SideRow → SideRow → Bool) (Alike : SideRow → SideRow → Type 0)
+    (same : (a b : SideRow) → Alike a b → test a b ≡ false) where
+  none_from : (n : ℕ) (xs ys : List SideRow) → AllZip Alike xs ys → changed_from test n xs ys ≡ []
+  none_from n [] [] all = refl
+  none_from n [] (y ∷ ys) all = absurd all
+  none_from n (x ∷ xs) [] all = absurd all
+  none_from n (x ∷ xs) (y ∷ ys) all =
+      let rest = changed_from test (n + 1) xs ys in
+      ap (λ q. cond q (change_of (n, (x, y)) ∷ rest) rest) (same x y all.0) ∙ none_from (n + 1) xs ys all.1
+
+  -- rows that are one by one alike do not change
+  pub none_differ : (xs ys : List SideRow) → AllZip Alike xs ys → changed_rows test xs ys ≡ []
+  none_differ xs ys all = none_from 0 xs ys all
 
 -- rows that have one by one the same values do not change
 pub none_change : (from to : List Source) (xs ys : List SideRow) → AllZip HaveSameValue xs ys
     → changed_rows (is_change from to false) xs ys ≡ []
-none_change from to xs ys all = none_from from to 0 xs ys all
+none_change from to xs ys all = none_differ (is_change from to false) HaveSameValue (stays from to) xs ys all
 
 -- rows of the same keys
 keys_of : (xs ys : List SettingRow) → AllZip AreAlike xs ys → AllZip HaveSameKey xs ys
