@@ -13,7 +13,7 @@ use Rattle.rinqebo_changes.specs.Same.{same_value}
 use Rattle.rinqebo_changes.specs.SourceViews.{source_view}
 use Rattle.rinqebo_changes.specs.ValueViews.{value_view}
 use Rattle.rinqebo_changes.proofs.Exactly.{changed_from}
-use Rattle.rinqebo_changes.proofs.LikeSources.{source_decides}
+use Rattle.rinqebo_changes.proofs.LikeSources.{source_decides, unchanged}
 use Rattle.rinqebo_changes.proofs.SameValues.{setting_decides}
 
 -- a test that decides an equation is the same either way round
@@ -25,27 +25,15 @@ settings_swap : (a b : Option Value) → option_eq same_value b a ≡ option_eq 
 settings_swap a b =
     either_way (option_map value_view b) (option_map value_view a) _ _ (setting_decides b a) (setting_decides a b)
 
-settings_same : (a : Option Value) → option_eq same_value a a ≡ true
-settings_same a = (setting_decides a a).1 refl
-
 -- where values come from
 source_swap : (s t : List Source) (a b : SideRow) → like_source_of t s b a ≡ like_source_of s t a b
 source_swap s t a b =
     either_way (source_view t b) (source_view s a) (like_source_of t s b a) (like_source_of s t a b)
     (source_decides t s b a) (source_decides s t a b)
 
-source_same : (s : List Source) (r : SideRow) → like_source_of s s r r ≡ true
-source_same s r = (source_decides s s r r).1 refl
-
 -- whether a setting changes
-change_none : (w p q : Bool) → p ≡ true → q ≡ true → (not p || (w && not q)) ≡ false
-change_none true p q h k = rw (h, k)
-change_none false p q h k = rw h
-
 change_same : (s : List Source) (w : Bool) (r : SideRow) → is_change s s w r r ≡ false
-change_same s w r =
-    change_none w (option_eq same_value r.row.value r.row.value) (like_source_of s s r r)
-    (settings_same r.row.value) (source_same s r)
+change_same s w r = unchanged s s w r r refl (λ counts. refl)
 
 change_swap : (s t : List Source) (w : Bool) (a b : SideRow) → is_change t s w b a ≡ is_change s t w a b
 change_swap s t w a b =

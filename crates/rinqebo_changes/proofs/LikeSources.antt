@@ -19,6 +19,7 @@ use Rattle.rinqebo_changes.specs.OriginViews.{written_view}
 use Rattle.rinqebo_changes.specs.Same.{same_value}
 use Rattle.rinqebo_changes.specs.SameOrigin.{like_kind, like_optional, like_source, like_origin, like_origins, same_written}
 use Rattle.rinqebo_changes.specs.SourceViews.{OwnedOrigin, RowSource, beside, from_list, from_origins, of_tool, owned_view, owner_at, owner_of, source_view, written}
+use Rattle.rinqebo_changes.specs.ValueViews.{value_view}
 use Rattle.rinqebo_changes.proofs.Deciding.{never, always, seen_decide}
 use Rattle.rinqebo_changes.proofs.SameOrigins.{written_decides}
 use Rattle.rinqebo_changes.proofs.SameValues.{setting_decides}
@@ -138,3 +139,17 @@ pub change_decides : (s t : List Source) (w : Bool) (a b : SideRow)
 change_decides s t w a b =
     either_decides w (option_eq same_value a.row.value b.row.value) (like_source_of s t a b)
     (setting_decides a.row.value b.row.value) (source_decides s t a b)
+
+unless_decided : {P : Type 0} (b : Bool) → Decides b P → (P → ⊥) → b ≡ false
+unless_decided true d no = absurd (no (d.0 refl))
+unless_decided false d no = refl
+
+-- a setting does not change that has the same value and, where that counts, comes from the same
+pub unchanged : (s t : List Source) (w : Bool) (a b : SideRow)
+    → option_map value_view a.row.value ≡ option_map value_view b.row.value
+    → ((w ≡ true) → source_view s a ≡ source_view t b) → is_change s t w a b ≡ false
+unchanged s t w a b value source = unless_decided (is_change s t w a b) (change_decides s t w a b) no
+  where
+    no : Changes s t w a b → ⊥
+    no (inl n) = n value
+    no (inr n) = n.1 (source n.0)
