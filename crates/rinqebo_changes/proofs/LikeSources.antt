@@ -1,6 +1,6 @@
 -- The tests across two sides decide whether owners, origins and what rows come from are equal, and
 -- whether a setting changes.
-use Rattle.std.proofs.Common.{◌≡◌, ◌≢◌, ◌⊎◌, inl, inr, ℕ, ◌&&◌, ◌||◌, Bool, true, false, cond, not, List, Option, None, Some, option_map, map, bytes_eq, string_bytes, refl, ap}
+use Rattle.std.proofs.Common.{◌≡◌, ◌⊎◌, inl, inr, ℕ, ◌&&◌, ◌||◌, Bool, true, false, cond, not, List, Option, None, Some, option_map, map, bytes_eq, string_bytes, refl, ap}
 use Rattle.std.specs.Prelude.{slice_get}
 use Rattle.std.specs.Bool.{beq, Decides}
 use Rattle.std.specs.Cmp.Lexicographic.{bytes_decides}
@@ -18,7 +18,7 @@ use Rattle.rinqebo_changes.specs.Laws.{Changes}
 use Rattle.rinqebo_changes.specs.OriginViews.{written_view}
 use Rattle.rinqebo_changes.specs.Same.{same_value}
 use Rattle.rinqebo_changes.specs.SameOrigin.{like_kind, like_optional, like_source, like_origin, like_origins, same_written}
-use Rattle.rinqebo_changes.specs.SourceViews.{OwnedOrigin, RowSource, beside, from_list, from_origins, of_tool, owned_view, owner_at, owner_of, source_view, written}
+use Rattle.rinqebo_changes.specs.SourceViews.{OwnedOrigin, beside, from_list, from_origins, of_tool, owned_view, owner_at, owner_of, source_view, written}
 use Rattle.rinqebo_changes.specs.ValueViews.{value_view}
 use Rattle.rinqebo_changes.proofs.Deciding.{never, always, seen_decide}
 use Rattle.rinqebo_changes.proofs.SameOrigins.{written_decides}
@@ -141,15 +141,15 @@ change_decides s t w a b =
     (setting_decides a.row.value b.row.value) (source_decides s t a b)
 
 unless_decided : {P : Type 0} (b : Bool) → Decides b P → (P → ⊥) → b ≡ false
-unless_decided true d no = absurd (no (d.0 refl))
-unless_decided false d no = refl
+unless_decided true d n = absurd (n (d.0 refl))
+unless_decided false d n = refl
 
 -- a setting does not change that has the same value and, where that counts, comes from the same
 pub unchanged : (s t : List Source) (w : Bool) (a b : SideRow)
     → option_map value_view a.row.value ≡ option_map value_view b.row.value
     → ((w ≡ true) → source_view s a ≡ source_view t b) → is_change s t w a b ≡ false
-unchanged s t w a b value source = unless_decided (is_change s t w a b) (change_decides s t w a b) no
+unchanged s t w a b value source = unless_decided (is_change s t w a b) (change_decides s t w a b) stays
   where
-    no : Changes s t w a b → ⊥
-    no (inl n) = n value
-    no (inr n) = n.1 (source n.0)
+    stays : Changes s t w a b → ⊥
+    stays (inl n) = n value
+    stays (inr n) = n.1 (source n.0)

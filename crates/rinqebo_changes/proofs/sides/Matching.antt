@@ -7,7 +7,7 @@ use Rattle.std.proofs.lemmas.List.Folds.{list_any_at, list_any_none}
 use Rattle.std.proofs.lemmas.List.Sums.{fails_before_first, passes_at_first}
 use Rattle.std.proofs.lemmas.Option.{get_or_from_slice_get, slice_get_cases, slice_get-get_or}
 use Rattle.std.proofs.lemmas.List.{map-append}
-use Rattle.std.specs.List.{All, Contains, list_any, position_or_len}
+use Rattle.std.specs.List.{Contains, list_any, position_or_len}
 use Rattle.std.specs.Prelude.{slice_get}
 use Rattle.filter_inputs.specs.Lists.Lists.{ListTest}
 use Rattle.filter_inputs.specs.Lists.ListView.{list_test_view}
