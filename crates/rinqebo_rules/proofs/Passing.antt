@@ -8,6 +8,7 @@ use Rattle.nextest_elements.specs.declared.run_mode.NextestRunMode.{NextestRunMo
 use Rattle.nextest_rules.specs.Rules.{OverrideUse, RuleId, ScriptRuleUse}
 use Rattle.nextest_settings.proofs.StandsFirst.{find-least, find-none}
 use Rattle.nextest_elements.proofs.StandsOnce.{at_place}
+use Rattle.nextest_settings.specs.Binaries.{IsKnownFor}
 use Rattle.nextest_settings.specs.Deciding.{QueryContext, StandsFirst, decides, rule_holds}
 use Rattle.nextest_settings.specs.Platforms.{EvaluatedRule}
 use Rattle.nextest_settings.specs.Queries.{Origin, by_override, by_profile, by_script, deciding_override, fallback_origin, origin_by, unwritten, wrapping_rule}
@@ -285,3 +286,15 @@ override_told query mode rules written n passed are_distinct rule stands writes 
     (writes told.place s told.stands)
     (zip_at P settings passed (index_of s) s told.told.count all (at_place s) told.told.passes)
     distinct holds told.told.told
+
+-- what the run wrapper says of a script rule is so
+pub script_rule_told : {M : Type 0} (query : QueryContext M) (rules : List (EvaluatedRule M ScriptRuleUse))
+    (count n : ℕ) (rule : EvaluatedRule M ScriptRuleUse) (are_distinct : Bool) → slice_get rules n ≡ Some rule
+    → IsPassed query (λ w. is_some w.scripts.run_wrapper) (λ w. w.id) rules count
+    → (IsTrue are_distinct → AreDistinct (ids_of (λ w. w.id) rules)) → (told : Option Bool)
+    → IfSome told (λ holds. IsTrue (is_some rule.writes.scripts.run_wrapper) × IsTold are_distinct n count holds)
+    → IsKnownFor query rule told
+script_rule_told query rules count n rule are_distinct stands passed distinct None told = tt
+script_rule_told query rules count n rule are_distinct stands passed distinct (Some holds) told =
+    told_so query (λ w. is_some w.scripts.run_wrapper) (λ w. w.id) rules count n rule are_distinct stands
+    told.0 passed distinct holds told.1

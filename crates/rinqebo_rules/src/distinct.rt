@@ -1,5 +1,5 @@
 //! Whether rules are distinct: no two of them are at one place.
-ghost use Rattle.std.specs.Prelude.{◌≡◌, ◌↔◌, ◌++◌, ◌∷◌, [], false, if◌then◌else◌, IfOk, IfSome, IsTrue, map};
+ghost use Rattle.std.specs.Prelude.{◌≡◌, ◌↔◌, false, IfOk, IsTrue, map};
 ghost use Rattle.rinqebo_origins.specs.RulePlaces.{place_view};
 ghost use Rattle.rinqebo_rules.specs.Distinct.{AreDistinct, IsBehind, IsOfOneList, IsOfNone};
 
@@ -36,22 +36,6 @@ fn is_of_some(firsts: &[RulePlace<'_>], place: RulePlace<'_>) -> bool
     false
 }
 
-/// These rules, and one more if it begins a list.
-fn with_first<'p>(
-    firsts: Vec<RulePlace<'p>>,
-    place: RulePlace<'p>,
-    begins: bool,
-) -> Result<Vec<RulePlace<'p>>, AllocError>
-    ensures { IfOk result (λ more. more.items
-        ≡ (if begins then firsts.entry.items ++ place.entry ∷ [] else firsts.entry.items)) }
-{
-    let mut firsts = firsts;
-    if begins {
-        firsts.push(place)?;
-    }
-    Ok(firsts)
-}
-
 /// Whether no two of these rules are at one place. The rules of a profile in a file are to follow
 /// one another in their order, as they do in a chain of profiles: else this is not found.
 pub(crate) fn are_distinct(alloc: Global, places: &[RulePlace<'_>]) -> Result<bool, AllocError>
@@ -60,11 +44,12 @@ pub(crate) fn are_distinct(alloc: Global, places: &[RulePlace<'_>]) -> Result<bo
     let mut firsts = Vec::new(alloc);
     let mut last = None;
     for place in places {
-        let begins = !is_behind(last, *place);
-        if begins && is_of_some(&firsts, *place) {
-            return Ok(false);
+        if !is_behind(last, *place) {
+            if is_of_some(&firsts, *place) {
+                return Ok(false);
+            }
+            firsts.push(*place)?;
         }
-        firsts = with_first(firsts, *place, begins)?;
         last = Some(*place);
     }
     Ok(true)

@@ -359,7 +359,8 @@ fn are_overrides_distinct<F: Filters, S: Specs>(
         → AreDistinct (ids_of (λ w. w.id) (map (meant_override F.meaning) rules.now))) }
 {
     let places = override_places(alloc, rules)?;
-    are_distinct(alloc, &places)
+    let found = are_distinct(alloc, &places)?;
+    Ok(found)
 }
 
 /// Whether no two script rules have one id.
@@ -371,7 +372,8 @@ fn are_script_rules_distinct<F: Filters, S: Specs>(
         → AreDistinct (ids_of (λ w. w.id) (map (meant_script_rule F.meaning) rules.now))) }
 {
     let places = script_rule_places(alloc, rules)?;
-    are_distinct(alloc, &places)
+    let found = are_distinct(alloc, &places)?;
+    Ok(found)
 }
 
 impl UsedRules {
