@@ -73,19 +73,19 @@ differs : (places : List Place) (n : ℕ) (x : Place) → slice_get places n ≡
 differs places n x stands new before i j p below under here there =
     elim (cases_lt i n) [
       | inl early ↦ elim (cases_lt j n) [
-          | inl soon ↦ before i j p early soon here there
-          | inr late ↦
-              let at : j ≡ n = omega (arith, late, under) in
-              let is : p ≡ x = same_Some p x (sym there ∙ ap (slice_get places) at ∙ stands) in
-              absurd (new i p early here is)
-        ]
+        | inl soon ↦ before i j p early soon here there
+        | inr late ↦
+            let at : j ≡ n = omega (arith, late, under) in
+            let is : p ≡ x = same_Some p x (sym there ∙ ap (slice_get places) at ∙ stands) in
+            absurd (new i p early here is)
+      ]
       | inr late ↦ elim (cases_lt j n) [
-          | inl soon ↦
-              let at : i ≡ n = omega (arith, late, below) in
-              let is : p ≡ x = same_Some p x (sym here ∙ ap (slice_get places) at ∙ stands) in
-              absurd (new j p soon there is)
-          | inr tardy ↦ omega (arith, late, tardy, below, under)
-        ]
+        | inl soon ↦
+            let at : i ≡ n = omega (arith, late, below) in
+            let is : p ≡ x = same_Some p x (sym here ∙ ap (slice_get places) at ∙ stands) in
+            absurd (new j p soon there is)
+        | inr tardy ↦ omega (arith, late, tardy, below, under)
+      ]
     ]
 
 grow : (firsts : List Place) (x p : Place) → IsBegun firsts p → IsBegun (firsts ++ x ∷ []) p
@@ -206,21 +206,23 @@ module _ (places : List RulePlace) (n : ℕ) (firsts : List RulePlace) (place d 
       ∙ ap (option_map place_view) (slice_get-get_or places n d below ∙ ap Some (sym is))
 
   -- a rule more that comes behind the last one of its list
-  pub behind_more : (last : Option RulePlace) → IsBehind last place
-      → SoFar (map place_view places) n (map place_view firsts) (option_map place_view last)
-      → SoFar (map place_view places) (n + 1) (map place_view firsts) (Some (place_view place))
-  behind_more None behind so_far = absurd behind
-  behind_more (Some last) behind so_far =
-      next_more (map place_view places) n (map place_view firsts) (place_view place) stands (place_view last) behind.1
-      (later last place behind.0) so_far
-
-  -- a rule more that begins a list
-  pub first_more : (last : Option RulePlace) (new : List RulePlace) → new ≡ firsts ++ place ∷ []
-      → IsOfNone (map place_view firsts) (place_view place)
+  pub behind_more : (last : Option RulePlace) (new : List RulePlace) → new ≡ firsts → IsBehind last place
       → SoFar (map place_view places) n (map place_view firsts) (option_map place_view last)
       → SoFar (map place_view places) (n + 1) (map place_view new) (Some (place_view place))
-  first_more last new put none so_far =
+  behind_more None new same behind so_far = absurd behind
+  behind_more (Some last) new same behind so_far =
+      subst (λ fs. SoFar (map place_view places) (n + 1) (map place_view fs) (Some (place_view place))) (sym same)
+      (next_more (map place_view places) n (map place_view firsts) (place_view place) stands (place_view last) behind.1
+      (later last place behind.0) so_far)
+
+  -- a rule more that begins a list
+  pub first_more : (last : Option RulePlace) (seen new : List RulePlace) → new ≡ firsts ++ place ∷ []
+      → seen ≡ firsts → IsOfNone (map place_view seen) (place_view place)
+      → SoFar (map place_view places) n (map place_view firsts) (option_map place_view last)
+      → SoFar (map place_view places) (n + 1) (map place_view new) (Some (place_view place))
+  first_more last seen new put same none so_far =
       subst (λ fs. SoFar (map place_view places) (n + 1) fs (Some (place_view place)))
       (sym (ap (map place_view) put ∙ map-append place_view firsts (place ∷ [])))
       (begun_more (map place_view places) n (map place_view firsts) (place_view place) stands
-      (option_map place_view last) none so_far)
+      (option_map place_view last)
+      (subst (λ fs. IsOfNone (map place_view fs) (place_view place)) same none) so_far)

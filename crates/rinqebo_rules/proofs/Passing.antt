@@ -1,5 +1,5 @@
 -- Rules that hold for a test, or do not, by what decides its settings.
-use Rattle.std.proofs.Common.{◌≡◌, ◌≢◌, ◌∙◌, ◌≤◌, ◌<◌, ◌+◌, ◌&&◌, ◌⊎◌, inl, inr, ap, arith, ℕ, List, Bool, IsTrue, true, false, Option, None, Some, Vec, Global, if◌then◌else◌, unwrap_or, [], ◌∷◌, zero, suc, IfSome, filter, find, is_some, length, map, not, slice_get, option_and_then, option_map, refl, sym, subst, lt_of_lt_of_le}
+use Rattle.std.proofs.Common.{◌≡◌, ◌≢◌, ◌∙◌, ◌≤◌, ◌<◌, ◌+◌, ◌&&◌, ◌⊎◌, inl, inr, ap, arith, ℕ, List, Bool, IsTrue, true, false, Option, None, Some, Vec, Global, cond, unwrap_or, [], ◌∷◌, zero, suc, IfSome, filter, find, is_some, length, map, not, slice_get, option_and_then, option_map, refl, sym, subst, lt_of_lt_of_le}
 use Rattle.std.proofs.lemmas.Bool.{cases_lt}
 use Rattle.std.proofs.lemmas.Option.{same_Some, slice_get-map, slice_get_within}
 use Rattle.std.specs.List.{AllZip}
@@ -57,18 +57,20 @@ zip_at R (a ∷ xs) (b ∷ ys) zero x y all here there =
 zip_at R (a ∷ xs) (b ∷ ys) (suc k) x y all here there = zip_at R xs ys k x y all.1 here there
 
 -- what is kept of a list passes
+kept_by : {A : Type 0} (f : A → Bool) (y : A) (rest : List A) (b : Bool) (k : ℕ) (x : A) → f y ≡ b
+    → ((j : ℕ) → slice_get rest j ≡ Some x → f x ≡ true) → slice_get (cond b (y ∷ rest) rest) k ≡ Some x
+    → f x ≡ true
+kept_by f y rest true zero x is all here =
+    let same : y ≡ x = same_Some y x here in
+    subst (λ z. f z ≡ true) same is
+kept_by f y rest true (suc k) x is all here = all k here
+kept_by f y rest false k x is all here = all k here
+
 pub kept_passes : {A : Type 0} (f : A → Bool) (xs : List A) (k : ℕ) (x : A) → slice_get (filter f xs) k ≡ Some x
     → f x ≡ true
 kept_passes f [] k x here = absurd cc
-kept_passes f (y ∷ ys) k x here = by_test (f y) refl k here where
-  by_test : (b : Bool) → f y ≡ b → (k : ℕ) → slice_get (filter f (y ∷ ys)) k ≡ Some x → f x ≡ true
-  by_test true is zero here =
-      let same : y ≡ x = same_Some y x (subst (λ b. slice_get (if b then y ∷ filter f ys else filter f ys) 0 ≡ Some x) is here) in
-      subst (λ z. f z ≡ true) same is
-  by_test true is (suc k) here =
-      kept_passes f ys k x (subst (λ b. slice_get (if b then y ∷ filter f ys else filter f ys) (suc k) ≡ Some x) is here)
-  by_test false is k here =
-      kept_passes f ys k x (subst (λ b. slice_get (if b then y ∷ filter f ys else filter f ys) k ≡ Some x) is here)
+kept_passes f (y ∷ ys) k x here =
+    kept_by f y (filter f ys) (f y) k x refl (λ j there. kept_passes f ys j x there) here
 
 -- an origin that names an override is that of the override
 named : (origin : Option Origin) (id : RuleId) → override_in origin ≡ Some id → origin ≡ Some (by_override id)

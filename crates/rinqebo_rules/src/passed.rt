@@ -172,12 +172,7 @@ pub(crate) fn told_by(number: usize, passed: usize, are_distinct: bool) -> Optio
 }
 
 /// What a setting that an override writes says of it.
-fn told_at(
-    setting: Setting,
-    number: usize,
-    passed: &[usize],
-    are_distinct: bool,
-) -> Option<bool>
+fn told_at(setting: Setting, number: usize, passed: &[usize], are_distinct: bool) -> Option<bool>
     ensures { IfSome result (IsToldAt setting number passed.now are_distinct) }
 {
     match passed_at(passed, setting) {

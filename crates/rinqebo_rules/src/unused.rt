@@ -142,7 +142,14 @@ fn is_override_used<F: Filters, S: Specs>(
         Some(holds) => held || holds,
         None => {
             held || open_override_holds(
-                rule, number, written, passed, are_distinct, query, cx, tally,
+                rule,
+                number,
+                written,
+                passed,
+                are_distinct,
+                query,
+                cx,
+                tally,
             )
         }
     }
@@ -177,7 +184,16 @@ fn mark_overrides<F: Filters, S: Specs>(
         let holds = known_at(known, number);
         let settings = written_at(written, number);
         let is_used = is_override_used(
-            rule, number, held, holds, settings, passed, are_distinct, query, cx, tally,
+            rule,
+            number,
+            held,
+            holds,
+            settings,
+            passed,
+            are_distinct,
+            query,
+            cx,
+            tally,
         );
         set_mark(used, number, is_used);
     }
@@ -254,7 +270,14 @@ fn mark_script_rules<F: Filters, S: Specs>(
         let holds = known_at(known, number);
         let told = told_of_script(rule, number, passed, are_distinct);
         let is_used = is_script_rule_used(
-            rule, first + number, held, holds, told, query, cx, tally,
+            rule,
+            first + number,
+            held,
+            holds,
+            told,
+            query,
+            cx,
+            tally,
         );
         set_mark(used, number, is_used);
     }
