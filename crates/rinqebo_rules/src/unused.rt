@@ -13,12 +13,11 @@ ghost use Rattle.nextest_elements.specs.Settings.{settings as all_settings};
 ghost use Rattle.nextest_settings.specs.View.{meant_override, meant_script_rule};
 ghost use Rattle.rinqebo_rules.specs.BinaryRules.{AreAnswersAt, AreKnownIn, known_overrides, known_script_rules};
 ghost use Rattle.nextest_settings.specs.Settings.{is_set};
-ghost use Rattle.rinqebo_origins.specs.RulePlaces.{id_place, place_view, script_place};
 ghost use Rattle.rinqebo_rules.specs.Distinct.{AreDistinct};
 ghost use Rattle.rinqebo_rules.specs.Passed.{AreWritten, IsPassed, IsToldBy, ids_of};
 ghost use Rattle.rinqebo_rules.specs.Unused.{AreUsedIn, AreUnusedIn, is_used, unused_among, written_at};
 
-use crate::distinct::are_distinct;
+use crate::distinct::{are_overrides_distinct, are_script_rules_distinct};
 use crate::holds::{override_holds, script_rule_holds};
 use crate::passed::{all_written, passed_in, told_of};
 use crate::values::SourcedSettings;
@@ -27,7 +26,6 @@ use nextest_elements::{NextestRunMode, Setting};
 use nextest_engines::{EvalContext, Filters, Specs, TestQuery};
 use nextest_rules::{OverrideId, ScriptRuleId};
 use nextest_settings::{BinaryAnswers, EvaluatableProfile, EvaluatedOverride, EvaluatedScriptRule};
-use rinqebo_origins::RulePlace;
 use std::alloc::{AllocError, Global};
 
 /// The ids of the rules of a profile that hold for none of some tests.
@@ -341,62 +339,6 @@ fn unmarked_script_rules<'c, F: Filters, S: Specs>(
         }
     }
     Ok(ids)
-}
-
-/// The places of overrides.
-fn override_places<'c, F: Filters, S: Specs>(
-    alloc: Global,
-    rules: &[EvaluatedOverride<'c, F, S>],
-) -> Result<Vec<RulePlace<'c>>, AllocError>
-    ensures { IfOk result (λ places. map place_view places.items
-        ≡ map id_place (ids_of (λ w. w.id) (map (meant_override F.meaning) rules.now))) }
-{
-    let mut places = Vec::new(alloc);
-    for rule in rules {
-        places.push(RulePlace::of_override(rule.rule().id()))?;
-    }
-    Ok(places)
-}
-
-/// The places of script rules.
-fn script_rule_places<'c, F: Filters, S: Specs>(
-    alloc: Global,
-    rules: &[EvaluatedScriptRule<'c, F, S>],
-) -> Result<Vec<RulePlace<'c>>, AllocError>
-    ensures { IfOk result (λ places. map place_view places.items
-        ≡ map script_place (ids_of (λ w. w.id) (map (meant_script_rule F.meaning) rules.now))) }
-{
-    let mut places = Vec::new(alloc);
-    for rule in rules {
-        places.push(RulePlace::of_script(rule.rule().id()))?;
-    }
-    Ok(places)
-}
-
-/// Whether no two overrides have one id.
-fn are_overrides_distinct<F: Filters, S: Specs>(
-    alloc: Global,
-    rules: &[EvaluatedOverride<'_, F, S>],
-) -> Result<bool, AllocError>
-    ensures { IfOk result (λ known. IsTrue known
-        → AreDistinct (ids_of (λ w. w.id) (map (meant_override F.meaning) rules.now))) }
-{
-    let places = override_places(alloc, rules)?;
-    let found = are_distinct(alloc, &places)?;
-    Ok(found)
-}
-
-/// Whether no two script rules have one id.
-fn are_script_rules_distinct<F: Filters, S: Specs>(
-    alloc: Global,
-    rules: &[EvaluatedScriptRule<'_, F, S>],
-) -> Result<bool, AllocError>
-    ensures { IfOk result (λ known. IsTrue known
-        → AreDistinct (ids_of (λ w. w.id) (map (meant_script_rule F.meaning) rules.now))) }
-{
-    let places = script_rule_places(alloc, rules)?;
-    let found = are_distinct(alloc, &places)?;
-    Ok(found)
 }
 
 impl UsedRules {

@@ -4,7 +4,7 @@ use Rattle.nextest_rules.specs.View.{script_rule_view}
 use Rattle.nextest_settings.specs.View.{meant_script_rule}
 use Rattle.rinqebo_origins.specs.RulePlaces.{script_place, place_view}
 use Rattle.rinqebo_rules.proofs.Marked.{map_more, twice}
-use Rattle.rinqebo_rules.proofs.unused.script_rule_places.Goals as goal
+use Rattle.rinqebo_rules.proofs.distinct.script_rule_places.Goals as goal
 
 pub loop-rule-preserved : goal.loop-rule-preserved
 loop-rule-preserved g c =

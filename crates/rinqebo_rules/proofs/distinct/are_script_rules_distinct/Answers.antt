@@ -2,7 +2,7 @@ use Rattle.std.proofs.Common.{◌∙◌, ap, map, subst}
 use Rattle.rinqebo_origins.specs.RulePlaces.{script_place, place_view}
 use Rattle.rinqebo_rules.proofs.OneList.{distinct_made}
 use Rattle.rinqebo_rules.specs.Distinct.{AreDistinct}
-use Rattle.rinqebo_rules.proofs.unused.are_script_rules_distinct.Goals as goal
+use Rattle.rinqebo_rules.proofs.distinct.are_script_rules_distinct.Goals as goal
 
 pub returns : goal.returns
 returns g c = λ known.

@@ -4,7 +4,7 @@ use Rattle.nextest_rules.specs.View.{override_rule_view}
 use Rattle.nextest_settings.specs.View.{meant_override}
 use Rattle.rinqebo_origins.specs.RulePlaces.{id_place, place_view}
 use Rattle.rinqebo_rules.proofs.Marked.{map_more, twice}
-use Rattle.rinqebo_rules.proofs.unused.override_places.Goals as goal
+use Rattle.rinqebo_rules.proofs.distinct.override_places.Goals as goal
 
 pub loop-rule-preserved : goal.loop-rule-preserved
 loop-rule-preserved g c =
