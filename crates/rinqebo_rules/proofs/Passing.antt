@@ -17,7 +17,7 @@ use Rattle.nextest_settings.specs.Settings.{is_set}
 use Rattle.nextest_elements.specs.declared.setting.Setting.{Setting}
 use Rattle.nextest_elements.specs.declared.setting.Setting.TheVariants as at
 use Rattle.rinqebo_rules.specs.Distinct.{AreDistinct}
-use Rattle.rinqebo_rules.specs.Passed.{AreWritten, IsPassed, IsPlaceOf, IsTold, IsToldBy, ids_of, override_in}
+use Rattle.rinqebo_rules.specs.Passed.{AreWritten, IsPassed, IsPlaceOf, IsShown, IsShownBy, ids_of, override_in}
 use Rattle.rinqebo_rules.specs.Unused.{written_at}
 
 first_fails : (a b : Bool) → (a && b) ≡ false → b ≡ true → a ≡ false
@@ -169,16 +169,16 @@ module _ {M W : Type 0} (query : QueryContext M) (wants : W → Bool) (id_of : W
     next = λ distinct rule stands. absurd (omega (arith, past, slice_get_within rules count rule stands));
   }
 
-  -- what is said of a rule that writes something is so
-  pub told_so : (count n : ℕ) (rule : EvaluatedRule M W) (are_distinct : Bool)
+  -- what is shown of a rule that writes something is so
+  pub shown_so : (count n : ℕ) (rule : EvaluatedRule M W) (are_distinct : Bool)
       → slice_get rules n ≡ Some rule → wants rule.writes ≡ true → IsPassed query wants id_of rules count
-      → (IsTrue are_distinct → AreDistinct (ids_of id_of rules)) → (holds : Bool) → IsTold are_distinct n count holds
+      → (IsTrue are_distinct → AreDistinct (ids_of id_of rules)) → (holds : Bool) → IsShown are_distinct n count holds
       → rule_holds query rule ≡ holds
-  told_so count n rule are_distinct stands writes passed distinct false told =
-      first_fails (rule_holds query rule) (wants rule.writes) (passed.before n rule told stands) writes
-  told_so count n rule are_distinct stands writes passed distinct true told =
+  shown_so count n rule are_distinct stands writes passed distinct false shown =
+      first_fails (rule_holds query rule) (wants rule.writes) (passed.before n rule shown stands) writes
+  shown_so count n rule are_distinct stands writes passed distinct true shown =
       first_holds (rule_holds query rule) (wants rule.writes)
-      (passed.next (distinct told.1) rule (subst (λ k. slice_get rules k ≡ Some rule) told.0 stands))
+      (passed.next (distinct shown.1) rule (subst (λ k. slice_get rules k ≡ Some rule) shown.0 stands))
 
 module _ {M : Type 0} (query : QueryContext M) (mode : NextestRunMode)
     (rules : List (EvaluatedRule M (OverrideUse M))) (scripts : List (EvaluatedRule M ScriptRuleUse)) where
@@ -190,7 +190,7 @@ module _ {M : Type 0} (query : QueryContext M) (mode : NextestRunMode)
   no_fallback at.RunWrapper id is = absurd cc
   no_fallback s id is = absurd cc
 
-  -- what an origin says of the override that decides
+  -- what an origin shows of the override that decides
   decided_by : (s : Setting) (id : RuleId) (found : Option (EvaluatedRule M (OverrideUse M)))
       → option_or (option_map (λ r. by_override r.writes.id) found) (fallback_origin s) ≡ Some (by_override id)
       → IsWonBy (λ w. w.id) id found
@@ -273,30 +273,30 @@ written_of mode rules written n rule all stands k s = by_place (slice_get writte
       kept_passes (λ one. is_set rule.writes.settings mode one) settings k s
       (subst (λ ss. slice_get ss k ≡ Some s) are here)
 
--- what the settings that an override writes say of it is so
-pub override_told : {M : Type 0} (query : QueryContext M) (mode : NextestRunMode)
+-- what the settings that an override writes show of it is so
+pub override_shown : {M : Type 0} (query : QueryContext M) (mode : NextestRunMode)
     (rules : List (EvaluatedRule M (OverrideUse M))) (written : List Setting) (n : ℕ) (passed : List ℕ)
     (are_distinct : Bool) (rule : EvaluatedRule M (OverrideUse M)) → slice_get rules n ≡ Some rule
     → ((k : ℕ) (s : Setting) → slice_get written k ≡ Some s → is_set rule.writes.settings mode s ≡ true)
     → AllZip (λ s. IsPassed query (λ w. is_set w.settings mode s) (λ w. w.id) rules) settings passed
     → (IsTrue are_distinct → AreDistinct (ids_of (λ w. w.id) rules)) → (holds : Bool)
-    → IsToldBy written n passed are_distinct holds → rule_holds query rule ≡ holds
-override_told query mode rules written n passed are_distinct rule stands writes all distinct holds told =
-    let s = told.setting in
+    → IsShownBy written n passed are_distinct holds → rule_holds query rule ≡ holds
+override_shown query mode rules written n passed are_distinct rule stands writes all distinct holds shown =
+    let s = shown.setting in
     let P : Setting → ℕ → Type 0 = λ s. IsPassed query (λ w. is_set w.settings mode s) (λ w. w.id) rules in
-    told_so query (λ w. is_set w.settings mode s) (λ w. w.id) rules told.told.count n rule are_distinct stands
-    (writes told.place s told.stands)
-    (zip_at P settings passed (index_of s) s told.told.count all (at_place s) told.told.passes)
-    distinct holds told.told.told
+    shown_so query (λ w. is_set w.settings mode s) (λ w. w.id) rules shown.shown.count n rule are_distinct stands
+    (writes shown.place s shown.stands)
+    (zip_at P settings passed (index_of s) s shown.shown.count all (at_place s) shown.shown.passes)
+    distinct holds shown.shown.shown
 
--- what the run wrapper says of a script rule is so
-pub script_rule_told : {M : Type 0} (query : QueryContext M) (rules : List (EvaluatedRule M ScriptRuleUse))
+-- what the run wrapper shows of a script rule is so
+pub script_rule_shown : {M : Type 0} (query : QueryContext M) (rules : List (EvaluatedRule M ScriptRuleUse))
     (count n : ℕ) (rule : EvaluatedRule M ScriptRuleUse) (are_distinct : Bool) → slice_get rules n ≡ Some rule
     → IsPassed query (λ w. is_some w.scripts.run_wrapper) (λ w. w.id) rules count
-    → (IsTrue are_distinct → AreDistinct (ids_of (λ w. w.id) rules)) → (told : Option Bool)
-    → IfSome told (λ holds. IsTrue (is_some rule.writes.scripts.run_wrapper) × IsTold are_distinct n count holds)
-    → IsKnownFor query rule told
-script_rule_told query rules count n rule are_distinct stands passed distinct None told = tt
-script_rule_told query rules count n rule are_distinct stands passed distinct (Some holds) told =
-    told_so query (λ w. is_some w.scripts.run_wrapper) (λ w. w.id) rules count n rule are_distinct stands
-    told.0 passed distinct holds told.1
+    → (IsTrue are_distinct → AreDistinct (ids_of (λ w. w.id) rules)) → (shown : Option Bool)
+    → IfSome shown (λ holds. IsTrue (is_some rule.writes.scripts.run_wrapper) × IsShown are_distinct n count holds)
+    → IsKnownFor query rule shown
+script_rule_shown query rules count n rule are_distinct stands passed distinct None shown = tt
+script_rule_shown query rules count n rule are_distinct stands passed distinct (Some holds) shown =
+    shown_so query (λ w. is_some w.scripts.run_wrapper) (λ w. w.id) rules count n rule are_distinct stands
+    shown.0 passed distinct holds shown.1

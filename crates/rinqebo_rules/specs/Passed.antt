@@ -46,21 +46,21 @@ AreWritten mode rule written =
 
 -- a number is among the first ones, and so its rule does not hold; or it is the next one, and its
 -- rule holds
-abbrev pub IsTold : (are_distinct : Bool) → (number count : ℕ) → (holds : Bool) → Type 0
-IsTold are_distinct number count false = number < count
-IsTold are_distinct number count true = (number ≡ count) × IsTrue are_distinct
+abbrev pub IsShown : (are_distinct : Bool) → (number count : ℕ) → (holds : Bool) → Type 0
+IsShown are_distinct number count false = number < count
+IsShown are_distinct number count true = (number ≡ count) × IsTrue are_distinct
 
--- a setting says whether the override of a number holds, which writes it
-pub record IsToldAt (setting : Setting) (number : ℕ) (passed : List ℕ) (are_distinct : Bool)
+-- a setting shows whether the override of a number holds, which writes it
+pub record IsShownAt (setting : Setting) (number : ℕ) (passed : List ℕ) (are_distinct : Bool)
     (holds : Bool) : Type 0 where
   pub count : ℕ
   pub passes : slice_get passed (index_of setting) ≡ Some count
-  pub told : IsTold are_distinct number count holds
+  pub shown : IsShown are_distinct number count holds
 
--- some setting that an override writes says whether it holds
-pub record IsToldBy (written : List Setting) (number : ℕ) (passed : List ℕ) (are_distinct : Bool)
+-- some setting that an override writes shows whether it holds
+pub record IsShownBy (written : List Setting) (number : ℕ) (passed : List ℕ) (are_distinct : Bool)
     (holds : Bool) : Type 0 where
   pub place : ℕ
   pub setting : Setting
   pub stands : slice_get written place ≡ Some setting
-  pub told : IsToldAt setting number passed are_distinct holds
+  pub shown : IsShownAt setting number passed are_distinct holds

@@ -1,4 +1,4 @@
-//! What the settings of a test say of overrides: how far the walk over them came for each setting.
+//! What the settings of a test show of overrides: how far the walk over them went for each setting.
 ghost use Rattle.std.specs.Prelude.{◌≡◌, ◌↔◌, ◌≤◌, IfOk, IfSome, IsTrue, filter, length, map, option_map, slice_get};
 ghost use Rattle.std.specs.List.{AllZip};
 ghost use Rattle.nextest_settings.specs.Profiles.SettingsOf.{AreSettingsOf};
@@ -9,7 +9,7 @@ ghost use Rattle.nextest_elements.specs.Settings.{index_of, settings as all_sett
 ghost use Rattle.nextest_settings.specs.Settings.{is_set};
 ghost use Rattle.nextest_settings.specs.SettingsView.{origin_at};
 ghost use Rattle.nextest_settings.specs.View.{meant_override};
-ghost use Rattle.rinqebo_rules.specs.Passed.{AreWritten, IsPassed, IsPlaceOf, IsTold, IsToldAt, IsToldBy, override_in};
+ghost use Rattle.rinqebo_rules.specs.Passed.{AreWritten, IsPassed, IsPlaceOf, IsShown, IsShownAt, IsShownBy, override_in};
 
 use crate::rows::source_of;
 use crate::values::SourcedSettings;
@@ -159,8 +159,8 @@ fn passed_at(passed: &[usize], setting: Setting) -> Option<usize>
 /// What is known of a rule that writes something, if so many of the first rules do not decide that,
 /// and the next one does: the rule does not hold if it is one of them, and holds if it is the next
 /// one. Which one is next is known if no two rules have one id.
-pub(crate) fn told_by(number: usize, passed: usize, are_distinct: bool) -> Option<bool>
-    ensures { IfSome result (IsTold are_distinct number passed) }
+pub(crate) fn shown_by(number: usize, passed: usize, are_distinct: bool) -> Option<bool>
+    ensures { IfSome result (IsShown are_distinct number passed) }
 {
     if number < passed {
         Some(false)
@@ -171,28 +171,28 @@ pub(crate) fn told_by(number: usize, passed: usize, are_distinct: bool) -> Optio
     }
 }
 
-/// What a setting that an override writes says of it.
-fn told_at(setting: Setting, number: usize, passed: &[usize], are_distinct: bool) -> Option<bool>
-    ensures { IfSome result (IsToldAt setting number passed.now are_distinct) }
+/// What a setting that an override writes shows of it.
+fn shown_at(setting: Setting, number: usize, passed: &[usize], are_distinct: bool) -> Option<bool>
+    ensures { IfSome result (IsShownAt setting number passed.now are_distinct) }
 {
     match passed_at(passed, setting) {
-        Some(count) => told_by(number, count, are_distinct),
+        Some(count) => shown_by(number, count, are_distinct),
         None => None,
     }
 }
 
-/// What the settings that an override writes say of it: whether it holds, if the search for what
-/// decides one of them came to it.
-pub(crate) fn told_of(
+/// What the settings that an override writes show of it: whether it holds, if the search for what
+/// decides one of them reached it.
+pub(crate) fn shown_of(
     written: &[Setting],
     number: usize,
     passed: &[usize],
     are_distinct: bool,
 ) -> Option<bool>
-    ensures { IfSome result (IsToldBy written.now number passed.now are_distinct) }
+    ensures { IfSome result (IsShownBy written.now number passed.now are_distinct) }
 {
     for setting in written {
-        if let Some(holds) = told_at(*setting, number, passed, are_distinct) {
+        if let Some(holds) = shown_at(*setting, number, passed, are_distinct) {
             return Some(holds);
         }
     }

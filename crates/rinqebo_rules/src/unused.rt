@@ -14,14 +14,14 @@ ghost use Rattle.nextest_settings.specs.View.{meant_override, meant_script_rule}
 ghost use Rattle.rinqebo_rules.specs.BinaryRules.{AreAnswersAt, AreKnownIn, known_overrides, known_script_rules};
 ghost use Rattle.nextest_settings.specs.Settings.{is_set};
 ghost use Rattle.rinqebo_rules.specs.Distinct.{AreDistinct};
-ghost use Rattle.rinqebo_rules.specs.Passed.{AreWritten, IsPassed, IsToldBy, ids_of};
+ghost use Rattle.rinqebo_rules.specs.Passed.{AreWritten, IsPassed, IsShownBy, ids_of};
 ghost use Rattle.rinqebo_rules.specs.Unused.{AreUsedIn, AreUnusedIn, is_used, unused_among, written_at};
 
 use crate::distinct::{are_overrides_distinct, are_script_rules_distinct};
 use crate::holds::{override_holds, script_rule_holds};
-use crate::passed::{all_written, passed_in, told_of};
+use crate::passed::{all_written, passed_in, shown_of};
 use crate::values::SourcedSettings;
-use crate::wrapping::{passed_for_wrapper, told_of_script};
+use crate::wrapping::{passed_for_wrapper, shown_of_script};
 use nextest_elements::{NextestRunMode, Setting};
 use nextest_engines::{EvalContext, Filters, Specs, TestQuery};
 use nextest_rules::{OverrideId, ScriptRuleId};
@@ -92,9 +92,9 @@ fn known_at(known: &[Option<bool>], number: usize) -> Option<bool>
     known.get(number).copied().flatten()
 }
 
-/// Whether an override holds of which the binary of a test does not decide it. It is evaluated
-/// only if the settings of the test do not say whether it holds: then their search did not evaluate
-/// it.
+/// Whether an override holds that the binary of a test leaves open. It is evaluated only if the
+/// settings of the test do not show whether it holds: then the search for them did not evaluate it,
+/// if overrides are distinct.
 fn open_override_holds<F: Filters, S: Specs>(
     rule: &EvaluatedOverride<'_, F, S>,
     number: usize,
@@ -107,17 +107,17 @@ fn open_override_holds<F: Filters, S: Specs>(
 ) -> bool
     ensures { let query = test_query_by F.Filters cx.now.default_filter.now query.now in
         let rule = meant_override F.meaning rule.now in
-        ((holds : Bool) → IsToldBy written.now number passed.now are_distinct holds
+        ((holds : Bool) → IsShownBy written.now number passed.now are_distinct holds
         → rule_holds query rule ≡ holds) → result ≡ rule_holds query rule }
 {
-    match told_of(written, number, passed, are_distinct) {
+    match shown_of(written, number, passed, are_distinct) {
         Some(holds) => holds,
         None => override_holds(rule, number, query, cx, tally),
     }
 }
 
 /// Whether an override holds for some of the tests, after one more. It is evaluated only if it
-/// held for none so far, and neither the binary nor the settings of the test say whether it holds.
+/// held for none so far, and neither the binary nor the settings of the test show whether it holds.
 fn is_override_used<F: Filters, S: Specs>(
     rule: &EvaluatedOverride<'_, F, S>,
     number: usize,
@@ -133,7 +133,7 @@ fn is_override_used<F: Filters, S: Specs>(
     ensures { let query = test_query_by F.Filters cx.now.default_filter.now query.now in
         let rule = meant_override F.meaning rule.now in
         IsKnownFor query rule known
-        → ((holds : Bool) → IsToldBy written.now number passed.now are_distinct holds
+        → ((holds : Bool) → IsShownBy written.now number passed.now are_distinct holds
         → rule_holds query rule ≡ holds) → result ≡ (held || rule_holds query rule) }
 {
     match known {
@@ -197,48 +197,48 @@ fn mark_overrides<F: Filters, S: Specs>(
     }
 }
 
-/// Whether a script rule holds of which the binary of a test does not decide it. It is evaluated
-/// only if the run wrapper of the test does not say whether it holds: then the search for it did
-/// not evaluate the rule.
+/// Whether a script rule holds that the binary of a test leaves open. It is evaluated only if the
+/// run wrapper of the test does not show whether it holds: then the search for the wrapper did not
+/// evaluate it, if script rules are distinct.
 fn open_script_rule_holds<F: Filters, S: Specs>(
     rule: &EvaluatedScriptRule<'_, F, S>,
     number: usize,
-    told: Option<bool>,
+    shown: Option<bool>,
     query: &TestQuery<'_>,
     cx: &EvalContext<'_, F::Expr>,
     tally: &mut F::Tally,
 ) -> bool
     ensures { let query = test_query_by F.Filters cx.now.default_filter.now query.now in
         let rule = meant_script_rule F.meaning rule.now in
-        IsKnownFor query rule told → result ≡ rule_holds query rule }
+        IsKnownFor query rule shown → result ≡ rule_holds query rule }
 {
-    match told {
+    match shown {
         Some(holds) => holds,
         None => script_rule_holds(rule, number, query, cx, tally),
     }
 }
 
 /// Whether a script rule holds for some of the tests, after one more. It is evaluated only if it
-/// held for none so far, and neither the binary nor the run wrapper of the test says whether it
+/// held for none so far, and neither the binary nor the run wrapper of the test shows whether it
 /// holds.
 fn is_script_rule_used<F: Filters, S: Specs>(
     rule: &EvaluatedScriptRule<'_, F, S>,
     number: usize,
     held: bool,
     known: Option<bool>,
-    told: Option<bool>,
+    shown: Option<bool>,
     query: &TestQuery<'_>,
     cx: &EvalContext<'_, F::Expr>,
     tally: &mut F::Tally,
 ) -> bool
     ensures { let query = test_query_by F.Filters cx.now.default_filter.now query.now in
         let rule = meant_script_rule F.meaning rule.now in
-        IsKnownFor query rule known → IsKnownFor query rule told
+        IsKnownFor query rule known → IsKnownFor query rule shown
         → result ≡ (held || rule_holds query rule) }
 {
     match known {
         Some(holds) => held || holds,
-        None => held || open_script_rule_holds(rule, number, told, query, cx, tally),
+        None => held || open_script_rule_holds(rule, number, shown, query, cx, tally),
     }
 }
 
@@ -266,13 +266,13 @@ fn mark_script_rules<F: Filters, S: Specs>(
     for (number, rule) in rules.iter().enumerate() {
         let held = is_marked(used, number);
         let holds = known_at(known, number);
-        let told = told_of_script(rule, number, passed, are_distinct);
+        let shown = shown_of_script(rule, number, passed, are_distinct);
         let is_used = is_script_rule_used(
             rule,
             first + number,
             held,
             holds,
-            told,
+            shown,
             query,
             cx,
             tally,
@@ -365,7 +365,9 @@ impl UsedRules {
     /// rules, if that is known. It takes no memory.
     ///
     /// A filter is evaluated only if its rule held for none of the tests so far, the binary leaves
-    /// it open, and the search for the settings did not evaluate it for this test.
+    /// it open, and the search for the settings did not evaluate it for this test. (If two rules of a
+    /// kind have one id, which those of a profile have not, those that decide may be evaluated
+    /// again.)
     pub(crate) fn add<'c, F: Filters, S: Specs>(
         &mut self,
         profile: &EvaluatableProfile<'c, F, S>,

@@ -1,4 +1,4 @@
-//! What the run wrapper of a test says of script rules: how far the search for it came.
+//! What the run wrapper of a test shows of script rules: how far the search for it went.
 ghost use Rattle.std.specs.Prelude.{◌≡◌, ◌↔◌, ◌≤◌, IfSome, IsTrue, is_some, length, map};
 ghost use Rattle.nextest_settings.specs.Profiles.SettingsOf.{AreSettingsOf};
 ghost use Rattle.nextest_rules.specs.View.{script_rule_id_view};
@@ -6,9 +6,9 @@ ghost use Rattle.nextest_elements.specs.declared.run_mode.NextestRunMode.{Nextes
 ghost use Rattle.nextest_settings.specs.Deciding.{QueryContext};
 ghost use Rattle.nextest_settings.specs.Profile.{EvaluatableModel};
 ghost use Rattle.nextest_settings.specs.View.{meant_script_rule};
-ghost use Rattle.rinqebo_rules.specs.Passed.{IsPassed, IsPlaceOf, IsTold};
+ghost use Rattle.rinqebo_rules.specs.Passed.{IsPassed, IsPlaceOf, IsShown};
 
-use crate::passed::told_by;
+use crate::passed::shown_by;
 use crate::rows::wrapping_rule;
 use crate::values::SourcedSettings;
 use nextest_engines::{Filters, Specs};
@@ -68,9 +68,9 @@ fn names_run_wrapper<F: Filters, S: Specs>(rule: &EvaluatedScriptRule<'_, F, S>)
     rule.rule().run_wrapper().is_some()
 }
 
-/// What the run wrapper of a test says of a script rule: whether it holds, if it names one and the
-/// search for that of the test came to it.
-pub(crate) fn told_of_script<F: Filters, S: Specs>(
+/// What the run wrapper of a test shows of a script rule: whether it holds, if it names one and the
+/// search for that of the test reached it.
+pub(crate) fn shown_of_script<F: Filters, S: Specs>(
     rule: &EvaluatedScriptRule<'_, F, S>,
     number: usize,
     passed: usize,
@@ -78,10 +78,10 @@ pub(crate) fn told_of_script<F: Filters, S: Specs>(
 ) -> Option<bool>
     ensures { IfSome result (λ holds.
         IsTrue (is_some (meant_script_rule F.meaning rule.now).writes.scripts.run_wrapper)
-        × IsTold are_distinct number passed holds) }
+        × IsShown are_distinct number passed holds) }
 {
     if names_run_wrapper(rule) {
-        told_by(number, passed, are_distinct)
+        shown_by(number, passed, are_distinct)
     } else {
         None
     }

@@ -5,9 +5,9 @@ use Rattle.nextest_settings.specs.Deciding.{rule_holds}
 use Rattle.nextest_settings.specs.Engines.{test_query_by}
 use Rattle.nextest_settings.specs.View.{meant_override}
 use Rattle.rinqebo_rules.proofs.Marked.{mapped_at, marks_more}
-use Rattle.rinqebo_rules.proofs.Passing.{override_told, written_of}
+use Rattle.rinqebo_rules.proofs.Passing.{override_shown, written_of}
 use Rattle.rinqebo_rules.proofs.SetMarks.{all_set}
-use Rattle.rinqebo_rules.specs.Passed.{IsToldBy}
+use Rattle.rinqebo_rules.specs.Passed.{IsShownBy}
 use Rattle.rinqebo_rules.specs.Unused.{is_used}
 use Rattle.rinqebo_rules.proofs.unused.mark_overrides.Goals as goal
 
@@ -29,11 +29,11 @@ loop-number-preserved g c = λ mode writes passed distinct known tests are.
     marks_more tests rules n rule query stands c.loop-number.used _ _
     (c.loop-number.invariant mode writes passed distinct known tests are)
     (c.is_override_used-is_used.ensures known_here
-    (λ holds told. override_told query mode rules c.written_at-settings.result.now n c.args.passed.now
+    (λ holds shown. override_shown query mode rules c.written_at-settings.result.now n c.args.passed.now
     c.args.are_distinct rule stands
     (λ k s here. written_of mode rules c.args.written.now n rule writes stands k s
     (subst (λ ss. slice_get ss k ≡ Some s) c.written_at-settings.ensures here))
-    passed distinct holds told)
+    passed distinct holds shown)
     ∙ ap (λ b. b || rule_holds query rule) c.is_marked-held.ensures)
     c.set_mark.ensures
 

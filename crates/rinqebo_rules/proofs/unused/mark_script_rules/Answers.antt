@@ -5,7 +5,7 @@ use Rattle.nextest_settings.specs.Deciding.{rule_holds}
 use Rattle.nextest_settings.specs.Engines.{test_query_by}
 use Rattle.nextest_settings.specs.View.{meant_script_rule}
 use Rattle.rinqebo_rules.proofs.Marked.{mapped_at, marks_more}
-use Rattle.rinqebo_rules.proofs.Passing.{script_rule_told}
+use Rattle.rinqebo_rules.proofs.Passing.{script_rule_shown}
 use Rattle.rinqebo_rules.proofs.SetMarks.{all_set}
 use Rattle.rinqebo_rules.specs.Unused.{is_used}
 use Rattle.rinqebo_rules.proofs.unused.mark_script_rules.Goals as goal
@@ -28,8 +28,8 @@ loop-number-preserved g c = λ passed distinct known tests are.
     marks_more tests rules n rule query stands c.loop-number.used _ _
     (c.loop-number.invariant passed distinct known tests are)
     (c.is_script_rule_used-is_used.ensures known_here
-    (script_rule_told query rules c.args.passed n rule c.args.are_distinct stands passed distinct
-    c.told_of_script-told.result c.told_of_script-told.ensures)
+    (script_rule_shown query rules c.args.passed n rule c.args.are_distinct stands passed distinct
+    c.shown_of_script-shown.result c.shown_of_script-shown.ensures)
     ∙ ap (λ b. b || rule_holds query rule) c.is_marked-held.ensures)
     c.set_mark.ensures
 
