@@ -15,8 +15,8 @@ use Rattle.rinqebo_rules.specs.Distinct.{AreDistinct}
 abbrev pub ids_of : {M W : Type 0} → (W → RuleId) → List (EvaluatedRule M W) → List RuleId
 ids_of id_of rules = map (λ r. id_of r.writes) rules
 
--- A place is that of the first rule of an id: none of the rules before it has the id, and the one at
--- it has, if there is one.
+-- A place is that of the first rule of an id: none of the rules before it has the id, and the one
+-- at it has, if there is one.
 pub record IsPlaceOf {M W : Type 0} (id_of : W → RuleId) (id : RuleId) (place : ℕ)
     (rules : List (EvaluatedRule M W)) : Type 0 where
   pub before : (n : ℕ) (rule : EvaluatedRule M W) → n < place → slice_get rules n ≡ Some rule

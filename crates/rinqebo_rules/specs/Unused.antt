@@ -41,9 +41,9 @@ abbrev pub written_at : List (Vec Setting Global) → ℕ → List Setting
 written_at written number =
     unwrap_or (option_map (λ settings. settings.items) (slice_get written number)) []
 
--- Rules of a profile are marked by whether they hold for some of the tests; of each override the
--- settings are known that it writes in a mode, and of the rules of each kind, whether no two of them
--- have one id.
+-- Rules of a profile are marked by whether they hold for some of the tests. The settings are known
+-- that each override writes in a mode, and of the rules of each kind, whether no two of them have
+-- one id.
 pub record AreUsedIn {M : Type 0} (tests : List (QueryContext M)) (mode : NextestRunMode)
     (profile : EvaluatableModel M) (used : UsedRules) : Type 0 where
   pub overrides : used.overrides.items ≡ map (is_used tests) profile.overrides

@@ -70,7 +70,8 @@ fn passed_for<'c, F: Filters, S: Specs>(
         (profile : EvaluatableModel F.Meaning)
         → profile.overrides ≡ map (meant_override F.meaning) rules.now
         → AreSettingsOf F.meaning query mode profile settings.now
-        → IsPassed query (λ w. is_set w.settings mode setting) (λ w. w.id) profile.overrides result }
+        → IsPassed query (λ w. is_set w.settings mode setting) (λ w. w.id) profile.overrides
+        result }
 {
     match deciding_id(settings, setting) {
         Some(id) => place_of_id(rules, id),

@@ -365,8 +365,8 @@ impl UsedRules {
     /// rules, if that is known. It takes no memory.
     ///
     /// A filter is evaluated only if its rule held for none of the tests so far, the binary leaves
-    /// it open, and the search for the settings did not evaluate it for this test. (If two rules of a
-    /// kind have one id, which those of a profile have not, those that decide may be evaluated
+    /// it open, and the search for the settings did not evaluate it for this test. (If two rules of
+    /// a kind had one id, which those of a profile do not have, those that decide might be evaluated
     /// again.)
     pub(crate) fn add<'c, F: Filters, S: Specs>(
         &mut self,
