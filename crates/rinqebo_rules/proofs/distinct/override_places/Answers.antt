@@ -13,7 +13,7 @@ loop-rule-preserved g c =
     ap (map place_view) c.in_ok-push.ensures.items ∙ map-append place_view c.loop-rule.places.items (_ ∷ [])
     ∙ ap (λ ps. ps ++ place_view c.of_override.result ∷ []) c.loop-rule.invariant
     ∙ ap (λ p. map made _ ++ p ∷ [])
-    (c.of_override.ensures ∙ ap id_place (c.id.ensures ∙ ap (λ r. (override_rule_view r.now).writes.id) c.rule-2.ensures))
+    (c.of_override.ensures ∙ ap id_place (c.id.ensures ∙ ap (λ r. (override_rule_view r.now).writes.id) c.rule.ensures))
     ∙ map_more made c.args.rules.now c.loop-rule.rule-index _ _ c.loop-rule-test.true c.rule-item.is
 
 pub returns : goal.returns
