@@ -16,6 +16,14 @@ map_more f xs i x d below same =
     sym (map-append f (take i xs) (x ∷ []))
     ∙ ap (map f) (ap (λ z. take i xs ++ z ∷ []) same ∙ sym (take_more xs i d below))
 
+-- what is shown of the elements so far, and of one more that is put behind
+pub shown_more : {A P V : Type 0} (view : P → V) (f : A → V) (xs : List A) (i : ℕ) (x d : A) (old new : List P) (p : P)
+    → i < length xs → x ≡ get_or xs i d → map view old ≡ map f (take i xs) → new ≡ old ++ p ∷ [] → view p ≡ f x
+    → map view new ≡ map f (take (i + 1) xs)
+shown_more view f xs i x d old new p below same so_far put is =
+    ap (map view) put ∙ map-append view old (p ∷ []) ∙ ap (λ vs. vs ++ view p ∷ []) so_far
+    ∙ ap (λ v. map f (take i xs) ++ v ∷ []) is ∙ map_more f xs i x d below same
+
 -- what is made in three steps
 pub twice : {A B C D : Type 0} (h : C → D) (g : B → C) (f : A → B) (xs : List A)
     → map (λ x. h (g (f x))) xs ≡ map h (map g (map f xs))
