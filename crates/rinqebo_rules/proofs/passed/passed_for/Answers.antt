@@ -1,4 +1,4 @@
-use Rattle.std.proofs.Common.{◌∙◌, ap, arith, subst, sym}
+use Rattle.std.proofs.Common.{◌∙◌, ◌≤◌, ap, arith, length, subst, sym}
 use Rattle.std.proofs.lemmas.List.{length-map}
 use Rattle.nextest_rules.specs.View.{id_view}
 use Rattle.nextest_settings.specs.View.{meant_override}
@@ -16,6 +16,6 @@ returns-in-Some g c = λ query mode profile same are.
 pub returns-in-None : goal.returns-in-None
 returns-in-None g c = λ query mode profile same are.
     let count = length-map c.args.rules.now (meant_override g.F.Filters.meaning) in
-    setting_undecided query mode profile.overrides profile.script_rules c.args.setting _
-    (rw same (omega (arith, count)))
+    setting_undecided query mode profile.overrides profile.script_rules c.args.setting (length c.args.rules.now)
+    (subst (λ rules. length rules ≤ length c.args.rules.now) (sym same) (omega (arith, count)))
     (ap override_in (sym (are.origins c.args.setting)) ∙ sym c.in-None.ensures)

@@ -1,4 +1,4 @@
-use Rattle.std.proofs.Common.{◌≡◌, ◌∙◌, ◌++◌, ◌∷◌, ◌||◌, [], Some, ap, length, map, slice_get, subst, sym}
+use Rattle.std.proofs.Common.{◌≡◌, ◌∙◌, ◌++◌, ◌∷◌, ◌||◌, [], Some, ap, arith, map, slice_get, subst, sym}
 use Rattle.std.proofs.lemmas.List.{length-map}
 use Rattle.nextest_settings.specs.Binaries.{IsKnownFor}
 use Rattle.nextest_settings.specs.Deciding.{rule_holds}
@@ -44,4 +44,4 @@ returns g c = λ mode writes passed distinct known tests are.
     let rules = map (meant_override F.meaning) c.args.rules.now in
     c.loop-number.invariant mode writes passed distinct known tests are
     ∙ all_set (is_used (tests ++ query ∷ [])) (is_used tests) rules c.loop-number.number
-    (rw length-map c.args.rules.now (meant_override F.meaning) c.loop-number-test.false)
+    (omega (arith, c.loop-number-test.false, length-map c.args.rules.now (meant_override F.meaning)))

@@ -1,4 +1,4 @@
-use Rattle.std.proofs.Common.{◌∙◌, ap, arith, option_map, subst, sym}
+use Rattle.std.proofs.Common.{◌∙◌, ◌≤◌, ap, arith, length, option_map, subst, sym}
 use Rattle.std.proofs.lemmas.List.{length-map}
 use Rattle.nextest_rules.specs.View.{script_rule_id_view}
 use Rattle.nextest_settings.specs.View.{meant_script_rule}
@@ -16,5 +16,6 @@ returns-in-Some g c = λ query mode profile same are.
 pub returns-in-None : goal.returns-in-None
 returns-in-None g c = λ query mode profile same are.
     let count = length-map c.args.rules.now (meant_script_rule g.F.Filters.meaning) in
-    wrapper_unnamed query profile.script_rules _ (rw same (omega (arith, count)))
+    wrapper_unnamed query profile.script_rules (length c.args.rules.now)
+    (subst (λ rules. length rules ≤ length c.args.rules.now) (sym same) (omega (arith, count)))
     (ap (option_map (λ uses. uses.id)) (sym are.script_rule) ∙ sym c.in-None.ensures)
