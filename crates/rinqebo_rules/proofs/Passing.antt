@@ -1,5 +1,5 @@
 -- Rules that hold for a test, or do not, by what decides its settings.
-use Rattle.std.proofs.Common.{◌≡◌, ◌≢◌, ◌∙◌, ◌≤◌, ◌<◌, ◌+◌, ◌&&◌, ◌⊎◌, inl, inr, ap, arith, ℕ, List, Bool, IsTrue, true, false, Option, None, Some, Vec, Global, cond, unwrap_or, [], ◌∷◌, zero, suc, IfSome, filter, find, is_some, length, map, not, slice_get, option_and_then, option_map, refl, sym, subst, lt_of_lt_of_le}
+use Rattle.std.proofs.Common.{◌≡◌, ◌≢◌, ◌∙◌, ◌≤◌, ◌<◌, ◌+◌, ◌&&◌, inl, inr, ap, arith, ℕ, List, Bool, IsTrue, true, false, Option, None, Some, Vec, Global, cond, unwrap_or, [], ◌∷◌, zero, suc, IfSome, filter, find, is_some, length, not, slice_get, option_map, refl, sym, subst, lt_of_lt_of_le}
 use Rattle.std.proofs.lemmas.Bool.{cases_lt}
 use Rattle.std.proofs.lemmas.Option.{same_Some, slice_get-map, slice_get_within}
 use Rattle.std.specs.List.{AllZip}

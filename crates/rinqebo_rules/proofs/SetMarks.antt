@@ -1,5 +1,6 @@
 -- Marks that are set one after another, in place.
-use Rattle.std.proofs.Common.{◌≡◌, ◌∙◌, ◌+◌, ◌++◌, ◌∷◌, [], ◌≤◌, ◌<◌, ℕ, zero, suc, List, Some, None, ap, arith, drop, get_or, length, map, refl, slice_get, slice_set, subst, take}
+use Rattle.std.proofs.Common.{◌≡◌, ◌∙◌, ◌+◌, ◌++◌, ◌∷◌, [], ◌≤◌, ◌<◌, ℕ, zero, suc, List, Some, ap, arith, drop, get_or, length, map, refl, slice_get, slice_set, subst, sym, take}
+use Rattle.std.proofs.Math.Seq.{take-append_seam}
 use Rattle.std.specs.List.{AllZip}
 
 -- the list whose first elements are made by f, and the others by g
@@ -55,3 +56,7 @@ pub length_set : {A : Type 0} (xs : List A) (n : ℕ) (x : A) → length (slice_
 length_set [] n x = refl
 length_set (y ∷ ys) zero x = refl
 length_set (y ∷ ys) (suc n) x = ap suc (length_set ys n x)
+
+-- a list that is put in front is taken back
+pub taken_back : {A : Type 0} (front rest : List A) (n : ℕ) → length front ≡ n → take n (front ++ rest) ≡ front
+taken_back front rest n is = ap (λ k. take k (front ++ rest)) (sym is) ∙ take-append_seam front rest

@@ -1,7 +1,6 @@
 use Rattle.std.proofs.Common.{◌≡◌, map, take}
 use Rattle.nextest_settings.specs.View.{meant_override}
 use Rattle.rinqebo_origins.specs.RulePlaces.{id_place, place_view}
-use Rattle.rinqebo_rules.specs.Passed.{ids_of}
 use Rattle.rinqebo_rules.proofs.distinct.override_places.Given as goal
 
 -- the places of the overrides so far

@@ -1,7 +1,6 @@
 use Rattle.std.proofs.Common.{◌≡◌, map, take}
 use Rattle.nextest_settings.specs.View.{meant_script_rule}
 use Rattle.rinqebo_origins.specs.RulePlaces.{script_place, place_view}
-use Rattle.rinqebo_rules.specs.Passed.{ids_of}
 use Rattle.rinqebo_rules.proofs.distinct.script_rule_places.Given as goal
 
 -- the places of the script rules so far

@@ -7,7 +7,6 @@ use Rattle.nextest_settings.specs.View.{meant_override}
 use Rattle.rinqebo_rules.proofs.Marked.{mapped_at, marks_more}
 use Rattle.rinqebo_rules.proofs.Passing.{override_shown, written_of}
 use Rattle.rinqebo_rules.proofs.SetMarks.{all_set}
-use Rattle.rinqebo_rules.specs.Passed.{IsShownBy}
 use Rattle.rinqebo_rules.specs.Unused.{is_used}
 use Rattle.rinqebo_rules.proofs.unused.mark_overrides.Goals as goal
 

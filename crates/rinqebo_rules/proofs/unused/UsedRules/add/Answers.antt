@@ -10,6 +10,7 @@ use Rattle.rinqebo_rules.proofs.BinaryRules.{overrides_known, script_rules_known
 use Rattle.rinqebo_rules.proofs.Marked.{marks_alike}
 use Rattle.rinqebo_rules.proofs.NoneHold.{meant_overrides}
 use Rattle.rinqebo_rules.proofs.ScriptRules.{meant_scripts}
+use Rattle.rinqebo_rules.proofs.SetMarks.{taken_back}
 use Rattle.rinqebo_rules.specs.BinaryRules.{AreKnownIn}
 use Rattle.rinqebo_rules.specs.Distinct.{AreDistinct}
 use Rattle.rinqebo_rules.specs.Passed.{AreWritten, IsPassed, ids_of}
@@ -45,7 +46,7 @@ returns g c = λ tests mode decided of_profile are.
     let are_distinct = c.args.self.now.are_overrides_distinct in
     let are_scripts_distinct = c.args.self.now.are_script_rules_distinct in
     record {
-      overrides = marks_alike (λ q rules. AllZip (AreWritten mode) rules written
+      overrides = taken_back after _ _ (c.mark_overrides.auto.used ∙ c.deref_mut.ensures.len) ∙ marks_alike (λ q rules. AllZip (AreWritten mode) rules written
           → AllZip (λ s. IsPassed q (λ w. is_set w.settings mode s) (λ w. w.id) rules) settings passed
           → (IsTrue are_distinct → AreDistinct (ids_of (λ w. w.id) rules)) → AreKnownIn q rules known
           → used ≡ map (is_used tests) rules
@@ -58,7 +59,7 @@ returns g c = λ tests mode decided of_profile are.
           (subst (AreKnownIn query meaning.overrides) (sym c.override_answers.ensures)
           (overrides_known F.holds F.holds_binary speak meaning test c.args.answers decided))
           (c.deref_mut.ensures.value ∙ are.overrides);
-      script_rules = marks_alike (λ q rules. IsPassed q (λ w. is_some w.scripts.run_wrapper) (λ w. w.id) rules count
+      script_rules = taken_back after_scripts _ _ (c.mark_script_rules.auto.used ∙ c.deref_mut-2.ensures.len) ∙ marks_alike (λ q rules. IsPassed q (λ w. is_some w.scripts.run_wrapper) (λ w. w.id) rules count
           → (IsTrue are_scripts_distinct → AreDistinct (ids_of (λ w. w.id) rules))
           → AreKnownIn q rules known_scripts → used_scripts ≡ map (is_used tests) rules
           → after_scripts ≡ map (is_used (tests ++ q ∷ [])) rules) _ query _ meaning.script_rules same_query scripts

@@ -1,7 +1,7 @@
 use Rattle.std.proofs.Common.{◌∙◌, [], false, ap, map, replicate, subst, sym}
 use Rattle.std.proofs.lemmas.List.{length-map}
 use Rattle.std.specs.List.{AllZip}
-use Rattle.nextest_settings.specs.View.{evaluated_override_view, evaluated_script_rule_view, meant_override, meant_script_rule}
+use Rattle.nextest_settings.specs.View.{meant_override, meant_script_rule}
 use Rattle.rinqebo_rules.proofs.Marked.{none_used}
 use Rattle.rinqebo_rules.proofs.NoneHold.{meant_overrides}
 use Rattle.rinqebo_rules.proofs.ScriptRules.{meant_scripts}
