@@ -1,49 +1,45 @@
 -- Nothing changes between rows that are one by one alike.
-use Rattle.std.proofs.Common.{◌≡◌, ◌∙◌, ℕ, ◌+◌, ◌<◌, ◌||◌, Bool, true, false, cond, not, List, [], ◌∷◌, ◌++◌, option_map, length, length-append, map, refl, sym, ap, subst, arith, bytes_eq, string_bytes}
+use Rattle.std.proofs.Common.{◌≡◌, ◌∙◌, ℕ, ◌+◌, ◌<◌, Bool, true, false, cond, List, [], ◌∷◌, ◌++◌, option_map, length, length-append, map, refl, sym, ap, subst, arith, bytes_eq, string_bytes}
 use Rattle.std.proofs.lemmas.List.{append-nil}
 use Rattle.std.proofs.lemmas.List.Elements.{filter-append}
 use Rattle.std.specs.List.{All, AllZip}
-use Rattle.std.specs.Option.{option_eq}
 use Rattle.rinqebo_report.specs.declared.origin.Source.{Source}
 use Rattle.rinqebo_report.specs.declared.report.SettingRow.{SettingRow}
 use Rattle.rinqebo_changes.specs.Changes.{change_of, changed_rows, is_change, side_row}
 use Rattle.rinqebo_changes.specs.Keyed.{is_of, has_key, rows_of, HaveSameKey, AreAligned, AreAlike, AreKeyedChanges}
-use Rattle.rinqebo_changes.specs.Same.{same_value}
 use Rattle.rinqebo_changes.specs.ValueViews.{value_view}
 use Rattle.rinqebo_changes.specs.declared.change.RowChange.{RowChange}
 use Rattle.rinqebo_changes.specs.declared.change.SideRow.{SideRow}
 use Rattle.rinqebo_changes.proofs.Exactly.{changed_from}
 use Rattle.rinqebo_changes.proofs.KeyedOrders.{none_of, of_its_key}
-use Rattle.rinqebo_changes.proofs.SameValues.{setting_decides}
+use Rattle.rinqebo_changes.proofs.LikeSources.{unchanged}
 
 -- Two rows have the same value.
 pub record HaveSameValue (a b : SideRow) : Type 0 where
   pub same : option_map value_view a.row.value ≡ option_map value_view b.row.value
 
--- a row does not change whose values are the same, where origins do not count
-no_change : (p : Bool) → p ≡ true → (not p || false) ≡ false
-no_change p h = rw h
-
--- a row whose value stays does not change
+-- a row whose value stays does not change, where origins do not count
 stays : (from to : List Source) (a b : SideRow) → HaveSameValue a b → is_change from to false a b ≡ false
-stays from to a b alike =
-    no_change (option_eq same_value a.row.value b.row.value)
-    ((setting_decides a.row.value b.row.value).1 alike.same)
+stays from to a b alike = unchanged from to false a b alike.same (λ e. absurd (cc))
 
-none_from : (from to : List Source) (n : ℕ) (xs ys : List SideRow) → AllZip HaveSameValue xs ys
-    → changed_from (is_change from to false) n xs ys ≡ []
-none_from from to n [] [] all = refl
-none_from from to n [] (y ∷ ys) all = absurd all
-none_from from to n (x ∷ xs) [] all = absurd all
-none_from from to n (x ∷ xs) (y ∷ ys) all =
-    let rest = changed_from (is_change from to false) (n + 1) xs ys in
-    ap (λ q. cond q (change_of (n, (x, y)) ∷ rest) rest) (stays from to x y all.0)
-    ∙ none_from from to (n + 1) xs ys all.1
+module _ (test : SideRow → SideRow → Bool) (Alike : SideRow → SideRow → Type 0)
+    (same : (a b : SideRow) → Alike a b → test a b ≡ false) where
+  none_from : (n : ℕ) (xs ys : List SideRow) → AllZip Alike xs ys → changed_from test n xs ys ≡ []
+  none_from n [] [] all = refl
+  none_from n [] (y ∷ ys) all = absurd all
+  none_from n (x ∷ xs) [] all = absurd all
+  none_from n (x ∷ xs) (y ∷ ys) all =
+      let rest = changed_from test (n + 1) xs ys in
+      ap (λ q. cond q (change_of (n, (x, y)) ∷ rest) rest) (same x y all.0) ∙ none_from (n + 1) xs ys all.1
+
+  -- rows that are one by one alike do not change
+  pub none_differ : (xs ys : List SideRow) → AllZip Alike xs ys → changed_rows test xs ys ≡ []
+  none_differ xs ys all = none_from 0 xs ys all
 
 -- rows that have one by one the same values do not change
 pub none_change : (from to : List Source) (xs ys : List SideRow) → AllZip HaveSameValue xs ys
     → changed_rows (is_change from to false) xs ys ≡ []
-none_change from to xs ys all = none_from from to 0 xs ys all
+none_change from to xs ys all = none_differ (is_change from to false) HaveSameValue (stays from to) xs ys all
 
 -- rows of the same keys
 keys_of : (xs ys : List SettingRow) → AllZip AreAlike xs ys → AllZip HaveSameKey xs ys

@@ -1,5 +1,5 @@
 -- Laws of what changes.
-use Rattle.std.specs.Prelude.{◌≡◌, ℕ, ◌<◌, Bool, true, List, [], ◌∷◌, Some, map, flat_map, slice_get}
+use Rattle.std.specs.Prelude.{◌≡◌, ◌≢◌, ◌⊎◌, ℕ, ◌<◌, Bool, true, List, [], ◌∷◌, Some, map, option_map, flat_map, slice_get}
 use Rattle.std.specs.List.{AllByRecursion}
 use Rattle.std.specs.List.Sorted.{IsPermutation}
 use Rattle.rinqebo_report.specs.declared.origin.Source.{Source}
@@ -9,6 +9,15 @@ use Rattle.rinqebo_changes.specs.declared.classes.ClassRule.{ClassRule}
 use Rattle.rinqebo_changes.specs.declared.classes.Item.{Item}
 use Rattle.rinqebo_changes.specs.Changes.{changed_rows, is_change}
 use Rattle.rinqebo_changes.specs.Classes.{same_item}
+use Rattle.rinqebo_changes.specs.SourceViews.{source_view}
+use Rattle.rinqebo_changes.specs.ValueViews.{value_view}
+
+-- a setting changes between two rows, by the sources of their sides: its value does, or, if that
+-- counts, what the value comes from
+abbrev pub Changes : List Source → List Source → Bool → SideRow → SideRow → Type 0
+Changes from to with_origins left right =
+    (option_map value_view left.row.value ≢ option_map value_view right.row.value)
+    ⊎ ((with_origins ≡ true) × (source_view from left ≢ source_view to right))
 
 -- A change is one of some changes.
 pub record IsOneOf (changes : List RowChange) (change : RowChange) : Type 0 where

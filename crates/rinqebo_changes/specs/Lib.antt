@@ -2,6 +2,7 @@ pub mod Same
 pub mod ValueViews
 pub mod SameOrigin
 pub mod OriginViews
+pub mod SourceViews
 pub mod Changes
 pub mod Diffs
 pub mod Classes

@@ -17,15 +17,17 @@ ghost use Rattle.rinqebo_changes.specs.Changes.{is_change};
 ghost use Rattle.rinqebo_changes.specs.Classes.{same_item, AreClasses};
 ghost use Rattle.rinqebo_changes.specs.Groups.{AreGroups};
 ghost use Rattle.rinqebo_changes.specs.Keyed.{AreAlike, AreKeyedChanges};
-ghost use Rattle.rinqebo_changes.specs.Laws.{AreExactly, AreFair, AreWhole};
+ghost use Rattle.rinqebo_changes.specs.Laws.{AreExactly, AreFair, AreWhole, Changes};
 ghost use Rattle.rinqebo_changes.specs.WholeGroups.{AreWholeGroups};
 ghost use Rattle.rinqebo_changes.specs.OriginViews.{origin_view};
 ghost use Rattle.rinqebo_changes.specs.Same.{same_value};
-ghost use Rattle.rinqebo_changes.specs.SameOrigin.{same_origins};
+ghost use Rattle.rinqebo_changes.specs.SameOrigin.{like_origins, same_origins};
+ghost use Rattle.rinqebo_changes.specs.SourceViews.{owned_view};
 ghost use Rattle.rinqebo_changes.specs.ValueViews.{value_view};
 
 use crate::change::Comparison;
 use crate::classes::ClassRule;
+use crate::same_origin::TwoSources;
 use rinqebo_report::{Origin, Value};
 
 /// The values of a setting are the same exactly if they are equal: as values, not as they are
@@ -38,6 +40,22 @@ pub fn law_values(a: &Option<Value>, b: &Option<Value>)
 /// The origins of a value of one side are the same exactly if they are equal.
 pub fn law_origins(a: &[Origin], b: &[Origin])
     ensures { Decides (same_origins a.now b.now) (map origin_view a.now ≡ map origin_view b.now) }
+{}
+
+/// The origins of two values, one of each side, are alike exactly if they are equal as parts of
+/// profiles in files of owners, whatever the paths and the lines are.
+pub fn law_like_origins(sources: &TwoSources<'_>, a: &[Origin], b: &[Origin])
+    ensures { Decides (like_origins sources.now.from.now sources.now.to.now a.now b.now)
+        (map (owned_view sources.now.from.now) a.now ≡ map (owned_view sources.now.to.now) b.now) }
+{}
+
+/// A setting is reported exactly if its value changes, or, where that counts, what the value comes
+/// from.
+pub fn law_changes(compare: &Comparison<'_>)
+    ensures { (left right : Given) → Decides (is_change compare.now.sources.from.now
+        compare.now.sources.to.now compare.now.with_origins left right)
+        (Changes compare.now.sources.from.now compare.now.sources.to.now
+        compare.now.with_origins left right) }
 {}
 
 /// The rows that change are exactly those between which something changes, each once.

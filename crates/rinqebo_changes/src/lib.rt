@@ -28,10 +28,10 @@ pub use groups::{Group, groups_of};
 pub use json_page::{diff_document, diff_json};
 pub use keyed::keyed_changes;
 pub use laws::{
-    law_arrows, law_classes, law_exactly, law_groups, law_keyed, law_origins, law_swapped,
-    law_values,
+    law_arrows, law_changes, law_classes, law_exactly, law_groups, law_keyed, law_like_origins,
+    law_origins, law_swapped, law_values,
 };
 pub use markdown_page::diff_markdown;
 pub use same_origin::TwoSources;
-pub use sides::{Matched, Pair, law_own_tests, match_tests, run_rows};
+pub use sides::{Matched, Pair, law_own_tests, match_tests, pair_of, run_rows};
 pub use text_page::diff_text;

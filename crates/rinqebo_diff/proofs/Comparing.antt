@@ -1,5 +1,5 @@
 -- Tests that are compared one after another.
-use Rattle.std.proofs.Common.{◌≡◌, ◌∙◌, Bool, List, [], ◌∷◌, ◌++◌, Option, None, Some, MatchOption, IfOk, Result, Ok, Err, sym, ap, subst}
+use Rattle.std.proofs.Common.{◌≡◌, ◌∙◌, ℕ, ◌+◌, Bool, false, List, [], ◌∷◌, ◌++◌, Option, None, Some, MatchOption, IfOk, Result, Ok, Err, length-append, refl, sym, ap, subst, arith}
 use Rattle.std.specs.List.{AllZip, filter_map}
 use Rattle.std.specs.Option.{option_to_list}
 use Rattle.std.proofs.lemmas.List.Elements.{filter_map-append}
@@ -11,8 +11,9 @@ use Rattle.rinqebo_changes.specs.declared.change.TestChanges.{TestChanges}
 use Rattle.rinqebo_report.specs.declared.report.TestRows.{TestRows}
 use Rattle.rinqebo_request.specs.declared.request.RequestedSettings.{RequestedSettings}
 use Rattle.rinqebo_origins.specs.TestOrigins.{Basis}
-use Rattle.rinqebo_diff.specs.Compared.{AreCompared, IsComparedBy}
-use Rattle.rinqebo_changes.specs.Sides.Matched.{TestPair}
+use Rattle.rinqebo_diff.specs.Compared.{AreCompared, AreTestsCompared, IsComparedBy}
+use Rattle.rinqebo_changes.specs.Sides.Matched.{is_in, HasPair, TestPair}
+use Rattle.rinqebo_changes.proofs.Matching.{pairs_kept, pairs_more, pairs_none}
 
 kept_more : {X : Type 0} (rs : List (Option X)) (r : Option X)
     → filter_map (λ q. q) (rs ++ r ∷ []) ≡ filter_map (λ q. q) rs ++ option_to_list r
@@ -60,11 +61,47 @@ renamed P one two asked runs with_runs a b c d is_one is_two is_runs is_left is_
     (subst (λ other. P asked other runs a c) is_two
     (subst (λ other. P other two runs a c) is_one is))))
 
--- origins are looked up in the same by another name
-pub moved_bases : {changes : SideRow → SideRow → Bool} {with_runs : Bool} {pair : TestPair}
-    {result : Option TestChanges} (left right : Basis → ListTest → TestRows → Type 0) (a b c d : Basis) → a ≡ b → c ≡ d
-    → IsComparedBy (left a) (right c) changes with_runs pair result
+-- what is said of a pair is said of it by other names of what its sides are evaluated by
+pub moved_sides : {A B : Type 0} {changes : SideRow → SideRow → Bool} {with_runs : Bool} {pair : TestPair}
+    {result : Option TestChanges} (left : A → ListTest → TestRows → Type 0) (right : B → ListTest → TestRows → Type 0)
+    (a b : A) (c d : B) → a ≡ b → c ≡ d → IsComparedBy (left a) (right c) changes with_runs pair result
     → IsComparedBy (left b) (right d) changes with_runs pair result
-moved_bases {changes} {with_runs} {pair} {result} left right a b c d one two is =
+moved_sides {A} {B} {changes} {with_runs} {pair} {result} left right a b c d one two is =
     subst (λ o. IsComparedBy (left b) (right o) changes with_runs pair result) two
     (subst (λ o. IsComparedBy (left o) (right c) changes with_runs pair result) one is)
+
+module _ {left right : ListTest → TestRows → Type 0} {changes : SideRow → SideRow → Bool} {with_runs : Bool}
+    (from : List ListTest) where
+  abbrev AreSo : List ListTest → List TestChanges → ℕ → Type 0
+  AreSo = AreTestsCompared left right changes with_runs from
+
+  -- no test is compared so far
+  pub tests_none : (changed : List TestChanges) → changed ≡ [] → AreSo [] changed 0
+  tests_none changed none = record {
+    pairs = [];
+    are_pairs = pairs_none from;
+    are_compared = compared_none changed none;
+    counted = refl;
+  }
+
+  -- a test that the left list lacks is not compared
+  pub tests_kept : (done more : List ListTest) (test : ListTest) (changed : List TestChanges) (count : ℕ)
+      → more ≡ done ++ test ∷ [] → is_in from test ≡ false → AreSo done changed count → AreSo more changed count
+  tests_kept done more test changed count is none so = record {
+    pairs = so.pairs;
+    are_pairs = pairs_kept from done more test so.pairs is none so.are_pairs;
+    are_compared = so.are_compared;
+    counted = so.counted;
+  }
+
+  -- one more test is compared
+  pub tests_more : (done more : List ListTest) (test : ListTest) (changed after : List TestChanges) (count next : ℕ)
+      (pair : TestPair) (result : Option TestChanges) → more ≡ done ++ test ∷ [] → HasPair from test pair
+      → IsComparedBy left right changes with_runs pair result → after ≡ changed ++ option_to_list result
+      → next ≡ count + 1 → AreSo done changed count → AreSo more after next
+  tests_more done more test changed after count next pair result is has by then up so = record {
+    pairs = so.pairs ++ pair ∷ [];
+    are_pairs = pairs_more from done more test so.pairs pair is has so.are_pairs;
+    are_compared = compared_more so.pairs (so.pairs ++ pair ∷ []) pair changed result after refl so.are_compared by then;
+    counted = omega (arith, up, so.counted, length-append so.pairs (pair ∷ []));
+  }

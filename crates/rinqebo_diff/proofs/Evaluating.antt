@@ -29,9 +29,8 @@ use Rattle.rinqebo_report.specs.declared.report.TestRows.{TestRows}
 use Rattle.rinqebo_results.specs.Listed.{IsProfileOn}
 use Rattle.rinqebo_results.specs.ListedBy.{read_by}
 use Rattle.rinqebo_results.specs.ShownConfig.{AreShown}
-use Rattle.rinqebo_changes.specs.Sides.Matched.{pair_view, AreMatched}
+use Rattle.rinqebo_changes.specs.Sides.Matched.{ArePairs, AreMatched, TestPair}
 use Rattle.rinqebo_changes.specs.declared.sides.matched.Matched.{Matched}
-use Rattle.rinqebo_changes.specs.declared.sides.matched.Pair.{Pair}
 use Rattle.rinqebo_results.proofs.Listing.{given_means}
 use Rattle.rinqebo_diff.specs.Compared.{AreCompared}
 use Rattle.rinqebo_diff.specs.Differences.{Differs, IsCountOf, IsIdOf}
@@ -89,15 +88,19 @@ pub matched_as : {E : Type 0} (result : Result Matched E) (a b c d : List ListTe
 matched_as result a b c d one two are =
     subst (λ ts. IfOk result (AreMatched b ts)) two (subst (λ ts. IfOk result (AreMatched ts c)) one are)
 
--- tests are compared between the same sources, in the same pairs, by other names
+-- tests are compared between the same sources by other names
 pub compared_as : {left right : ListTest → TestRows → Type 0} {with_runs : Bool} (with_origins : Bool)
-    (a b c d : List Source) (ps qs : List Pair) (changed : List TestChanges) → a ≡ b → c ≡ d → ps ≡ qs
-    → AreCompared left right (is_change a c with_origins) with_runs (map pair_view ps) changed
-    → AreCompared left right (is_change b d with_origins) with_runs (map pair_view qs) changed
-compared_as {left} {right} {with_runs} with_origins a b c d ps qs changed one two three are =
-    subst (λ us. AreCompared left right (is_change b d with_origins) with_runs (map pair_view us) changed) three
-    (subst (λ ss. AreCompared left right (is_change b ss with_origins) with_runs (map pair_view ps) changed) two
-    (subst (λ ss. AreCompared left right (is_change ss c with_origins) with_runs (map pair_view ps) changed) one are))
+    (a b c d : List Source) (pairs : List TestPair) (changed : List TestChanges) → a ≡ b → c ≡ d
+    → AreCompared left right (is_change a c with_origins) with_runs pairs changed
+    → AreCompared left right (is_change b d with_origins) with_runs pairs changed
+compared_as {left} {right} {with_runs} with_origins a b c d pairs changed one two are =
+    subst (λ ss. AreCompared left right (is_change b ss with_origins) with_runs pairs changed) two
+    (subst (λ ss. AreCompared left right (is_change ss c with_origins) with_runs pairs changed) one are)
+
+-- pairs are those of two lists by other names
+pub paired_as : (a b c d : List ListTest) (pairs : List TestPair) → a ≡ b → c ≡ d → ArePairs a c pairs → ArePairs b d pairs
+paired_as a b c d pairs one two are =
+    subst (λ ts. ArePairs b ts pairs) two (subst (λ ts. ArePairs ts c pairs) one are)
 
 -- binaries are counted by another name
 pub counted_as : (a b : List ListedBinary) (counts : List BinaryTests) → a ≡ b

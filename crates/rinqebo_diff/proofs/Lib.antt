@@ -7,5 +7,8 @@ pub mod TurnedRows
 pub mod TurnedRuns
 pub mod TurnedTests
 pub mod ReportedTwice
+pub mod InOrder
+pub mod OneOrigins
 pub mod OneRun
+pub mod SidesOfFiles
 pub mod TurnedSides

@@ -1,11 +1,9 @@
 -- What a side gives to the whole run is the same each time.
-use Rattle.std.proofs.Common.{◌≡◌, ◌∙◌, ◌⊎◌, inl, inr, ℕ, Bool, true, not, Less, Greater, List, [], ◌∷◌, ◌++◌, Some, Ordering, Contains, String, Global, codes, filter, length, map, nat_cmp, option_map, string_bytes, refl, sym, ap, subst, arith}
-use Rattle.std.specs.List.{AllByRecursion, AllZip}
-use Rattle.std.specs.List.Sorted.{IsStrictlySortedBy}
+use Rattle.std.proofs.Common.{◌≡◌, ◌∙◌, ℕ, Bool, true, not, Less, Greater, List, [], ◌∷◌, ◌++◌, Some, Contains, String, Global, codes, filter, length, map, nat_cmp, option_map, string_bytes, refl, sym, ap, subst}
+use Rattle.std.specs.List.{AllZip}
 use Rattle.std.specs.Cmp.{then_flip}
 use Rattle.std.specs.Ordering.{ordering_reverse, ordering_then}
 use Rattle.std.proofs.lemmas.Cmp.{lists_total, nat_cmp_total, nat_list_cmp_total}
-use Rattle.std.proofs.lemmas.List.Elements.{All-contains, All-from_recursion}
 use Rattle.nextest_documents.specs.Entries.{leaf_cmp, path_cmp, AreEntries, IsLeaf, IsWanted, Leaf}
 use Rattle.nextest_documents.specs.Sections.{Region, beside, of_profile, region_cmp, regions}
 use Rattle.nextest_tree.specs.Node.{Node, Nodes, array, bool, int, no_nodes, node, opaque, table, text}
@@ -26,51 +24,8 @@ use Rattle.rinqebo_changes.specs.ValueViews as plain
 use Rattle.rinqebo_changes.proofs.Zips.{zip_behind}
 use Rattle.rinqebo_diff.specs.RunChanges.{AreRunRowsOf}
 use Rattle.rinqebo_diff.specs.Sides.{Evaluation}
+use Rattle.rinqebo_diff.proofs.InOrder.{all_contains, same_sorted}
 use Rattle.rinqebo_diff.proofs.TurnedRows.{both_kept}
-use Rattle.rinqebo_diff.proofs.TurnedTests.{first_one, first_or_other, later_one}
-
--- ---- lists in order
-
-all_contains : {X : Type 0} (P : X → Type 0) (xs : List X) (x : X) → AllByRecursion P xs → Contains xs x → P x
-all_contains P xs x all has = All-contains P xs x (All-from_recursion P xs all) has
-
-module _ {X : Type 0} (cmp : X → X → Ordering) (apart : (x y : X) → cmp x y ≡ Less → cmp y x ≡ Less → ⊥) where
-  abbrev IsBefore : X → X → Type 0
-  IsBefore x y = cmp x y ≡ Less
-
-  -- an element that is before all others is not one of them
-  not_before : (x : X) (xs : List X) → AllByRecursion (IsBefore x) xs → Contains xs x → ⊥
-  not_before x xs all has = let is = all_contains (IsBefore x) xs x all has in apart x x is is
-
-  same_first : (x y : X) (xs ys : List X) → AllByRecursion (IsBefore x) xs → AllByRecursion (IsBefore y) ys
-      → (x ≡ y) ⊎ Contains xs y → (y ≡ x) ⊎ Contains ys x → x ≡ y
-  same_first x y xs ys one two (inl e) h = e
-  same_first x y xs ys one two (inr e) (inl h) = sym h
-  same_first x y xs ys one two (inr e) (inr h) =
-      absurd (apart x y (all_contains (IsBefore x) xs y one e) (all_contains (IsBefore y) ys x two h))
-
-  in_rest : (x y z : X) (xs ys : List X) → x ≡ y → AllByRecursion (IsBefore x) xs
-      → ((w : X) → Contains (x ∷ xs) w → Contains (y ∷ ys) w) → Contains xs z → Contains ys z
-  in_rest x y z xs ys same one into has = elim (first_or_other y z ys (into z (later_one x z xs has))) [
-    | inl e ↦ absurd (not_before x xs one (subst (Contains xs) (sym (same ∙ e)) has))
-    | inr h ↦ h
-  ]
-
-  -- ordered lists with the same elements are the same
-  same_sorted : (xs ys : List X) → IsStrictlySortedBy cmp xs → IsStrictlySortedBy cmp ys
-      → ((x : X) → Contains xs x → Contains ys x) → ((x : X) → Contains ys x → Contains xs x) → xs ≡ ys
-  unfolding IsStrictlySortedBy
-  same_sorted [] [] one two into back = refl
-  same_sorted [] (y ∷ ys) one two into back = absurd (omega (arith, (back y (first_one y y ys refl)).1))
-  same_sorted (x ∷ xs) [] one two into back = absurd (omega (arith, (into x (first_one x x xs refl)).1))
-  same_sorted (x ∷ xs) (y ∷ ys) one two into back =
-      let same : x ≡ y =
-      same_first x y xs ys one.0 two.0 (first_or_other x y xs (back y (first_one y y ys refl)))
-      (first_or_other y x ys (into x (first_one x x xs refl))) in
-      let rest : xs ≡ ys =
-      same_sorted xs ys one.1 two.1 (λ z. in_rest x y z xs ys same one.0 into)
-      (λ z. in_rest y x z ys xs (sym same) two.0 back) in
-      λ i. same i ∷ rest i
 
 -- ---- leaves
 

@@ -11,7 +11,7 @@ use Rattle.rinqebo_changes.specs.declared.change.RowChange.{RowChange}
 use Rattle.rinqebo_changes.specs.declared.change.SideRow.{SideRow}
 use Rattle.rinqebo_changes.proofs.Zips.{zip_behind}
 use Rattle.rinqebo_diff.specs.TurnedSides.{changes_of, AreTurnedRuns, IsTurned, IsTurnedAt, SaySame}
-use Rattle.rinqebo_diff.proofs.TurnedRows.{both_kept, changed_from, turned_from}
+use Rattle.rinqebo_diff.proofs.TurnedRows.{both_kept, change_turned, changed_from, turned_from}
 
 -- ---- the rows of a key
 
@@ -148,11 +148,11 @@ ends c = (c.from, c.to)
 abbrev AreTurnedEnds : SideRow × SideRow → SideRow × SideRow → Type 0
 AreTurnedEnds p q = SaySame p.0 q.1 × SaySame p.1 q.0
 
-ends_turned : (xs ys : List RowChange) → AllZip IsTurnedAt xs ys → AllZip AreTurnedEnds (map ends xs) (map ends ys)
+ends_turned : (xs ys : List RowChange) → AllZip (IsTurnedAt SaySame SaySame) xs ys → AllZip AreTurnedEnds (map ends xs) (map ends ys)
 ends_turned [] [] all = tt
 ends_turned [] (y ∷ ys) all = absurd all
 ends_turned (x ∷ xs) [] all = absurd all
-ends_turned (x ∷ xs) (y ∷ ys) all = ((all.0.turned.from, all.0.turned.to), ends_turned xs ys all.1)
+ends_turned (x ∷ xs) (y ∷ ys) all = ((all.0.from, all.0.to), ends_turned xs ys all.1)
 
 by_ends : (xs ys : List RowChange) → AllZip AreTurnedEnds (map ends xs) (map ends ys) → AllZip IsTurned xs ys
 by_ends [] [] all = tt
@@ -275,8 +275,8 @@ module _ (before after others more : List SettingRow) (lefts : AllZip AreAlike b
           let ends_there : map ends (changes_of name turned) ≡ map ends there =
           ap (λ cs. map ends (changes_of name cs)) two.are_changes
           ∙ kept_ends test name 0 0 two.left two.right two.aligned.keys in
-          let all : AllZip IsTurnedAt here there =
-          turned_from [] [] [] [] 0 (map side_row (rows_of name one.left)) (map side_row (rows_of name one.right))
+          let all : AllZip (IsTurnedAt SaySame SaySame) here there =
+          turned_from SaySame SaySame test test (change_turned [] [] [] []) 0 (map side_row (rows_of name one.left)) (map side_row (rows_of name one.right))
           (map side_row (rows_of name two.left)) (map side_row (rows_of name two.right))
           (says_same (rows_of name one.left) (rows_of name two.right)
           (left_side one.left one.right two.left two.right one.aligned two.aligned name))

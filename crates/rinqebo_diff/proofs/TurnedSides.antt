@@ -4,11 +4,15 @@ use Rattle.std.specs.List.{AllZip}
 use Rattle.std.proofs.lemmas.Bool.Decides.{Decides-eqb, Decides-like, same_from_decides}
 use Rattle.std.proofs.lemmas.List.Elements.{length_all_zip}
 use Rattle.filter_inputs.specs.Lists.Lists.{ListTest}
+use Rattle.rinqebo_report.specs.declared.origin.Source.{Source}
 use Rattle.rinqebo_report.specs.declared.report.TestId.{TestId}
+use Rattle.rinqebo_report.specs.declared.report.TestRows.{TestRows}
+use Rattle.rinqebo_request.specs.declared.request.RequestedSettings.{RequestedSettings}
 use Rattle.rinqebo_changes.specs.Changes.{is_change}
 use Rattle.rinqebo_changes.specs.Diffs.{is_empty}
 use Rattle.rinqebo_changes.specs.Sides.Own.{NamesOnce}
 use Rattle.rinqebo_changes.specs.declared.change.RowChange.{RowChange}
+use Rattle.rinqebo_changes.specs.declared.change.SideRow.{SideRow}
 use Rattle.rinqebo_changes.specs.declared.change.TestChanges.{TestChanges}
 use Rattle.rinqebo_changes.specs.declared.diff.Diff.{Diff}
 use Rattle.rinqebo_diff.specs.Asked.{compares_runs}
@@ -16,10 +20,12 @@ use Rattle.rinqebo_diff.specs.Compared.{AreCompared}
 use Rattle.rinqebo_diff.specs.Differences.{SideReports, diff_status, tests_of, IsDiffOf, IsIdOf}
 use Rattle.rinqebo_diff.specs.RunChanges.{AreRunChangesIf}
 use Rattle.rinqebo_diff.specs.Sides.{Evaluation}
-use Rattle.rinqebo_diff.specs.TurnedSides.{swapped_request, AreTurnedAlone, AreTurnedRuns, AreTurnedTests, HasTurned, NameSame}
+use Rattle.rinqebo_diff.specs.TurnedSides.{swapped_request, AreTurnedAlike, AreTurnedAlone, AreTurnedRuns, AreTurnedTests, ComeAlike, HasTurned, NameSame, SaySame}
 use Rattle.rinqebo_diff.specs.declared.request.DiffRequest.{DiffRequest}
+use Rattle.rinqebo_diff.proofs.OneOrigins.{AreFiles}
 use Rattle.rinqebo_diff.proofs.OneRun.{one_run}
-use Rattle.rinqebo_diff.proofs.ReportedTwice.{steady}
+use Rattle.rinqebo_diff.proofs.ReportedTwice.{steady, steady_alike}
+use Rattle.rinqebo_diff.proofs.TurnedRows.{change_alike, change_turned}
 use Rattle.rinqebo_diff.proofs.TurnedRuns.{none_back, none_into, runs_turned}
 use Rattle.rinqebo_diff.proofs.TurnedTests.{tests_turned}
 
@@ -69,32 +75,71 @@ run_turned request left right diff other is are =
 
 -- ---- tests that both sides have
 
-pub changed_turned : (request : DiffRequest) (left right : Evaluation) (diff other : Diff)
-    → request.with_origins ≡ false → NamesOnce (tests_of left) → NamesOnce (tests_of right)
-    → IsDiffOf request left right diff → IsDiffOf (swapped_request request) right left other
-    → AreTurnedTests diff.changed.items other.changed.items
-changed_turned request left right diff other plain once also is are =
-    let asked = request.compared.asked in
-    let runs = compares_runs asked in
-    let from = diff.from.sources.items in
-    let to = diff.to.sources.items in
-    let files = other.from.sources.items in
-    let others = other.to.sources.items in
-    let lefts = SideReports left request.from.mode asked in
-    let rights = SideReports right request.to.mode asked in
-    let there : AreCompared lefts rights (is_change from to false) runs is.pairs diff.changed.items =
-    subst (λ with. AreCompared lefts rights (is_change from to with) runs is.pairs diff.changed.items) plain is.changed in
-    let back : AreCompared rights lefts (is_change files others false) runs are.pairs other.changed.items =
-    subst (λ with. AreCompared rights lefts (is_change files others with) runs are.pairs other.changed.items) plain
-    are.changed in
-    let steady_left = steady left request.from.mode asked in
-    let steady_right = steady right request.to.mode asked in
-    record {
-      into = tests_turned lefts rights runs steady_left steady_right from to files others (tests_of left) (tests_of right)
-          is.pairs are.pairs diff.changed.items other.changed.items also is.are_pairs are.are_pairs there back;
-      back = tests_turned rights lefts runs steady_right steady_left files others from to (tests_of right) (tests_of left)
-          are.pairs is.pairs other.changed.items diff.changed.items once are.are_pairs is.are_pairs back there;
-    }
+module _ (request : DiffRequest) (left right : Evaluation) (diff other : Diff) (once : NamesOnce (tests_of left))
+    (also : NamesOnce (tests_of right)) (is : IsDiffOf request left right diff)
+    (are : IsDiffOf (swapped_request request) right left other) where
+  abbrev asked : RequestedSettings
+  asked = request.compared.asked
+
+  abbrev runs : Bool
+  runs = compares_runs asked
+
+  -- what the sides report
+  abbrev lefts : ListTest → TestRows → Type 0
+  lefts = SideReports left request.from.mode asked
+
+  abbrev rights : ListTest → TestRows → Type 0
+  rights = SideReports right request.to.mode asked
+
+  -- the sources of both sides of the two diffs
+  abbrev from : List Source
+  from = diff.from.sources.items
+
+  abbrev to : List Source
+  to = diff.to.sources.items
+
+  abbrev files : List Source
+  files = other.from.sources.items
+
+  abbrev others : List Source
+  others = other.to.sources.items
+
+  pub changed_turned : request.with_origins ≡ false → AreTurnedTests diff.changed.items other.changed.items
+  changed_turned plain =
+      let there : AreCompared lefts rights (is_change from to false) runs is.pairs diff.changed.items =
+      subst (λ with. AreCompared lefts rights (is_change from to with) runs is.pairs diff.changed.items) plain is.changed in
+      let back : AreCompared rights lefts (is_change files others false) runs are.pairs other.changed.items =
+      subst (λ with. AreCompared rights lefts (is_change files others with) runs are.pairs other.changed.items) plain
+      are.changed in
+      let steady_left = steady left request.from.mode asked in
+      let steady_right = steady right request.to.mode asked in
+      record {
+        into = tests_turned lefts rights runs SaySame SaySame (is_change from to false) (is_change files others false)
+            (change_turned from to files others) steady_left steady_right (tests_of left) (tests_of right) is.pairs
+            are.pairs diff.changed.items other.changed.items also is.are_pairs are.are_pairs there back;
+        back = tests_turned rights lefts runs SaySame SaySame (is_change files others false) (is_change from to false)
+            (change_turned files others from to) steady_right steady_left (tests_of right) (tests_of left) are.pairs
+            is.pairs other.changed.items diff.changed.items once are.are_pairs is.are_pairs back there;
+      }
+
+  -- where the sources of both sides are files, it comes from the same
+  pub alike_turned : AreFiles left.session.layers.items → AreFiles right.session.layers.items → AreTurnedAlike diff other
+  alike_turned left_files right_files =
+      let with = request.with_origins in
+      record {
+        into = tests_turned lefts rights runs (ComeAlike from others) (ComeAlike to files) (is_change from to with)
+            (is_change files others with) (change_alike from to files others with)
+            (steady_alike left request.from.mode asked from others is.from.sources are.to.sources left_files)
+            (steady_alike right request.to.mode asked to files is.to.sources are.from.sources right_files) (tests_of left)
+            (tests_of right) is.pairs are.pairs diff.changed.items other.changed.items also is.are_pairs are.are_pairs
+            is.changed are.changed;
+        back = tests_turned rights lefts runs (ComeAlike files to) (ComeAlike others from) (is_change files others with)
+            (is_change from to with) (change_alike files others from to with)
+            (steady_alike right request.to.mode asked files to are.from.sources is.to.sources right_files)
+            (steady_alike left request.from.mode asked others from are.to.sources is.from.sources left_files)
+            (tests_of right) (tests_of left) are.pairs is.pairs other.changed.items diff.changed.items once are.are_pairs
+            is.are_pairs are.changed is.changed;
+      }
 
 -- ---- the status
 
@@ -110,10 +155,11 @@ empty_together xs ys into back =
     (Decides-like (length ys == 0) (λ e. ap length (back (no_length ys e))) (λ e. ap length (into (no_length xs e)))
     (Decides-eqb (length ys) 0))
 
-none_turned : (changed others : List TestChanges)
-    → ((test : TestChanges) → Contains others test → HasTurned changed test) → changed ≡ [] → others ≡ []
-none_turned changed [] back none = refl
-none_turned changed (c ∷ cs) back none =
+none_turned : (AreLefts AreRights : SideRow → SideRow → Type 0) (changed others : List TestChanges)
+    → ((test : TestChanges) → Contains others test → HasTurned AreLefts AreRights changed test) → changed ≡ []
+    → others ≡ []
+none_turned AreLefts AreRights changed [] back none = refl
+none_turned AreLefts AreRights changed (c ∷ cs) back none =
     let has = back c (0, omega arith, refl) in
     let there : Contains [] has.other = subst (λ xs. Contains xs has.other) none has.there in
     absurd (omega (arith, there.1))
@@ -125,19 +171,14 @@ other_order true true false s = refl
 other_order true false true s = refl
 other_order true false false s = refl
 
--- nothing changes in one of two diffs of swapped sides exactly if nothing does in the other one
-pub status_turned : (request : DiffRequest) (left right : Evaluation) (diff other : Diff)
-    → request.with_origins ≡ false → NamesOnce (tests_of left) → NamesOnce (tests_of right)
-    → IsDiffOf request left right diff → IsDiffOf (swapped_request request) right left other
-    → diff_status diff ≡ diff_status other
-status_turned request left right diff other plain once also is are =
-    let tests = changed_turned request left right diff other plain once also is are in
+-- where no tests change in both of two diffs of swapped sides, or in neither, nothing changes in
+-- both, or in neither
+status_by : (request : DiffRequest) (left right : Evaluation) (diff other : Diff) → IsDiffOf request left right diff
+    → IsDiffOf (swapped_request request) right left other
+    → (length diff.changed.items == 0) ≡ (length other.changed.items == 0) → diff_status diff ≡ diff_status other
+status_by request left right diff other is are changed =
     let alone = alone_turned request left right diff other is are in
     let runs = run_turned request left right diff other is are in
-    let changed : (length diff.changed.items == 0) ≡ (length other.changed.items == 0) =
-    empty_together diff.changed.items other.changed.items
-    (none_turned diff.changed.items other.changed.items tests.back)
-    (none_turned other.changed.items diff.changed.items tests.into) in
     let removed : (length diff.removed.items == 0) ≡ (length other.added.items == 0) =
     ap (λ n. n == 0) (length_all_zip NameSame diff.removed.items other.added.items alone.removed) in
     let added : (length diff.added.items == 0) ≡ (length other.removed.items == 0) =
@@ -150,3 +191,27 @@ status_turned request left right diff other plain once also is are =
     (length diff.run.items == 0)
     ∙ (λ i. ((changed i && added i) && removed i) && run i) in
     ap (λ b. cond b 0 1) empty
+
+-- nothing changes in one of two diffs of swapped sides exactly if nothing does in the other one
+pub status_turned : (request : DiffRequest) (left right : Evaluation) (diff other : Diff)
+    → request.with_origins ≡ false → NamesOnce (tests_of left) → NamesOnce (tests_of right)
+    → IsDiffOf request left right diff → IsDiffOf (swapped_request request) right left other
+    → diff_status diff ≡ diff_status other
+status_turned request left right diff other plain once also is are =
+    let tests = changed_turned request left right diff other once also is are plain in
+    status_by request left right diff other is are
+    (empty_together diff.changed.items other.changed.items
+    (none_turned SaySame SaySame diff.changed.items other.changed.items tests.back)
+    (none_turned SaySame SaySame other.changed.items diff.changed.items tests.into))
+
+-- and so it is of sides of files, where origins count
+pub alike_status : (request : DiffRequest) (left right : Evaluation) (diff other : Diff) → NamesOnce (tests_of left)
+    → NamesOnce (tests_of right) → IsDiffOf request left right diff
+    → IsDiffOf (swapped_request request) right left other → AreFiles left.session.layers.items
+    → AreFiles right.session.layers.items → diff_status diff ≡ diff_status other
+alike_status request left right diff other once also is are left_files right_files =
+    let tests = alike_turned request left right diff other once also is are left_files right_files in
+    status_by request left right diff other is are
+    (empty_together diff.changed.items other.changed.items
+    (none_turned _ _ diff.changed.items other.changed.items tests.back)
+    (none_turned _ _ other.changed.items diff.changed.items tests.into))

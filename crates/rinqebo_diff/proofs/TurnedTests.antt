@@ -5,16 +5,16 @@ use Rattle.std.specs.Cmp.Lexicographic.{bytes_decides}
 use Rattle.std.proofs.lemmas.List.Elements.{All-contains, All-contains_itself, All-filter, All-from_recursion, Contains-append_cases, Contains-append_left, Contains-append_right, recursion_from_All}
 use Rattle.std.proofs.lemmas.List.Folds.{list_any_at}
 use Rattle.filter_inputs.specs.Lists.Lists.{ListTest}
-use Rattle.rinqebo_report.specs.declared.origin.Source.{Source}
 use Rattle.rinqebo_report.specs.declared.report.TestId.{TestId}
 use Rattle.rinqebo_report.specs.declared.report.TestRows.{TestRows}
-use Rattle.rinqebo_changes.specs.Changes.{changed_rows, is_change, rows_in}
+use Rattle.rinqebo_changes.specs.Changes.{changed_rows, rows_in}
 use Rattle.rinqebo_changes.specs.Sides.Matched.{is_in, same_test, ArePairs, IsPairOf, TestPair}
 use Rattle.rinqebo_changes.specs.Sides.Own.{NamesOnce}
 use Rattle.rinqebo_changes.specs.declared.change.RowChange.{RowChange}
+use Rattle.rinqebo_changes.specs.declared.change.SideRow.{SideRow}
 use Rattle.rinqebo_changes.specs.declared.change.TestChanges.{TestChanges}
 use Rattle.rinqebo_diff.specs.Compared.{AreCompared, IsComparedBy}
-use Rattle.rinqebo_diff.specs.TurnedSides.{HasTurned, IsTurnedAt, SaySame}
+use Rattle.rinqebo_diff.specs.TurnedSides.{HasTurned, IsTurnedAt}
 use Rattle.rinqebo_diff.proofs.TurnedRows.{turned_from}
 
 -- A report of a test has its names.
@@ -22,11 +22,12 @@ pub record IsNamed (t : ListTest) (rows : TestRows) : Type 0 where
   pub binary : string_bytes rows.binary ≡ t.test.binary.binary_id
   pub name : string_bytes rows.name ≡ t.test.name
 
--- What a side reports of a test is the same each time.
-pub record IsSteady (reports : ListTest → TestRows → Type 0) (runs : Bool) : Type 0 where
+-- What a side reports of a test is alike each time.
+pub record IsSteady (reports : ListTest → TestRows → Type 0) (runs : Bool) (Alike : SideRow → SideRow → Type 0)
+    : Type 0 where
   pub named : (t : ListTest) (rows : TestRows) → reports t rows → IsNamed t rows
   pub twice : (t : ListTest) (a b : TestRows) → reports t a → reports t b
-      → AllZip SaySame (rows_in runs a) (rows_in runs b)
+      → AllZip Alike (rows_in runs a) (rows_in runs b)
 
 -- ---- elements
 
@@ -70,9 +71,9 @@ later_kept : {X : Type 0} (r : Option X) (rs : List (Option X)) (x : X) → Cont
 later_kept None rs x has = has
 later_kept (Some y) rs x has = later_one y x (filter_map (λ q. q) rs) has
 
-none_beside : (xs : List RowChange) → AllZip IsTurnedAt xs [] → xs ≡ []
-none_beside [] all = refl
-none_beside (x ∷ xs) all = absurd all
+none_beside : {A B : Type 0} (R : A → B → Type 0) (xs : List A) → AllZip R xs [] → xs ≡ []
+none_beside R [] all = refl
+none_beside R (x ∷ xs) all = absurd all
 
 -- ---- tests with the same names
 
@@ -116,14 +117,24 @@ found_in tests one test has same =
 
 -- ---- both ways
 
-module _ (left right : ListTest → TestRows → Type 0) (runs : Bool) (lefts : IsSteady left runs)
-    (rights : IsSteady right runs) (from to files others : List Source) where
+module _ (left right : ListTest → TestRows → Type 0) (runs : Bool) (AreLefts AreRights : SideRow → SideRow → Type 0)
+    (changes changes_back : SideRow → SideRow → Bool)
+    (alike : (l r m k : SideRow) → AreLefts l k → AreRights r m → changes_back m k ≡ changes l r)
+    (lefts : IsSteady left runs AreLefts) (rights : IsSteady right runs AreRights) where
   -- what changes for a pair, and what does the other way
   abbrev There : TestPair → Option TestChanges → Type 0
-  There = IsComparedBy left right (is_change from to false) runs
+  There = IsComparedBy left right changes runs
 
   abbrev Back : TestPair → Option TestChanges → Type 0
-  Back = IsComparedBy right left (is_change files others false) runs
+  Back = IsComparedBy right left changes_back runs
+
+  -- a change is one of another one's rows, from the other side
+  abbrev IsAt : RowChange → RowChange → Type 0
+  IsAt = IsTurnedAt AreLefts AreRights
+
+  -- among what changes for tests is what changes for one of them the other way
+  abbrev IsBack : List TestChanges → TestChanges → Type 0
+  IsBack = HasTurned AreLefts AreRights
 
   -- A pair has a test of the left list on its right side, and is compared.
   record FoundBack (tests : List ListTest) (all : List TestChanges) (test : ListTest) : Type 0 where
@@ -175,25 +186,25 @@ module _ (left right : ListTest → TestRows → Type 0) (runs : Bool) (lefts : 
   -- the rows that change of a pair are those that do the other way
   rows_turned : (pair back : TestPair) (one other : Option TestChanges) → back.to ≡ pair.from → back.from ≡ pair.to
       → (by : There pair one) (are : Back back other)
-      → AllZip IsTurnedAt (changed_rows (is_change from to false) (rows_in runs by.before) (rows_in runs by.after))
-      (changed_rows (is_change files others false) (rows_in runs are.before) (rows_in runs are.after))
+      → AllZip IsAt (changed_rows changes (rows_in runs by.before) (rows_in runs by.after))
+      (changed_rows changes_back (rows_in runs are.before) (rows_in runs are.after))
   rows_turned pair back one other same met by are =
-      turned_from from to files others 0 (rows_in runs by.before) (rows_in runs by.after) (rows_in runs are.before)
-      (rows_in runs are.after)
+      turned_from AreLefts AreRights changes changes_back alike 0 (rows_in runs by.before) (rows_in runs by.after)
+      (rows_in runs are.before) (rows_in runs are.after)
       (lefts.twice pair.from by.before are.after by.left_reports (subst (λ t. left t are.after) same are.right_reports))
       (rights.twice pair.to by.after are.before by.right_reports (subst (λ t. right t are.before) met are.left_reports))
 
   turned_by : (all : List TestChanges) (pair back : TestPair) (changed : TestChanges) (other : Option TestChanges)
       → same_test pair.from pair.to ≡ true → back.to ≡ pair.from → back.from ≡ pair.to → There pair (Some changed)
-      → Back back other → ((c : TestChanges) → other ≡ Some c → Contains all c) → HasTurned all changed
+      → Back back other → ((c : TestChanges) → other ≡ Some c → Contains all c) → IsBack all changed
   turned_by all pair back changed None names same met by are kept =
       let turned = rows_turned pair back (Some changed) None same met by are in
-      let rows = changed_rows (is_change from to false) (rows_in runs by.before) (rows_in runs by.after) in
+      let rows = changed_rows changes (rows_in runs by.before) (rows_in runs by.after) in
       absurd (by.verdict.some (by.verdict.rows
-      ∙ none_beside rows (subst (AllZip IsTurnedAt rows) are.verdict turned)))
+      ∙ none_beside IsAt rows (subst (AllZip IsAt rows) are.verdict turned)))
   turned_by all pair back changed (Some other) names same met by are kept =
       let turned = rows_turned pair back (Some changed) (Some other) same met by are in
-      let rows = changed_rows (is_change from to false) (rows_in runs by.before) (rows_in runs by.after) in
+      let rows = changed_rows changes (rows_in runs by.before) (rows_in runs by.after) in
       let here = there_named pair changed by in
       let there = back_named back other are in
       let named = same_names pair.from pair.to names in record {
@@ -204,15 +215,15 @@ module _ (left right : ListTest → TestRows → Type 0) (runs : Bool) (lefts : 
             binary = here.0 ∙ sym named.0 ∙ sym (ap (λ (t : ListTest). t.test.binary.binary_id) same) ∙ sym there.0;
             name = here.1 ∙ sym named.1 ∙ sym (ap (λ (t : ListTest). t.test.name) same) ∙ sym there.1;
           };
-          rows = subst (λ xs. AllZip IsTurnedAt xs other.rows.items) (sym by.verdict.rows)
-              (subst (AllZip IsTurnedAt rows) (sym are.verdict.rows) turned);
+          rows = subst (λ xs. AllZip IsAt xs other.rows.items) (sym by.verdict.rows)
+              (subst (AllZip IsAt rows) (sym are.verdict.rows) turned);
         };
       }
 
   -- what changes for a test that both sides have changes the other way
   turned_one : (tests : List ListTest) (all : List TestChanges) (pair : TestPair) (changed : TestChanges)
       → NamesOnce tests → Contains tests pair.to → same_test pair.from pair.to ≡ true → There pair (Some changed)
-      → FoundBack tests all pair.from → HasTurned all changed
+      → FoundBack tests all pair.from → IsBack all changed
   turned_one tests all pair changed once has names by found =
       let same : same_test found.pair.from pair.to ≡ true =
       same_through found.pair.from found.pair.to pair.to found.are.same
@@ -221,9 +232,9 @@ module _ (left right : ListTest → TestRows → Type 0) (runs : Bool) (lefts : 
       (once.one found.pair.from pair.to found.are.here has same) by found.compared found.kept
 
   next_turned : (all : List TestChanges) (result : Option TestChanges) (results : List (Option TestChanges))
-      → ((c : TestChanges) → result ≡ Some c → HasTurned all c)
-      → AllByRecursion (HasTurned all) (filter_map (λ q. q) results)
-      → AllByRecursion (HasTurned all) (filter_map (λ q. q) (result ∷ results))
+      → ((c : TestChanges) → result ≡ Some c → IsBack all c)
+      → AllByRecursion (IsBack all) (filter_map (λ q. q) results)
+      → AllByRecursion (IsBack all) (filter_map (λ q. q) (result ∷ results))
   next_turned all None results one rest = rest
   next_turned all (Some c) results one rest = (one c refl, rest)
 
@@ -231,7 +242,7 @@ module _ (left right : ListTest → TestRows → Type 0) (runs : Bool) (lefts : 
       → ((test : ListTest) → Contains front test → is_in back test ≡ true → FoundBack back all test)
       → (pairs : List TestPair) (results : List (Option TestChanges)) → AllByRecursion (IsPairOf front) pairs
       → AllByRecursion (Contains back) (map (λ pair. pair.to) pairs) → AllZip There pairs results
-      → AllByRecursion (HasTurned all) (filter_map (λ q. q) results)
+      → AllByRecursion (IsBack all) (filter_map (λ q. q) results)
   each_turned front back all once found [] [] own has compared = tt
   each_turned front back all once found [] (r ∷ rs) own has compared = absurd compared
   each_turned front back all once found (p ∷ ps) [] own has compared = absurd compared
@@ -244,9 +255,8 @@ module _ (left right : ListTest → TestRows → Type 0) (runs : Bool) (lefts : 
   -- what changes for tests changes the other way
   pub tests_turned : (front back : List ListTest) (pairs backs : List TestPair) (changed all : List TestChanges)
       → NamesOnce back → ArePairs front back pairs → ArePairs back front backs
-      → AreCompared left right (is_change from to false) runs pairs changed
-      → AreCompared right left (is_change files others false) runs backs all
-      → (test : TestChanges) → Contains changed test → HasTurned all test
+      → AreCompared left right changes runs pairs changed → AreCompared right left changes_back runs backs all
+      → (test : TestChanges) → Contains changed test → IsBack all test
   tests_turned front back pairs backs changed all once are turned compared again test has =
       let found : (t : ListTest) → Contains front t → is_in back t ≡ true → FoundBack back all t =
       λ t here is.
@@ -258,8 +268,8 @@ module _ (left right : ListTest → TestRows → Type 0) (runs : Bool) (lefts : 
       let ends = map (λ (pair : TestPair). pair.to) pairs in
       let in_back : AllByRecursion (Contains back) ends =
       recursion_from_All (Contains back) ends (subst (All (Contains back)) (sym are.rights) there) in
-      let each : AllByRecursion (HasTurned all) (filter_map (λ q. q) compared.results) =
+      let each : AllByRecursion (IsBack all) (filter_map (λ q. q) compared.results) =
       each_turned front back all once found pairs compared.results (recursion_from_All (IsPairOf front) pairs are.each)
       in_back compared.each in
-      All-contains (HasTurned all) changed test
-      (All-from_recursion (HasTurned all) changed (subst (AllByRecursion (HasTurned all)) (sym compared.kept) each)) has
+      All-contains (IsBack all) changed test
+      (All-from_recursion (IsBack all) changed (subst (AllByRecursion (IsBack all)) (sym compared.kept) each)) has

@@ -1,5 +1,5 @@
 -- What changes for the tests that both sides have.
-use Rattle.std.specs.Prelude.{◌≡◌, [], Bool, List, Option, MatchOption, filter_map}
+use Rattle.std.specs.Prelude.{◌≡◌, ℕ, [], Bool, List, Option, MatchOption, filter_map, length}
 use Rattle.std.specs.List.{AllZip}
 use Rattle.nextest_elements.specs.declared.run_mode.NextestRunMode.{NextestRunMode}
 use Rattle.nextest_engines.specs.Engines.{Test}
@@ -13,7 +13,7 @@ use Rattle.rinqebo_report.specs.declared.report.TestRows.{TestRows}
 use Rattle.rinqebo_request.specs.declared.request.RequestedSettings.{RequestedSettings}
 use Rattle.rinqebo_rules.specs.Rows.{IsTestReported}
 use Rattle.rinqebo_origins.specs.TestOrigins.{Basis}
-use Rattle.rinqebo_changes.specs.Sides.Matched.{TestPair}
+use Rattle.rinqebo_changes.specs.Sides.Matched.{ArePairs, TestPair}
 
 -- A side reports rows of a test: those that its profile gives to the test.
 abbrev pub ReportsBy : {M : Type 0} → (M → Test → M → Bool) → Basis → EvaluatableModel M
@@ -42,3 +42,12 @@ pub record AreCompared (left right : ListTest → TestRows → Type 0)
   pub results : List (Option TestChanges)
   pub each : AllZip (IsComparedBy left right changes with_runs) pairs results
   pub kept : changed ≡ filter_map (λ result. result) results
+
+-- What changes for the tests of the right list that the left list has, and how many those are.
+pub record AreTestsCompared (left right : ListTest → TestRows → Type 0)
+    (changes : SideRow → SideRow → Bool) (with_runs : Bool) (from to : List ListTest)
+    (changed : List TestChanges) (count : ℕ) : Type 0 where
+  pub pairs : List TestPair
+  pub are_pairs : ArePairs from to pairs
+  pub are_compared : AreCompared left right changes with_runs pairs changed
+  pub counted : count ≡ length pairs

@@ -6,21 +6,21 @@ ghost use Rattle.filter_inputs.specs.Lists.ListView.{list_test_view, list_view, 
 ghost use Rattle.nextest_tables.specs.FileTexts.{names_in, IsIn};
 ghost use Rattle.rinqebo_changes.specs.Changes.{is_change};
 ghost use Rattle.rinqebo_diff.specs.Asked.{compares_runs};
-ghost use Rattle.rinqebo_diff.specs.Compared.{AreCompared};
+ghost use Rattle.rinqebo_diff.specs.Compared.{AreTestsCompared};
 ghost use Rattle.rinqebo_diff.specs.Differences.{SideReports, IsCountOf, IsDiffOf, IsIdOf};
 ghost use Rattle.rinqebo_diff.specs.Beside.{IsBeside};
 ghost use Rattle.rinqebo_diff.specs.Evaluated.{evaluation_of, IsDiffOfLoaded, IsEvaluated};
-ghost use Rattle.rinqebo_changes.specs.Sides.Matched.{pair_view, AreMatched};
+ghost use Rattle.rinqebo_changes.specs.Sides.Matched.{AreMatched};
 ghost use Rattle.rinqebo_diff.specs.RunChanges.{AreRunChangesIf, AreRunRowsOf};
 ghost use Rattle.rinqebo_diff.specs.Sides.{IsSideOf};
 
-use crate::compared::{TestLister, compared};
+use crate::compared::{ComparedTests, TestLister, compared};
 use crate::loaded::Loaded;
 use crate::request::{DiffRequest, DiffSide};
 use filter_inputs::{ListedBinary, ListedTest};
 use rinqebo_changes::{
-    BinaryTests, Comparison, Diff, Matched, Pair, RowChange, Side, TestChanges, TwoSources,
-    keyed_changes, match_tests, run_rows,
+    BinaryTests, Comparison, Diff, Matched, RowChange, Side, TwoSources, keyed_changes,
+    match_tests, run_rows,
 };
 use rinqebo_load::chain_of_profile;
 use rinqebo_origins::Origins;
@@ -146,20 +146,22 @@ fn changed_tests<P: Progress>(
     alloc: Global,
     request: &DiffRequest<'_>,
     sources: TwoSources<'_>,
-    pairs: &[Pair<'_>],
+    matched: &Matched<'_>,
     from: &Loaded<'_>,
     to: &Loaded<'_>,
     left: &Evaluated<'_>,
     right: &Evaluated<'_>,
     progress: &mut P,
-) -> Result<Vec<TestChanges>, AllocError>
-    ensures { IfOk result (λ changed. AreCompared
+) -> Result<ComparedTests, AllocError>
+    ensures { IfOk result (λ compared. AreTestsCompared
         (SideReports (evaluation_of from.now left.now) request.now.from.mode
         request.now.compared.asked)
         (SideReports (evaluation_of to.now right.now) request.now.to.mode
         request.now.compared.asked)
         (is_change sources.entry.from.now sources.entry.to.now request.now.with_origins)
-        (compares_runs request.now.compared.asked) (map pair_view pairs.now) changed.items) }
+        (compares_runs request.now.compared.asked)
+        (map list_test_view matched.now.from.items) (map list_test_view matched.now.to.items)
+        compared.changed.items compared.count) }
 {
     let from_lister = TestLister {
         profile: &left.profile,
@@ -178,19 +180,22 @@ fn changed_tests<P: Progress>(
         with_origins: request.with_origins,
         with_runs: request.compared.with_runs(),
     };
+    let number = matched.to.len().saturating_sub(matched.added.len());
     compared(
         alloc,
         &compare,
-        pairs,
+        &matched.from,
+        &matched.to,
         &from_lister,
         &to_lister,
         &mut from_origins,
         &mut to_origins,
+        number,
         progress,
     )
 }
 
-/// The tests of two sides: those that both have, and those that one has alone.
+/// The tests of two sides, and those that one has alone.
 fn matched_tests<'q>(
     alloc: Global,
     from: &'q Loaded<'_>,
@@ -201,7 +206,7 @@ fn matched_tests<'q>(
 {
     let from_tests = from.session.tests.tests(alloc)?;
     let to_tests = to.session.tests.tests(alloc)?;
-    match_tests(alloc, &from_tests, &to_tests)
+    match_tests(alloc, from_tests, to_tests)
 }
 
 /// What a diff has beside its changes.
@@ -253,9 +258,8 @@ fn diff_by<P: Progress>(
         from: &from_side.sources,
         to: &to_side.sources,
     };
-    let pairs = &matched.pairs;
-    let changed = changed_tests(
-        alloc, request, sources, pairs, from, to, left, right, progress,
+    let ComparedTests { changed, count } = changed_tests(
+        alloc, request, sources, &matched, from, to, left, right, progress,
     )?;
     let run = changed_run(alloc, request.with_run, from, to, left, right)?;
     let Beside {
@@ -267,7 +271,7 @@ fn diff_by<P: Progress>(
         from: from_side,
         to: to_side,
         changed,
-        compared: matched.pairs.len() as u64,
+        compared: count,
         binaries,
         removed,
         added,

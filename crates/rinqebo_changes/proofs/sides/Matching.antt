@@ -3,17 +3,16 @@ use Rattle.std.proofs.Common.{◌≡◌, ◌∙◌, ℕ, ◌+◌, ◌<◌, ◌�
 use Rattle.std.proofs.lemmas.Bool.{ltb-true, ltb-false}
 use Rattle.std.proofs.lemmas.List.{append-nil, length-map}
 use Rattle.std.proofs.lemmas.List.Elements.{All-append, All-cons, All-nil, filter-append}
-use Rattle.std.proofs.lemmas.List.Folds.{list_any_none}
+use Rattle.std.proofs.lemmas.List.Folds.{list_any_at, list_any_none}
 use Rattle.std.proofs.lemmas.List.Sums.{fails_before_first, passes_at_first}
 use Rattle.std.proofs.lemmas.Option.{get_or_from_slice_get, slice_get_cases, slice_get-get_or}
 use Rattle.std.proofs.lemmas.List.{map-append}
-use Rattle.std.specs.List.{All, Contains, list_any, position_or_len}
+use Rattle.std.specs.List.{Contains, list_any, position_or_len}
 use Rattle.std.specs.Prelude.{slice_get}
 use Rattle.filter_inputs.specs.Lists.Lists.{ListTest}
 use Rattle.filter_inputs.specs.Lists.ListView.{list_test_view}
 use Rattle.filter_inputs.specs.declared.lists.list.ListedTest.{ListedTest}
-use Rattle.rinqebo_changes.specs.Sides.Matched.{same_test, is_in, pair_view, TestPair, IsPlaceOf, IsPairOf, AddsPair, ArePairs}
-use Rattle.rinqebo_changes.specs.declared.sides.matched.Pair.{Pair}
+use Rattle.rinqebo_changes.specs.Sides.Matched.{same_test, is_in, pair_view, TestPair, IsPlaceOf, IsPairOf, HasPair, ArePairs}
 use Rattle.rinqebo_changes.proofs.sides.Zips.{taken_read}
 
 -- whether a listed test is the same as a test
@@ -140,56 +139,47 @@ found_there from test place one d at is =
       ap (λ t. same_test t test) (sym same) ∙ at.same,
     )
 
--- the pair of a test that the left list has
-pub pair_added : (from : List ListedTest) (test one d : ListedTest) (place : ℕ) (old new : List Pair)
+-- a test at a place of the left list makes the pair of its test
+pub pair_made : (from : List ListedTest) (test one d : ListedTest) (place : ℕ)
     → IsPlaceOf (map list_test_view from) (list_test_view test) place → one ≡ get_or from place d
-    → new ≡ old ++ record { from = one; to = test } ∷ []
-    → AddsPair (map list_test_view from) (list_test_view test) (map pair_view old) (map pair_view new)
-pair_added from test one d place old new at is then =
-    let pair : Pair = record { from = one; to = test } in
+    → HasPair (map list_test_view from) (list_test_view test) (pair_view (record { from = one; to = test }))
+pair_made from test one d place at is =
     let there = found_there from (list_test_view test) place one d at is in
-    let some : is_in (map list_test_view from) (list_test_view test) ≡ true =
-    in_at (map list_test_view from) (list_test_view test) place at in
-    record {
-      added = pair_view pair ∷ [];
-      are_pairs = record {
-        rights = ap (λ b. cond b (list_test_view test ∷ []) []) (sym some);
-        each = All-cons (IsPairOf (map list_test_view from)) (pair_view pair) []
-            (record { here = there.0; same = there.1 }) (All-nil (IsPairOf (map list_test_view from)));
-      };
-      appended = ap (map pair_view) then ∙ map-append pair_view old (pair ∷ []);
-    }
+    record { right = refl; is_pair = record { here = there.0; same = there.1 } }
 
--- a test that the left list does not have has no pair
-pub no_pair : (from : List ListTest) (test : ListTest) (old : List TestPair) → is_in from test ≡ false
-    → AddsPair from test old old
-no_pair from test old none = record {
-  added = [];
-  are_pairs = record {
-    rights = ap (λ b. cond b (test ∷ []) []) (sym none);
-    each = All-nil (IsPairOf from);
-  };
-  appended = sym (append-nil old);
-}
+-- a test of a pair is in the left list
+has_test : (from : List ListTest) (test : ListTest) (pair : TestPair) → HasPair from test pair → is_in from test ≡ true
+has_test from test pair has =
+    let here = has.is_pair.here in
+    list_any_at (λ t. same_test t test) from here.0 pair.from here.1
+    (ap (λ t. same_test t test) here.2 ∙ ap (same_test pair.from) (sym has.right) ∙ has.is_pair.same)
 
 -- no pairs
 pub pairs_none : (from : List ListTest) → ArePairs from [] []
 pairs_none from = record { rights = refl; each = All-nil (IsPairOf from) }
 
+-- a test that the left list does not have adds no pair
+pub pairs_kept : (from done more : List ListTest) (test : ListTest) (pairs : List TestPair) → more ≡ done ++ test ∷ []
+    → is_in from test ≡ false → ArePairs from done pairs → ArePairs from more pairs
+pairs_kept from done more test pairs is none are = record {
+  rights = are.rights ∙ sym (append-nil (filter (is_in from) done))
+      ∙ ap (λ b. filter (is_in from) done ++ cond b (test ∷ []) []) (sym none)
+      ∙ sym (filter-append (is_in from) done (test ∷ [])) ∙ ap (filter (is_in from)) (sym is);
+  each = are.each;
+}
+
 -- the pair of one more test is added
-pub pairs_more : (from : List ListTest) (tests : List ListedTest) (i : ℕ) (test d : ListedTest) → i < length tests
-    → test ≡ get_or tests i d → (old new : List TestPair)
-    → ArePairs from (map list_test_view (take i tests)) old → AddsPair from (list_test_view test) old new
-    → ArePairs from (map list_test_view (take (i + 1) tests)) new
-pairs_more from tests i test d lt is old new are adds =
+pub pairs_more : (from done more : List ListTest) (test : ListTest) (pairs : List TestPair) (pair : TestPair)
+    → more ≡ done ++ test ∷ [] → HasPair from test pair → ArePairs from done pairs
+    → ArePairs from more (pairs ++ pair ∷ [])
+pairs_more from done more test pairs pair is has are =
     let right : TestPair → ListTest = λ p. p.to in
-    let so_far = map list_test_view (take i tests) in
-    let one = list_test_view test ∷ [] in
+    let kept = filter (is_in from) done in
     record {
-      rights = ap (map right) adds.appended ∙ map-append right old adds.added
-          ∙ (λ j. are.rights j ++ adds.are_pairs.rights j)
-          ∙ sym (filter-append (is_in from) so_far one)
-          ∙ ap (filter (is_in from)) (sym (taken_read list_test_view tests i test d lt is));
-      each = subst (All (IsPairOf from)) (sym adds.appended)
-          (All-append (IsPairOf from) old adds.added are.each adds.are_pairs.each);
+      rights = map-append right pairs (pair ∷ [])
+          ∙ (λ j. are.rights j ++ has.right j ∷ [])
+          ∙ ap (λ b. kept ++ cond b (test ∷ []) []) (sym (has_test from test pair has))
+          ∙ sym (filter-append (is_in from) done (test ∷ [])) ∙ ap (filter (is_in from)) (sym is);
+      each = All-append (IsPairOf from) pairs (pair ∷ []) are.each
+          (All-cons (IsPairOf from) pair [] has.is_pair (All-nil (IsPairOf from)));
     }

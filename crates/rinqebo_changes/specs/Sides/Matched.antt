@@ -1,5 +1,5 @@
 -- The tests that two lists have in common, and those that one has alone.
-use Rattle.std.specs.Prelude.{◌≡◌, ℕ, ◌<◌, ◌&&◌, Bool, true, List, [], ◌∷◌, ◌++◌, Some, length, map, filter, not, slice_get, bytes_eq}
+use Rattle.std.specs.Prelude.{◌≡◌, ℕ, ◌<◌, ◌&&◌, Bool, true, List, Some, length, map, filter, not, slice_get, bytes_eq}
 use Rattle.std.specs.List.{All, Contains, list_any}
 use Rattle.filter_inputs.specs.Lists.Lists.{ListTest}
 use Rattle.filter_inputs.specs.Lists.ListView.{list_test_view}
@@ -45,15 +45,15 @@ pub record ArePairs (from to : List ListTest) (pairs : List TestPair) : Type 0 w
   pub rights : map (λ pair. pair.to) pairs ≡ filter (is_in from) to
   pub each : All (IsPairOf from) pairs
 
--- The pair of a test of the right list is added to pairs, if the left list has the test.
-pub record AddsPair (from : List ListTest) (test : ListTest) (old new : List TestPair) : Type 0
-  where
-    pub added : List TestPair
-    pub are_pairs : ArePairs from (test ∷ []) added
-    pub appended : new ≡ old ++ added
+-- A pair is of a test of the right list and of one of the left list, which has the same binary and
+-- the same name.
+pub record HasPair (from : List ListTest) (test : ListTest) (pair : TestPair) : Type 0 where
+  pub right : pair.to ≡ test
+  pub is_pair : IsPairOf from pair
 
--- The tests of two lists: those that both have, and those that one has alone.
+-- The tests of two lists, and those that one has alone.
 pub record AreMatched (from to : List ListTest) (matched : Matched) : Type 0 where
-  pub pairs : ArePairs from to (map pair_view matched.pairs.items)
+  pub from_tests : map list_test_view matched.from.items ≡ from
+  pub to_tests : map list_test_view matched.to.items ≡ to
   pub removed : map list_test_view matched.removed.items ≡ filter (λ t. not (is_in to t)) from
   pub added : map list_test_view matched.added.items ≡ filter (λ t. not (is_in from t)) to

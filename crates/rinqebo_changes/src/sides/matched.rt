@@ -1,7 +1,7 @@
 //! The tests that two lists have in common, and those that one has alone.
 ghost use Rattle.std.specs.Prelude.{◌≡◌, ◌∷◌, [], ◌++◌, false, IfOk, MatchOption, OnOk, filter, map, not};
 ghost use Rattle.filter_inputs.specs.Lists.ListView.{list_test_view};
-ghost use Rattle.rinqebo_changes.specs.Sides.Matched.{same_test, is_in, pair_view, IsPlaceOf, AddsPair, ArePairs, AreMatched};
+ghost use Rattle.rinqebo_changes.specs.Sides.Matched.{same_test, is_in, pair_view, IsPlaceOf, HasPair, AreMatched};
 
 use filter_inputs::ListedTest;
 use std::alloc::{AllocError, Global};
@@ -15,11 +15,13 @@ pub struct Pair<'q> {
     pub to: ListedTest<'q>,
 }
 
-/// The tests of two lists.
+/// The tests of two lists. A pair of tests that both lists have is made when it is compared.
 #[derive(Drop)]
 pub struct Matched<'q> {
-    /// The tests that both lists have, in the order of the right list.
-    pub pairs: Vec<Pair<'q>>,
+    /// The tests of the left list.
+    pub from: Vec<ListedTest<'q>>,
+    /// The tests of the right list.
+    pub to: Vec<ListedTest<'q>>,
     /// The tests of the left list alone, in its order.
     pub removed: Vec<ListedTest<'q>>,
     /// The tests of the right list alone, in its order.
@@ -94,57 +96,41 @@ fn alone<'q>(
     Ok(found)
 }
 
-/// Adds the pair of a test, if the left list has it. It is looked for at a place first, and the
-/// place to begin with for the next test is returned.
-fn add_pair<'q>(
-    pairs: &mut Vec<Pair<'q>>,
+/// The pair of a test of the right list, if the left list has the test. It is looked for at a place
+/// first, which is then the place to begin with for the next test.
+pub fn pair_of<'q>(
     from: &[ListedTest<'q>],
     test: &ListedTest<'q>,
-    guess: usize,
-) -> Result<usize, AllocError>
-    ensures { OnOk result (AddsPair (map list_test_view from.now) (list_test_view test.now)
-        (map pair_view pairs.old.items) (map pair_view pairs.new.items)) }
+    guess: &mut usize,
+) -> Option<Pair<'q>>
+    ensures { MatchOption result
+        (is_in (map list_test_view from.now) (list_test_view test.now) ≡ false)
+        (λ pair. HasPair (map list_test_view from.now) (list_test_view test.now)
+        (pair_view pair)) }
 {
-    match place_of(from, test, guess) {
-        Some(place) => {
-            pairs.push(Pair {
-                from: from[place],
-                to: *test,
-            })?;
-            Ok(place.saturating_add(1))
-        }
-        None => Ok(guess),
-    }
+    let place = place_of(from, test, *guess)?;
+    *guess = place.saturating_add(1);
+    Some(Pair {
+        from: from[place],
+        to: *test,
+    })
 }
 
-/// The tests that both lists have, in the order of the right list.
-fn pairs_of<'q>(
-    alloc: Global,
-    from: &[ListedTest<'q>],
-    to: &[ListedTest<'q>],
-) -> Result<Vec<Pair<'q>>, AllocError>
-    ensures { IfOk result (λ pairs. ArePairs (map list_test_view from.now)
-        (map list_test_view to.now) (map pair_view pairs.items)) }
-{
-    let mut pairs = Vec::new(alloc);
-    let mut guess = 0usize;
-    for test in to {
-        guess = add_pair(&mut pairs, from, test, guess)?;
-    }
-    Ok(pairs)
-}
-
-/// The tests of two lists: those that both have, and those that one has alone.
+/// The tests of two lists, and those that one has alone.
 pub fn match_tests<'q>(
     alloc: Global,
-    from: &[ListedTest<'q>],
-    to: &[ListedTest<'q>],
+    from: Vec<ListedTest<'q>>,
+    to: Vec<ListedTest<'q>>,
 ) -> Result<Matched<'q>, AllocError>
-    ensures { IfOk result (AreMatched (map list_test_view from.now) (map list_test_view to.now)) }
+    ensures { IfOk result (AreMatched (map list_test_view from.entry.items)
+        (map list_test_view to.entry.items)) }
 {
+    let removed = alone(alloc, &from, &to)?;
+    let added = alone(alloc, &to, &from)?;
     Ok(Matched {
-        pairs: pairs_of(alloc, from, to)?,
-        removed: alone(alloc, from, to)?,
-        added: alone(alloc, to, from)?,
+        from,
+        to,
+        removed,
+        added,
     })
 }

@@ -1,6 +1,7 @@
 use Rattle.std.proofs.Common.{◌∙◌, Bool, IfOk, ap, map}
 use Rattle.filter_engine.specs.Compiling.{names_of}
 use Rattle.filter_engine.specs.Engine.{filter_holds}
+use Rattle.filter_inputs.specs.Lists.ListView.{list_test_view}
 use Rattle.filter_language.specs.Filtersets.{marks_view}
 use Rattle.nextest_inheritance.specs.View.{borrowed_view}
 use Rattle.nextest_settings.specs.Profiles.Meaning.{profile_meaning}
@@ -9,9 +10,8 @@ use Rattle.rinqebo_request.specs.declared.request.RequestedSettings.{RequestedSe
 use Rattle.rinqebo_origins.specs.TestOrigins.{Basis}
 use Rattle.rinqebo_results.proofs.Listing.{basis_here}
 use Rattle.rinqebo_results.specs.ListedBy.{basis_of}
-use Rattle.rinqebo_changes.specs.Sides.Matched.{pair_view}
 use Rattle.rinqebo_diff.specs.Asked.{compares_runs}
-use Rattle.rinqebo_diff.specs.Compared.{AreCompared, ReportsBy}
+use Rattle.rinqebo_diff.specs.Compared.{AreTestsCompared, ReportsBy}
 use Rattle.rinqebo_diff.proofs.Comparing.{renamed}
 use Rattle.rinqebo_diff.proofs.sides.changed_tests.Goals as goal
 
@@ -23,11 +23,12 @@ returns g c =
     let left = c.args.left.now in
     let right = c.args.right.now in
     let Compared : RequestedSettings → RequestedSettings → Bool → Basis → Basis → Type 0 = λ one two runs a b. IfOk c.compared.result
-    (λ changed. AreCompared
+    (λ compared. AreTestsCompared
     (ReportsBy filter_holds a (profile_meaning (marks_view names_of) left.profile) request.from.mode one)
     (ReportsBy filter_holds b (profile_meaning (marks_view names_of) right.profile) request.to.mode two)
     (is_change c.args.sources.from.now c.args.sources.to.now request.with_origins) runs
-    (map pair_view c.args.pairs.now) changed.items) in
+    (map list_test_view c.args.matched.now.from.items) (map list_test_view c.args.matched.now.to.items)
+    compared.changed.items compared.count) in
     let asked = request.compared.asked in
     renamed Compared c.asked.result.now c.asked-2.result.now asked c.with_runs.result (compares_runs asked)
     c.new-from_origins.result (basis_of from (borrowed_view left.chain.items)) c.new-to_origins.result
