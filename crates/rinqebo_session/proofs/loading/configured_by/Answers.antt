@@ -1,4 +1,5 @@
 use Rattle.nextest_rules.specs.KnownView.{features_view}
+use Rattle.nextest_sources.specs.WarningsView.{warnings_view}
 use Rattle.rinqebo_session.proofs.loading.configured_by.Goals as goal
 
 pub returns-in-Ok-clause-ok : goal.returns-in-Ok-clause-ok
@@ -12,3 +13,12 @@ returns-in-Ok-clause-ok c = record {
   };
   platforms = c.in_ok-platforms.ensures.ok;
 }
+
+pub returns-clause-err : goal.returns-clause-err
+returns-clause-err c = (warnings_view c.config_of.new.warnings, record {
+  filters = c.in_ok-filters.filters;
+  are_filters = c.in_ok-filters.ensures.ok;
+  features = features_view c.in_ok-features.features;
+  are_features = c.in_ok-features.ensures;
+  loads = c.in-Err.ensures c.new-warnings.ensures;
+})

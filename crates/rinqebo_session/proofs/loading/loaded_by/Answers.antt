@@ -6,6 +6,6 @@ returns-clause-ok c =
     record {
       loads = configured.loads;
       platforms = configured.platforms;
-      files = c.parted.ensures.files;
-      target_directory = c.parted.ensures.target_directory;
+      files = c.parted-files.ensures.files;
+      target_directory = c.parted-files.ensures.target_directory;
     }
