@@ -1,10 +1,8 @@
 -- What a caller requests of a profile, and what it returns.
-use Rattle.std.specs.Prelude.{◌≡◌, ◌≢◌, ◌⊎◌, ℕ, List, Option, None, Some, false, true, ◌==◌, if◌then◌else◌}
+use Rattle.std.specs.Prelude.{◌≡◌, ◌⊎◌, ℕ, List, Option, None, Some, false, true, ◌==◌, if◌then◌else◌}
 use Rattle.std.specs.Str.{IsUtf8}
 use Rattle.nextest_elements.specs.declared.run_mode.NextestRunMode.{NextestRunMode}
 use Rattle.nextest_elements.specs.declared.run_mode.NextestRunMode.TheVariants.{Test as in_test, Benchmark as in_benchmark}
-use Rattle.nextest_elements.specs.declared.test_group.TestGroup.{TestGroup}
-use Rattle.nextest_elements.specs.declared.test_group.TestGroup.TheVariants as groups
 use Rattle.nextest_engines.specs.Engines.{Binary, Test}
 use Rattle.nextest_engines.specs.declared.queries.BuildPlatform.{BuildPlatform}
 use Rattle.nextest_engines.specs.declared.queries.BuildPlatform.TheVariants.{Host, Target}

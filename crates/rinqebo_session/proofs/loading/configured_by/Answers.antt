@@ -15,10 +15,13 @@ returns-in-Ok-clause-ok c = record {
 }
 
 pub returns-clause-err : goal.returns-clause-err
-returns-clause-err c = (warnings_view c.config_of.new.warnings, record {
-  filters = c.in_ok-filters.filters;
-  are_filters = c.in_ok-filters.ensures.ok;
-  features = features_view c.in_ok-features.features;
-  are_features = c.in_ok-features.ensures;
-  loads = c.in-Err.ensures c.new-warnings.ensures;
-})
+returns-clause-err c = (
+  warnings_view c.config_of.new.warnings,
+  record {
+    filters = c.in_ok-filters.filters;
+    are_filters = c.in_ok-filters.ensures.ok;
+    features = features_view c.in_ok-features.features;
+    are_features = c.in_ok-features.ensures;
+    loads = c.in-Err.ensures c.new-warnings.ensures;
+  },
+)

@@ -1,4 +1,4 @@
-use Rattle.std.proofs.Common.{◌≡◌, ap, sym, ◌∙◌}
+use Rattle.std.proofs.Common.{ap, sym, ◌∙◌}
 use Rattle.rinqebo_forms.specs.Requests.{request_of, request_view}
 use Rattle.rinqebo_session.proofs.Loads.{failures_of}
 use Rattle.rinqebo_session.proofs.loading.loaded_from.Goals as goal

@@ -1,4 +1,4 @@
-use Rattle.std.proofs.Common.{◌∙◌, None, Some, ap, map, option_map, string_bytes, subst}
+use Rattle.std.proofs.Common.{◌∙◌, None, Some, ap, map, string_bytes, subst}
 use Rattle.nextest_sources.specs.WarningsView.{warnings_view}
 use Rattle.rinqebo_objects.specs.Objects.{AreObjectsOf}
 use Rattle.rinqebo_objects.specs.Scripts.{directories_view}
@@ -22,11 +22,14 @@ returns c =
       origins = origins;
       are_origins = c.in_ok-origins.ensures;
       value = text.0;
-      are = subst (λ profiles. AreObjectsOf facts filter profiles (warnings_view loaded.warnings) (directories_in loaded) None (Some origins) text.0)
+      are = subst (λ profiles. AreObjectsOf facts filter profiles (warnings_view loaded.warnings)
+          (directories_in loaded) None (Some origins) text.0)
           (ap (map string_bytes) (known.profiles ∙ c.deref.ensures.value) ∙ c.in_ok-profiles.ensures.all)
-          (subst (λ warnings. AreObjectsOf facts filter names (warnings_view warnings) (directories_in loaded) None (Some origins) text.0)
+          (subst (λ warnings. AreObjectsOf facts filter names (warnings_view warnings) (directories_in loaded)
+          None (Some origins) text.0)
           known.warnings
-          (subst (λ directories. AreObjectsOf facts filter names (warnings_view around.warnings.now) directories None (Some origins) text.0)
+          (subst (λ directories. AreObjectsOf facts filter names (warnings_view around.warnings.now)
+          directories None (Some origins) text.0)
           known.directories
           (subst (λ origins. AreObjectsOf facts filter names (warnings_view around.warnings.now)
           (directories_view around.directories) None origins text.0)

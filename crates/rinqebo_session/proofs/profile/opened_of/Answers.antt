@@ -1,5 +1,4 @@
 use Rattle.std.proofs.Common.{subst}
-use Rattle.nextest_tables.specs.FileTexts.{names_in}
 use Rattle.rinqebo_session.specs.Opening.{IsOpened}
 use Rattle.rinqebo_session.proofs.profile.opened_of.Goals as goal
 
