@@ -9,7 +9,6 @@ pub mod ConditionTexts
 pub mod Reasons
 pub mod ReportsReasons
 pub mod RunsReasons
-pub mod ObjectOrigins
 pub mod Listed
 pub mod ListedBy
 pub mod InForce

@@ -16,7 +16,6 @@ mod list_scripts;
 mod list_stop;
 mod list_text;
 mod looked_up;
-mod object_origins;
 mod printing;
 mod profile;
 mod progress;

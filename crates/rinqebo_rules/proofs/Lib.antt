@@ -10,6 +10,8 @@ pub mod Selected
 pub mod ScriptRules
 pub mod Selecting
 pub mod OpenFilters
+pub mod OneList
 pub mod Passing
+pub mod SetMarks
 pub mod Marked
 pub mod BinaryRules

@@ -1,11 +1,12 @@
 -- Rules that are marked by whether they hold for some tests.
-use Rattle.std.proofs.Common.{◌≡◌, ◌∙◌, ◌<◌, ◌≤◌, ◌++◌, ◌∷◌, [], ◌||◌, ◌+◌, ℕ, List, Bool, get_or, not, replicate, take, true, false, Some, ap, length, map, option_map, slice_get, unwrap_or, refl, subst, sym}
+use Rattle.std.proofs.Common.{◌≡◌, ◌∙◌, ◌<◌, ◌≤◌, ◌++◌, ◌∷◌, [], ◌||◌, ◌+◌, ℕ, List, Bool, get_or, not, replicate, take, true, false, Some, ap, length, map, option_map, slice_get, slice_set, unwrap_or, refl, subst, sym}
 use Rattle.std.proofs.lemmas.List.{map-append, take-map, take_all, take_more}
 use Rattle.std.proofs.lemmas.List.Folds.{list_any-append}
 use Rattle.std.proofs.lemmas.Option.{get_or_from_slice_get, slice_get-get_or, slice_get-map, slice_get_within}
 use Rattle.nextest_settings.specs.Deciding.{QueryContext, rule_holds}
 use Rattle.nextest_settings.specs.Platforms.{EvaluatedRule}
 use Rattle.rinqebo_origins.proofs.RowsMore.{filter_more, filter_same}
+use Rattle.rinqebo_rules.proofs.SetMarks.{made_so_far, next_old, next_set}
 use Rattle.rinqebo_rules.specs.Unused.{is_used, unused_among}
 
 -- what is made of one element more
@@ -14,6 +15,14 @@ pub map_more : {A B : Type 0} (f : A → B) (xs : List A) (i : ℕ) (x d : A) �
 map_more f xs i x d below same =
     sym (map-append f (take i xs) (x ∷ []))
     ∙ ap (map f) (ap (λ z. take i xs ++ z ∷ []) same ∙ sym (take_more xs i d below))
+
+-- what is shown of the elements so far, and of one more that is put behind
+pub shown_more : {A P V : Type 0} (view : P → V) (f : A → V) (xs : List A) (i : ℕ) (x d : A) (old new : List P) (p : P)
+    → i < length xs → x ≡ get_or xs i d → map view old ≡ map f (take i xs) → new ≡ old ++ p ∷ [] → view p ≡ f x
+    → map view new ≡ map f (take (i + 1) xs)
+shown_more view f xs i x d old new p below same so_far put is =
+    ap (map view) put ∙ map-append view old (p ∷ []) ∙ ap (λ vs. vs ++ view p ∷ []) so_far
+    ∙ ap (λ v. map f (take i xs) ++ v ∷ []) is ∙ map_more f xs i x d below same
 
 -- what is made in three steps
 pub twice : {A B C D : Type 0} (h : C → D) (g : B → C) (f : A → B) (xs : List A)
@@ -57,19 +66,21 @@ module _ {M W : Type 0} (tests : List (QueryContext M)) (rules : List (Evaluated
       list_any-append (λ test. rule_holds test rule) tests (query ∷ [])
       ∙ ap (λ b. is_used tests rule || b) (or_false (rule_holds query rule))
 
-  -- the marks of the rules so far, and of one more
-  pub marks_more : (query : QueryContext M) → slice_get rules n ≡ Some rule → (marks : List Bool)
-      → marks ≡ map (is_used tests) rules → (after new : List Bool) (mark : Bool)
-      → after ≡ map (is_used (tests ++ query ∷ [])) (take n rules)
-      → mark ≡ (unwrap_or (slice_get marks n) false || rule_holds query rule) → new ≡ after ++ mark ∷ []
-      → new ≡ map (is_used (tests ++ query ∷ [])) (take (n + 1) rules)
-  marks_more query stands marks are after new mark so_far marked more =
-      let held : mark ≡ is_used (tests ++ query ∷ []) rule =
-      marked ∙ ap (λ b. b || rule_holds query rule) (mark_of marks are stands) ∙ sym (used_more query) in
-      more ∙ ap (λ ms. ms ++ mark ∷ []) so_far
-      ∙ ap (λ b. map (is_used (tests ++ query ∷ [])) (take n rules) ++ b ∷ []) held
-      ∙ map_more (is_used (tests ++ query ∷ [])) rules n rule rule (slice_get_within rules n rule stands)
-      (sym (get_or_from_slice_get rules n rule rule stands))
+  -- the marks of the rules, of which those so far are set, and one more
+  pub marks_more : (query : QueryContext M) → slice_get rules n ≡ Some rule → (now new : List Bool) (mark : Bool)
+      → now ≡ made_so_far (is_used (tests ++ query ∷ [])) (is_used tests) rules n
+      → mark ≡ (unwrap_or (slice_get now n) false || rule_holds query rule) → new ≡ slice_set now n mark
+      → new ≡ made_so_far (is_used (tests ++ query ∷ [])) (is_used tests) rules (n + 1)
+  marks_more query stands now new mark so_far marked set =
+      let after = is_used (tests ++ query ∷ []) in
+      let before = is_used tests in
+      let old : unwrap_or (slice_get now n) false ≡ is_used tests rule =
+      ap (λ ms. unwrap_or (slice_get ms n) false) so_far
+      ∙ ap (λ o. unwrap_or o false) (next_old after before rules n rule stands) in
+      let held : mark ≡ after rule =
+      marked ∙ ap (λ b. b || rule_holds query rule) old ∙ sym (used_more query) in
+      set ∙ ap (λ ms. slice_set ms n mark) so_far ∙ ap (slice_set (made_so_far after before rules n) n) held
+      ∙ next_set after before rules n rule stands
 
   -- the ids of the rules so far that hold for none of the tests, and of one more
   pub unused_more : {I : Type 0} (id : W → I) → slice_get rules n ≡ Some rule → (marks : List Bool)

@@ -11,5 +11,6 @@ pub mod Runs
 pub mod EvaluatedFilters
 pub mod Rows
 pub mod Scripts
+pub mod Distinct
 pub mod Passed
 pub mod BinaryRules

@@ -1,12 +1,15 @@
 -- Rules that hold for none of some tests.
-use Rattle.std.specs.Prelude.{◌≡◌, ℕ, List, Bool, false, map, not, Some, filter, slice_get}
+use Rattle.std.specs.Prelude.{◌≡◌, ℕ, List, [], Bool, IsTrue, Vec, false, map, not, Some, filter, option_map, slice_get, unwrap_or}
+use Rattle.std.specs.declared.alloc.Global.{Global}
 use Rattle.std.specs.List.{AllZip, list_any}
 use Rattle.nextest_elements.specs.declared.run_mode.NextestRunMode.{NextestRunMode}
 use Rattle.nextest_rules.specs.View.{id_view, script_rule_id_view}
 use Rattle.nextest_settings.specs.Deciding.{QueryContext, rule_holds}
 use Rattle.nextest_settings.specs.Platforms.{EvaluatedRule}
 use Rattle.nextest_settings.specs.Profile.{EvaluatableModel}
-use Rattle.rinqebo_rules.specs.Passed.{IsWritten}
+use Rattle.nextest_elements.specs.declared.setting.Setting.{Setting}
+use Rattle.rinqebo_rules.specs.Distinct.{AreDistinct}
+use Rattle.rinqebo_rules.specs.Passed.{AreWritten, ids_of}
 use Rattle.rinqebo_rules.specs.declared.unused.UnusedRules.{UnusedRules}
 use Rattle.rinqebo_rules.specs.declared.unused.UsedRules.{UsedRules}
 
@@ -33,10 +36,20 @@ pub record AreUnusedIn {M : Type 0} (tests : List (QueryContext M)) (profile : E
   pub script_rules : map (λ id. script_rule_id_view id.now) unused.script_rules.items
       ≡ map (λ rule. rule.writes.id) (unused_among tests profile.script_rules)
 
--- Rules of a profile are marked by whether they hold for some of the tests, and of each override a
--- setting is known that it writes in a mode, if it writes one.
+-- the settings that the override of a number is known to write
+abbrev pub written_at : List (Vec Setting Global) → ℕ → List Setting
+written_at written number =
+    unwrap_or (option_map (λ settings. settings.items) (slice_get written number)) []
+
+-- Rules of a profile are marked by whether they hold for some of the tests. The settings are known
+-- that each override writes in a mode, and of the rules of each kind, whether no two of them have
+-- one id.
 pub record AreUsedIn {M : Type 0} (tests : List (QueryContext M)) (mode : NextestRunMode)
     (profile : EvaluatableModel M) (used : UsedRules) : Type 0 where
   pub overrides : used.overrides.items ≡ map (is_used tests) profile.overrides
   pub script_rules : used.script_rules.items ≡ map (is_used tests) profile.script_rules
-  pub written : AllZip (IsWritten mode) profile.overrides used.written.items
+  pub written : AllZip (AreWritten mode) profile.overrides used.written.items
+  pub distinct_overrides : IsTrue used.are_overrides_distinct
+      → AreDistinct (ids_of (λ w. w.id) profile.overrides)
+  pub distinct_script_rules : IsTrue used.are_script_rules_distinct
+      → AreDistinct (ids_of (λ w. w.id) profile.script_rules)

@@ -6,6 +6,7 @@
 mod chain_rules;
 mod conditions;
 mod default_rules;
+mod distinct;
 mod evaluated_filters;
 mod filter_laws;
 mod holds;
@@ -21,6 +22,7 @@ mod unused_laws;
 mod values;
 mod verdict;
 mod verdict_laws;
+mod wrapping;
 
 pub use chain_rules::{SettingRule, rules_for};
 pub use conditions::{Answers, Asking};

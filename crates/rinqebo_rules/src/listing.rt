@@ -128,14 +128,7 @@ impl<'l, 'c, F: Filters, S: Specs> Listing<'l, 'c, F, S> {
         let lister = self.lister;
         let answers = self.answers_at(&test.query.binary_query);
         let settings = settings_by(lister.profile, lister.mode, &test.query, answers, tally);
-        used.add(
-            alloc,
-            lister.profile,
-            &test.query,
-            answers,
-            &settings,
-            tally,
-        )?;
+        used.add(lister.profile, &test.query, answers, &settings, tally);
         let rows = lister.rows_by(alloc, test, &settings, tally, origins)?;
         Ok(rows)
     }

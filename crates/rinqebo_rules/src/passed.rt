@@ -1,5 +1,5 @@
-//! How far the walk over overrides came for each setting of a test.
-ghost use Rattle.std.specs.Prelude.{◌≡◌, ◌↔◌, IfOk, IsTrue, map, option_map, slice_get};
+//! What the settings of a test show of overrides: how far the walk over them went for each setting.
+ghost use Rattle.std.specs.Prelude.{◌≡◌, ◌↔◌, IfOk, IfSome, IsTrue, map, option_map, slice_get};
 ghost use Rattle.std.specs.List.{AllZip};
 ghost use Rattle.nextest_settings.specs.Profiles.SettingsOf.{AreSettingsOf};
 ghost use Rattle.nextest_rules.specs.View.{id_view};
@@ -9,11 +9,11 @@ ghost use Rattle.nextest_elements.specs.Settings.{index_of, settings as all_sett
 ghost use Rattle.nextest_settings.specs.Settings.{is_set};
 ghost use Rattle.nextest_settings.specs.SettingsView.{origin_at};
 ghost use Rattle.nextest_settings.specs.View.{meant_override};
-ghost use Rattle.rinqebo_rules.specs.Passed.{HasNoId, IsPassed, IsRuledOut, IsWritten, override_in};
+ghost use Rattle.rinqebo_rules.specs.Passed.{AreWritten, IsPassed, IsPlaceOf, IsShown, IsShownAt, IsShownBy, override_in};
 
 use crate::rows::source_of;
 use crate::values::SourcedSettings;
-use nextest_elements::{NextestRunMode, Setting};
+use nextest_elements::{NextestRunMode, SETTING_COUNT, Setting};
 use nextest_engines::{Filters, Specs};
 use nextest_rules::OverrideId;
 use nextest_settings::{EvaluatedOverride, SettingSource, SettingValues};
@@ -29,9 +29,13 @@ fn is_same_override(id: &OverrideId, other: &OverrideId) -> bool
         && is_same_source(&id.config_source, &other.config_source)
 }
 
-/// How many overrides come before the first one of an id. Where none has it, all do.
-fn before_id<F: Filters, S: Specs>(rules: &[EvaluatedOverride<'_, F, S>], id: &OverrideId) -> usize
-    ensures { HasNoId (id_view id.now) result (map (meant_override F.meaning) rules.now) }
+/// The place of the first override of an id. Where none has it, the place is behind all.
+fn place_of_id<F: Filters, S: Specs>(
+    rules: &[EvaluatedOverride<'_, F, S>],
+    id: &OverrideId,
+) -> usize
+    ensures { IsPlaceOf (λ w. w.id) (id_view id.now) result
+        (map (meant_override F.meaning) rules.now) }
 {
     for (number, rule) in rules.iter().enumerate() {
         if is_same_override(rule.rule().id(), id) {
@@ -66,32 +70,32 @@ fn passed_for<'c, F: Filters, S: Specs>(
         (profile : EvaluatableModel F.Meaning)
         → profile.overrides ≡ map (meant_override F.meaning) rules.now
         → AreSettingsOf F.meaning query mode profile settings.now
-        → IsPassed query mode profile.overrides setting result }
+        → IsPassed query (λ w. is_set w.settings mode setting) (λ w. w.id) profile.overrides
+        result }
 {
     match deciding_id(settings, setting) {
-        Some(id) => before_id(rules, id),
+        Some(id) => place_of_id(rules, id),
         None => rules.len(),
     }
 }
 
 /// Of each setting of a test, how many of the first overrides do not decide it.
 pub(crate) fn passed_in<'c, F: Filters, S: Specs>(
-    alloc: Global,
     rules: &[EvaluatedOverride<'c, F, S>],
     settings: &SourcedSettings<'c, F, S>,
-) -> Result<Vec<usize>, AllocError>
+) -> [usize; SETTING_COUNT]
     ensures { (query : QueryContext F.Meaning) (mode : NextestRunMode)
         (profile : EvaluatableModel F.Meaning)
         → profile.overrides ≡ map (meant_override F.meaning) rules.now
         → AreSettingsOf F.meaning query mode profile settings.now
-        → IfOk result (λ counts. AllZip (IsPassed query mode profile.overrides) all_settings
-        counts.items) }
+        → AllZip (λ s. IsPassed query (λ w. is_set w.settings mode s) (λ w. w.id)
+        profile.overrides) all_settings result }
 {
-    let mut counts = Vec::new(alloc);
-    for setting in Setting::ALL.iter() {
-        counts.push(passed_for(rules, settings, *setting))?;
+    let mut counts = [0; SETTING_COUNT];
+    for (place, setting) in Setting::ALL.iter().enumerate() {
+        counts[place] = passed_for(rules, settings, *setting);
     }
-    Ok(counts)
+    counts
 }
 
 /// Whether an override writes a setting in a mode.
@@ -106,33 +110,35 @@ fn writes<F: Filters, S: Specs>(
     rule.rule().settings().value(setting, mode).is_some()
 }
 
-/// A setting that an override writes in a mode, if it writes one.
-fn one_written<F: Filters, S: Specs>(
+/// The settings that an override writes in a mode.
+fn written_by<F: Filters, S: Specs>(
+    alloc: Global,
     rule: &EvaluatedOverride<'_, F, S>,
     mode: NextestRunMode,
-) -> Option<Setting>
-    ensures { IsWritten mode (meant_override F.meaning rule.now) result }
+) -> Result<Vec<Setting>, AllocError>
+    ensures { IfOk result (AreWritten mode (meant_override F.meaning rule.now)) }
 {
+    let mut written = Vec::new(alloc);
     for setting in Setting::ALL.iter() {
         if writes(rule, *setting, mode) {
-            return Some(*setting);
+            written.push(*setting)?;
         }
     }
-    None
+    Ok(written)
 }
 
-/// Of each override, a setting that it writes in a mode, if it writes one.
-pub(crate) fn some_written<F: Filters, S: Specs>(
+/// Of each override, the settings that it writes in a mode.
+pub(crate) fn all_written<F: Filters, S: Specs>(
     alloc: Global,
     rules: &[EvaluatedOverride<'_, F, S>],
     mode: NextestRunMode,
-) -> Result<Vec<Option<Setting>>, AllocError>
-    ensures { IfOk result (λ written. AllZip (IsWritten mode)
+) -> Result<Vec<Vec<Setting>>, AllocError>
+    ensures { IfOk result (λ written. AllZip (AreWritten mode)
         (map (meant_override F.meaning) rules.now) written.items) }
 {
     let mut written = Vec::new(alloc);
     for rule in rules {
-        written.push(one_written(rule, mode))?;
+        written.push(written_by(alloc, rule, mode)?)?;
     }
     Ok(written)
 }
@@ -151,16 +157,45 @@ fn passed_at(passed: &[usize], setting: Setting) -> Option<usize>
     passed.get(place(setting)).copied()
 }
 
-/// Whether the override of a number writes a setting that a later override decides, or none: then it
-/// does not hold.
-pub(crate) fn is_ruled_out(written: Option<Setting>, number: usize, passed: &[usize]) -> bool
-    ensures { IsTrue result → IsRuledOut written number passed.now }
+/// What is known of a rule that writes something, if so many of the first rules do not decide that,
+/// and the next one does: the rule does not hold if it is one of them, and holds if it is the next
+/// one. Which one is next is known if no two rules have one id.
+pub(crate) fn shown_by(number: usize, passed: usize, are_distinct: bool) -> Option<bool>
+    ensures { IfSome result (IsShown are_distinct number passed) }
 {
-    let Some(setting) = written else {
-        return false;
-    };
-    match passed_at(passed, setting) {
-        Some(count) => number < count,
-        None => false,
+    if number < passed {
+        Some(false)
+    } else if are_distinct && number == passed {
+        Some(true)
+    } else {
+        None
     }
+}
+
+/// What a setting that an override writes shows of it.
+fn shown_at(setting: Setting, number: usize, passed: &[usize], are_distinct: bool) -> Option<bool>
+    ensures { IfSome result (IsShownAt setting number passed.now are_distinct) }
+{
+    match passed_at(passed, setting) {
+        Some(count) => shown_by(number, count, are_distinct),
+        None => None,
+    }
+}
+
+/// What the settings that an override writes show of it: whether it holds, if the search for what
+/// decides one of them reached it.
+pub(crate) fn shown_of(
+    written: &[Setting],
+    number: usize,
+    passed: &[usize],
+    are_distinct: bool,
+) -> Option<bool>
+    ensures { IfSome result (IsShownBy written.now number passed.now are_distinct) }
+{
+    for setting in written {
+        if let Some(holds) = shown_at(*setting, number, passed, are_distinct) {
+            return Some(holds);
+        }
+    }
+    None
 }

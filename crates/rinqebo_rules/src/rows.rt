@@ -61,7 +61,7 @@ pub(crate) fn source_of<'c, F: Filters, S: Specs>(
 }
 
 /// The id of the script rule that gives a test its run wrapper, if one does.
-fn wrapping_rule<'c, F: Filters, S: Specs>(
+pub(crate) fn wrapping_rule<'c, F: Filters, S: Specs>(
     settings: &SourcedSettings<'c, F, S>,
 ) -> Option<&'c ScriptRuleId>
     ensures { option_map (λ id. script_rule_id_view id.now) result ≡ wrapping_at settings.now }

@@ -1,5 +1,5 @@
 //! The rules of a profile that hold for none of the tests of a list.
-ghost use Rattle.std.specs.Prelude.{◌≡◌, ◌++◌, ◌∷◌, [], ◌||◌, ◌+◌, ◌<◌, ◌^◌, IfOk, IfSome, OnOk, List, false, length, map, option_and_then, option_map, replicate, slice_get, unwrap_or};
+ghost use Rattle.std.specs.Prelude.{◌≡◌, ◌++◌, ◌∷◌, [], ◌||◌, ◌+◌, ◌<◌, ◌^◌, Bool, IfOk, IfSome, IsTrue, List, false, is_some, length, map, option_and_then, option_map, replicate, slice_get, slice_set, unwrap_or};
 ghost use Rattle.std.specs.List.{AllZip};
 ghost use Rattle.nextest_engines.specs.Engines.{test_view};
 ghost use Rattle.nextest_settings.specs.Profiles.Meaning.{profile_meaning};
@@ -12,12 +12,16 @@ ghost use Rattle.nextest_settings.specs.Queries.{query_in};
 ghost use Rattle.nextest_elements.specs.Settings.{settings as all_settings};
 ghost use Rattle.nextest_settings.specs.View.{meant_override, meant_script_rule};
 ghost use Rattle.rinqebo_rules.specs.BinaryRules.{AreAnswersAt, AreKnownIn, known_overrides, known_script_rules};
-ghost use Rattle.rinqebo_rules.specs.Passed.{IsPassed, IsRuledOut, IsWritten};
-ghost use Rattle.rinqebo_rules.specs.Unused.{AreUsedIn, AreUnusedIn, is_used, unused_among};
+ghost use Rattle.nextest_settings.specs.Settings.{is_set};
+ghost use Rattle.rinqebo_rules.specs.Distinct.{AreDistinct};
+ghost use Rattle.rinqebo_rules.specs.Passed.{AreWritten, IsPassed, IsShownBy, ids_of};
+ghost use Rattle.rinqebo_rules.specs.Unused.{AreUsedIn, AreUnusedIn, is_used, unused_among, written_at};
 
+use crate::distinct::{are_overrides_distinct, are_script_rules_distinct};
 use crate::holds::{override_holds, script_rule_holds};
-use crate::passed::{is_ruled_out, passed_in, some_written};
+use crate::passed::{all_written, passed_in, shown_of};
 use crate::values::SourcedSettings;
+use crate::wrapping::{passed_for_wrapper, shown_of_script};
 use nextest_elements::{NextestRunMode, Setting};
 use nextest_engines::{EvalContext, Filters, Specs, TestQuery};
 use nextest_rules::{OverrideId, ScriptRuleId};
@@ -40,8 +44,12 @@ pub struct UsedRules {
     overrides: Vec<bool>,
     /// Of each script rule, whether it does.
     script_rules: Vec<bool>,
-    /// Of each override, a setting that it writes, if it writes one.
-    written: Vec<Option<Setting>>,
+    /// Of each override, the settings that it writes.
+    written: Vec<Vec<Setting>>,
+    /// Whether no two overrides are known to have one id.
+    are_overrides_distinct: bool,
+    /// Whether no two script rules are known to have one id.
+    are_script_rules_distinct: bool,
 }
 
 /// So many rules, of which none holds for a test so far.
@@ -58,32 +66,23 @@ fn is_marked(used: &[bool], number: usize) -> bool
     used.get(number).copied().unwrap_or(false)
 }
 
-/// The setting that the override of a number is known to write, if it writes one.
-fn written_at(written: &[Option<Setting>], number: usize) -> Option<Setting>
-    ensures { result ≡ option_and_then (λ setting. setting) (slice_get written.now number) }
+/// Sets the mark of a number.
+fn set_mark(marks: &mut [bool], number: usize, mark: bool)
+    ensures { marks.new ≡ slice_set marks.old number mark }
 {
-    written.get(number).copied().flatten()
+    if number < marks.len() {
+        marks[number] = mark;
+    }
 }
 
-/// Whether an override of which the binary of a test does not decide whether it holds holds for
-/// some of the tests, after this one.
-fn is_open_override_used<F: Filters, S: Specs>(
-    rule: &EvaluatedOverride<'_, F, S>,
-    number: usize,
-    held: bool,
-    written: Option<Setting>,
-    passed: &[usize],
-    query: &TestQuery<'_>,
-    cx: &EvalContext<'_, F::Expr>,
-    tally: &mut F::Tally,
-) -> bool
-    ensures { let query = test_query_by F.Filters cx.now.default_filter.now query.now in
-        let rule = meant_override F.meaning rule.now in
-        (IsRuledOut written number passed.now → rule_holds query rule ≡ false)
-        → result ≡ (held || rule_holds query rule) }
+/// The settings that the override of a number is known to write.
+fn written_at(written: &[Vec<Setting>], number: usize) -> &[Setting]
+    ensures { result.now ≡ written_at written.now number }
 {
-    held || (!is_ruled_out(written, number, passed)
-        && override_holds(rule, number, query, cx, tally))
+    match written.get(number) {
+        Some(settings) => settings,
+        None => &[],
+    }
 }
 
 /// What is known of the rule of a number: whether it holds for a test.
@@ -93,16 +92,40 @@ fn known_at(known: &[Option<bool>], number: usize) -> Option<bool>
     known.get(number).copied().flatten()
 }
 
+/// Whether an override holds that the binary of a test leaves open. It is evaluated only if the
+/// settings of the test do not show whether it holds: then the search for them did not evaluate it,
+/// if overrides are distinct.
+fn open_override_holds<F: Filters, S: Specs>(
+    rule: &EvaluatedOverride<'_, F, S>,
+    number: usize,
+    written: &[Setting],
+    passed: &[usize],
+    are_distinct: bool,
+    query: &TestQuery<'_>,
+    cx: &EvalContext<'_, F::Expr>,
+    tally: &mut F::Tally,
+) -> bool
+    ensures { let query = test_query_by F.Filters cx.now.default_filter.now query.now in
+        let rule = meant_override F.meaning rule.now in
+        ((holds : Bool) → IsShownBy written.now number passed.now are_distinct holds
+        → rule_holds query rule ≡ holds) → result ≡ rule_holds query rule }
+{
+    match shown_of(written, number, passed, are_distinct) {
+        Some(holds) => holds,
+        None => override_holds(rule, number, query, cx, tally),
+    }
+}
+
 /// Whether an override holds for some of the tests, after one more. It is evaluated only if it
-/// held for none so far, and neither the binary nor what decides the settings of the test says
-/// whether it holds.
+/// held for none so far, and neither the binary nor the settings of the test show whether it holds.
 fn is_override_used<F: Filters, S: Specs>(
     rule: &EvaluatedOverride<'_, F, S>,
     number: usize,
     held: bool,
     known: Option<bool>,
-    written: Option<Setting>,
+    written: &[Setting],
     passed: &[usize],
+    are_distinct: bool,
     query: &TestQuery<'_>,
     cx: &EvalContext<'_, F::Expr>,
     tally: &mut F::Tally,
@@ -110,97 +133,152 @@ fn is_override_used<F: Filters, S: Specs>(
     ensures { let query = test_query_by F.Filters cx.now.default_filter.now query.now in
         let rule = meant_override F.meaning rule.now in
         IsKnownFor query rule known
-        → (IsRuledOut written number passed.now → rule_holds query rule ≡ false)
-        → result ≡ (held || rule_holds query rule) }
+        → ((holds : Bool) → IsShownBy written.now number passed.now are_distinct holds
+        → rule_holds query rule ≡ holds) → result ≡ (held || rule_holds query rule) }
 {
     match known {
         Some(holds) => held || holds,
-        None => is_open_override_used(rule, number, held, written, passed, query, cx, tally),
+        None => {
+            held || open_override_holds(
+                rule,
+                number,
+                written,
+                passed,
+                are_distinct,
+                query,
+                cx,
+                tally,
+            )
+        }
     }
 }
 
-/// Which overrides hold for some of the tests, after one more.
-fn overrides_after<F: Filters, S: Specs>(
-    alloc: Global,
+/// Marks the overrides that hold for a test.
+fn mark_overrides<F: Filters, S: Specs>(
     rules: &[EvaluatedOverride<'_, F, S>],
-    used: &[bool],
+    used: &mut [bool],
     known: &[Option<bool>],
-    written: &[Option<Setting>],
+    written: &[Vec<Setting>],
     passed: &[usize],
+    are_distinct: bool,
     query: &TestQuery<'_>,
     cx: &EvalContext<'_, F::Expr>,
     tally: &mut F::Tally,
-) -> Result<Vec<bool>, AllocError>
+)
     ensures { (mode : NextestRunMode)
         → let query = test_query_by F.Filters cx.now.default_filter.now query.now in
         let rules = map (meant_override F.meaning) rules.now in
-        AllZip (IsWritten mode) rules written.now
-        → AllZip (IsPassed query mode rules) all_settings passed.now
+        AllZip (AreWritten mode) rules written.now
+        → AllZip (λ s. IsPassed query (λ w. is_set w.settings mode s) (λ w. w.id) rules)
+        all_settings passed.now
+        → (IsTrue are_distinct → AreDistinct (ids_of (λ w. w.id) rules))
         → AreKnownIn query rules known.now
         → (tests : List (QueryContext F.Meaning))
-        → used.now ≡ map (is_used tests) rules
-        → IfOk result (λ after. after.items ≡ map (is_used (tests ++ query ∷ [])) rules) }
+        → used.old ≡ map (is_used tests) rules
+        → used.new ≡ map (is_used (tests ++ query ∷ [])) rules }
 {
-    let mut after = Vec::new(alloc);
     for (number, rule) in rules.iter().enumerate() {
         let held = is_marked(used, number);
         let holds = known_at(known, number);
-        let setting = written_at(written, number);
+        let settings = written_at(written, number);
         let is_used = is_override_used(
-            rule, number, held, holds, setting, passed, query, cx, tally,
+            rule,
+            number,
+            held,
+            holds,
+            settings,
+            passed,
+            are_distinct,
+            query,
+            cx,
+            tally,
         );
-        after.push(is_used)?;
+        set_mark(used, number, is_used);
     }
-    Ok(after)
 }
 
-/// Whether a script rule holds for some of the tests, after one more. It is evaluated only if it
-/// held for none so far, and the binary does not decide whether it holds.
-fn is_script_rule_used<F: Filters, S: Specs>(
+/// Whether a script rule holds that the binary of a test leaves open. It is evaluated only if the
+/// run wrapper of the test does not show whether it holds: then the search for the wrapper did not
+/// evaluate it, if script rules are distinct.
+fn open_script_rule_holds<F: Filters, S: Specs>(
     rule: &EvaluatedScriptRule<'_, F, S>,
     number: usize,
-    held: bool,
-    known: Option<bool>,
+    shown: Option<bool>,
     query: &TestQuery<'_>,
     cx: &EvalContext<'_, F::Expr>,
     tally: &mut F::Tally,
 ) -> bool
     ensures { let query = test_query_by F.Filters cx.now.default_filter.now query.now in
         let rule = meant_script_rule F.meaning rule.now in
-        IsKnownFor query rule known → result ≡ (held || rule_holds query rule) }
+        IsKnownFor query rule shown → result ≡ rule_holds query rule }
 {
-    match known {
-        Some(holds) => held || holds,
-        None => held || script_rule_holds(rule, number, query, cx, tally),
+    match shown {
+        Some(holds) => holds,
+        None => script_rule_holds(rule, number, query, cx, tally),
     }
 }
 
-/// Which script rules hold for some of the tests, after one more. They are numbered on from the
-/// first number.
-fn script_rules_after<F: Filters, S: Specs>(
-    alloc: Global,
-    rules: &[EvaluatedScriptRule<'_, F, S>],
-    first: usize,
-    used: &[bool],
-    known: &[Option<bool>],
+/// Whether a script rule holds for some of the tests, after one more. It is evaluated only if it
+/// held for none so far, and neither the binary nor the run wrapper of the test shows whether it
+/// holds.
+fn is_script_rule_used<F: Filters, S: Specs>(
+    rule: &EvaluatedScriptRule<'_, F, S>,
+    number: usize,
+    held: bool,
+    known: Option<bool>,
+    shown: Option<bool>,
     query: &TestQuery<'_>,
     cx: &EvalContext<'_, F::Expr>,
     tally: &mut F::Tally,
-) -> Result<Vec<bool>, AllocError>
+) -> bool
+    ensures { let query = test_query_by F.Filters cx.now.default_filter.now query.now in
+        let rule = meant_script_rule F.meaning rule.now in
+        IsKnownFor query rule known → IsKnownFor query rule shown
+        → result ≡ (held || rule_holds query rule) }
+{
+    match known {
+        Some(holds) => held || holds,
+        None => held || open_script_rule_holds(rule, number, shown, query, cx, tally),
+    }
+}
+
+/// Marks the script rules that hold for a test. They are numbered on from the first number.
+fn mark_script_rules<F: Filters, S: Specs>(
+    rules: &[EvaluatedScriptRule<'_, F, S>],
+    first: usize,
+    used: &mut [bool],
+    known: &[Option<bool>],
+    passed: usize,
+    are_distinct: bool,
+    query: &TestQuery<'_>,
+    cx: &EvalContext<'_, F::Expr>,
+    tally: &mut F::Tally,
+)
     requires { first + length rules.now < 2 ^ 64 }
     ensures { let query = test_query_by F.Filters cx.now.default_filter.now query.now in
         let rules = map (meant_script_rule F.meaning) rules.now in
-        AreKnownIn query rules known.now
-        → (tests : List (QueryContext F.Meaning)) → used.now ≡ map (is_used tests) rules
-        → IfOk result (λ after. after.items ≡ map (is_used (tests ++ query ∷ [])) rules) }
+        IsPassed query (λ w. is_some w.scripts.run_wrapper) (λ w. w.id) rules passed
+        → (IsTrue are_distinct → AreDistinct (ids_of (λ w. w.id) rules))
+        → AreKnownIn query rules known.now
+        → (tests : List (QueryContext F.Meaning)) → used.old ≡ map (is_used tests) rules
+        → used.new ≡ map (is_used (tests ++ query ∷ [])) rules }
 {
-    let mut after = Vec::new(alloc);
     for (number, rule) in rules.iter().enumerate() {
         let held = is_marked(used, number);
         let holds = known_at(known, number);
-        after.push(is_script_rule_used(rule, first + number, held, holds, query, cx, tally))?;
+        let shown = shown_of_script(rule, number, passed, are_distinct);
+        let is_used = is_script_rule_used(
+            rule,
+            first + number,
+            held,
+            holds,
+            shown,
+            query,
+            cx,
+            tally,
+        );
+        set_mark(used, number, is_used);
     }
-    Ok(after)
 }
 
 /// What a binary decides of each override, if that is known.
@@ -277,21 +355,27 @@ impl UsedRules {
         Ok(UsedRules {
             overrides: none_of(alloc, rules.overrides.len())?,
             script_rules: none_of(alloc, rules.script_rules.len())?,
-            written: some_written(alloc, &rules.overrides, mode)?,
+            written: all_written(alloc, &rules.overrides, mode)?,
+            are_overrides_distinct: are_overrides_distinct(alloc, &rules.overrides)?,
+            are_script_rules_distinct: are_script_rules_distinct(alloc, &rules.script_rules)?,
         })
     }
 
     /// Adds a test, to which a profile gives some settings, by what its binary decides of the
-    /// rules, if that is known.
+    /// rules, if that is known. It takes no memory.
+    ///
+    /// A filter is evaluated only if its rule held for none of the tests so far, the binary leaves
+    /// it open, and the search for the settings did not evaluate it for this test. (If two rules of
+    /// a kind had one id, which those of a profile do not have, those that decide might be evaluated
+    /// again.)
     pub(crate) fn add<'c, F: Filters, S: Specs>(
         &mut self,
-        alloc: Global,
         profile: &EvaluatableProfile<'c, F, S>,
         query: &TestQuery<'_>,
         answers: Option<&BinaryAnswers>,
         settings: &SourcedSettings<'c, F, S>,
         tally: &mut F::Tally,
-    ) -> Result<(), AllocError>
+    )
         ensures { (tests : List (QueryContext F.Meaning)) (mode : NextestRunMode)
             → let profile = profile_meaning F.meaning profile.now in
             let test = test_view query.now in
@@ -300,36 +384,35 @@ impl UsedRules {
             (λ known. AreAnswersAt F.holds_binary profile test.binary known.now)
             → AreSettingsOf F.meaning query mode profile settings.now
             → AreUsedIn tests mode profile self.old
-            → OnOk result (AreUsedIn (tests ++ query ∷ []) mode profile self.new) }
+            → AreUsedIn (tests ++ query ∷ []) mode profile self.new }
     {
         let rules = profile.rules();
         let first = rules.overrides.len();
         let cx = profile.filterset_ecx();
-        let passed = passed_in(alloc, &rules.overrides, settings)?;
-        let overrides = overrides_after(
-            alloc,
+        let passed = passed_in(&rules.overrides, settings);
+        mark_overrides(
             &rules.overrides,
-            &self.overrides,
+            &mut self.overrides,
             override_answers(answers),
             &self.written,
             &passed,
+            self.are_overrides_distinct,
             query,
             &cx,
             tally,
-        )?;
-        let script_rules = script_rules_after(
-            alloc,
+        );
+        let passed = passed_for_wrapper(&rules.script_rules, settings);
+        mark_script_rules(
             &rules.script_rules,
             first,
-            &self.script_rules,
+            &mut self.script_rules,
             script_rule_answers(answers),
+            passed,
+            self.are_script_rules_distinct,
             query,
             &cx,
             tally,
-        )?;
-        self.overrides = overrides;
-        self.script_rules = script_rules;
-        Ok(())
+        );
     }
 
     /// The ids of the rules of a profile that hold for none of the tests.
