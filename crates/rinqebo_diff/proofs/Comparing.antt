@@ -76,7 +76,7 @@ pub lists_as : (P : List ListedTest → List ListedTest → Type 0) (a b c d : L
     → P b d
 lists_as P a b c d one two is = subst (P b) two (subst (λ tests. P tests c) one is)
 
-module _ {left right : ListTest → TestRows → Type 0} {changes : SideRow → SideRow → Bool} {with_runs : Bool}
+module _ (left right : ListTest → TestRows → Type 0) (changes : SideRow → SideRow → Bool) (with_runs : Bool)
     (from : List ListTest) where
   abbrev AreSo : List ListTest → List TestChanges → ℕ → Type 0
   AreSo = AreTestsCompared left right changes with_runs from

@@ -1,5 +1,5 @@
 -- What origins are those of determines the owners of their files, and what they have beside these.
-use Rattle.std.proofs.Common.{◌≡◌, ◌∙◌, ℕ, zero, suc, false, List, [], ◌∷◌, ◌++◌, Option, None, Some, String, Global, map, option_map, option_and_then, string_bytes, refl, sym, ap, subst}
+use Rattle.std.proofs.Common.{◌≡◌, ◌∙◌, ℕ, zero, suc, false, List, [], ◌∷◌, ◌++◌, Option, None, Some, map, option_map, option_and_then, string_bytes, refl, sym, ap, subst}
 use Rattle.std.specs.Prelude.{slice_get}
 use Rattle.std.specs.List.{AllByRecursion, AllZip}
 use Rattle.std.proofs.lemmas.Option.{slice_get-map}
@@ -23,10 +23,9 @@ use Rattle.rinqebo_origins.specs.KnownOrigins.{AreOriginsAt}
 use Rattle.rinqebo_origins.specs.Origins.{IsOriginOf, IsWrittenAt, PathStep, key_steps}
 use Rattle.rinqebo_origins.specs.ProfileOrigins.{AreProfileOrigins, AreWrittenOrigins, HasNoReport, IsBuiltIn, IsLayerOrigin, built_in, key_path, is_rule_key, no_key, no_leaf, no_profile, no_report, written}
 use Rattle.rinqebo_origins.specs.RulePlaces.{Place, id_place}
-use Rattle.rinqebo_origins.specs.TestOrigins.{AreOriginsBy, Basis, wrapping_places}
+use Rattle.rinqebo_origins.specs.TestOrigins.{AreOriginsBy, wrapping_places}
 use Rattle.rinqebo_origins.specs.Trees.{trees_of}
 use Rattle.nextest_rules.specs.Rules.{RuleId}
-use Rattle.rinqebo_changes.specs.OriginViews.{written_view}
 use Rattle.rinqebo_changes.specs.SourceViews.{OwnedOrigin, Owner, of_organisation, of_repository, of_tool, owned_view, owner_at, owner_of}
 use Rattle.rinqebo_changes.specs.SourceViews as seen
 use Rattle.rinqebo_diff.proofs.InOrder.{all_contains, same_descending}

@@ -12,7 +12,7 @@ use Rattle.rinqebo_request.specs.declared.files.gathering.Gathered.{Gathered}
 use Rattle.rinqebo_request.specs.declared.files.layers.Layer.{Layer}
 use Rattle.rinqebo_diff.specs.Sides.{Evaluation, IsEvaluationOf}
 use Rattle.rinqebo_diff.specs.declared.request.DiffSide.{DiffSide}
-use Rattle.rinqebo_diff.proofs.OneOrigins.{AreFiles, layer_file}
+use Rattle.rinqebo_diff.proofs.OneOrigins.{AreFiles}
 
 -- A source that was read is a file.
 record IsFile (read : LayerRead) : Type 0 where

@@ -19,7 +19,7 @@ loop-test-init g c = record {
   left_same = c.in_ok-left.ensures;
   right_same = c.in_ok-right.ensures;
   below = omega arith;
-  compared = tests_none (map list_test_view c.args.from_tests.now) c.new-changed.result.items c.new-changed.ensures.items;
+  compared = tests_none _ _ _ _ (map list_test_view c.args.from_tests.now) c.new-changed.result.items c.new-changed.ensures.items;
 }
 
 pub loop-test-preserved : goal.loop-test-preserved
@@ -42,7 +42,7 @@ loop-test-preserved g c =
             left_same = ap (λ s. s.listing.lister) w.left-is ∙ w.compared_pair.ensures.from_lister ∙ inv.left_same;
             right_same = ap (λ s. s.listing.lister) w.right-is ∙ w.compared_pair.ensures.to_lister ∙ inv.right_same;
             below = omega (arith, inv.below, w.done-is);
-            compared = tests_more from done more _ c.loop-test.changed.items _ c.loop-test.done _ pair found
+            compared = tests_more _ _ changes compare.with_runs from done more _ c.loop-test.changed.items _ c.loop-test.done _ pair found
                 (taken_read list_test_view tests i _ _ c.loop-test-test.true refl) w.in-Some.ensures
                 (moved_sides _ _ _ _ inv.from_same inv.to_same
                 (λ o. ReportsBy filter_holds o (profile_meaning (marks_view names_of) c.args.from.now.profile.now)
@@ -64,7 +64,7 @@ loop-test-preserved g c =
         left_same = ap (λ s. s.listing.lister) w.left-is ∙ inv.left_same;
         right_same = ap (λ s. s.listing.lister) w.right-is ∙ inv.right_same;
         below = omega (arith, inv.below, w.done-is);
-        compared = tests_kept from done more _ c.loop-test.changed.items _ c.loop-test.done _
+        compared = tests_kept _ _ changes compare.with_runs from done more _ c.loop-test.changed.items _ c.loop-test.done _
             (taken_read list_test_view tests i _ _ c.loop-test-test.true refl) w.in_default.ensures
             (ap (λ v. v.items) w.changed-is) w.done-is inv.compared;
       }
