@@ -26,7 +26,7 @@ use Rattle.rinqebo_origins.specs.RulePlaces.{Place, id_place}
 use Rattle.rinqebo_origins.specs.TestOrigins.{AreOriginsBy, wrapping_places}
 use Rattle.rinqebo_origins.specs.Trees.{trees_of}
 use Rattle.nextest_rules.specs.Rules.{RuleId}
-use Rattle.rinqebo_changes.specs.SourceViews.{OwnedOrigin, Owner, of_organisation, of_repository, of_tool, owned_view, owner_at, owner_of}
+use Rattle.rinqebo_changes.specs.SourceViews.{Owner, of_organisation, of_repository, of_tool, owned_view, owner_at, owner_of}
 use Rattle.rinqebo_changes.specs.SourceViews as seen
 use Rattle.rinqebo_diff.proofs.InOrder.{all_contains, same_descending}
 

@@ -7,9 +7,8 @@ use Rattle.std.proofs.lemmas.Option.{slice_get-map}
 use Rattle.nextest_sources.specs.Sources.{Source as File, explicit_file, discovered_file}
 use Rattle.nextest_sources.specs.declared.sources.FileInput.{FileInput}
 use Rattle.nextest_sources.specs.declared.sources.ToolConfigFile.{ToolConfigFile}
-use Rattle.rinqebo_request.specs.Files.Layers.{LayerRead, default_layer, file_layer, layer_view, layers_read, organisation_layers, repository_layer, tool_layer}
+use Rattle.rinqebo_request.specs.Files.Layers.{LayerRead, default_layer, file_layer, layer_view, organisation_layers, repository_layer, tool_layer}
 use Rattle.rinqebo_request.specs.declared.files.gathering.Gathered.{Gathered}
-use Rattle.rinqebo_request.specs.declared.files.layers.Layer.{Layer}
 use Rattle.rinqebo_diff.specs.Sides.{Evaluation, IsEvaluationOf}
 use Rattle.rinqebo_diff.specs.declared.request.DiffSide.{DiffSide}
 use Rattle.rinqebo_diff.proofs.OneOrigins.{AreFiles}

@@ -1,4 +1,4 @@
-use Rattle.std.proofs.Common.{◌≡◌, ◌∙◌, ◌+◌, ◌++◌, ◌∷◌, [], List, ap, arith, map, refl, take}
+use Rattle.std.proofs.Common.{◌∙◌, ◌+◌, ap, arith, map, refl, take}
 use Rattle.filter_engine.specs.Compiling.{names_of}
 use Rattle.filter_engine.specs.Engine.{filter_holds}
 use Rattle.filter_inputs.specs.Lists.ListView.{list_test_view}
