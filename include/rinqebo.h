@@ -170,10 +170,10 @@ enum rinqebo_text {
 // Writes a text. Returns DONE, SMALL, or UNKNOWN_NUMBER if there is none of this kind and index. RINQEBO_OBJECTS is an
 // object with the members "run", "groups", "setup-scripts", "wrappers", "findings" and "origins": the values of the
 // profile for a whole run, the test groups in the order of RINQEBO_GROUP, the setup scripts in the order in which they
-// run, the wrapper scripts in the order of RINQEBO_WRAPPER, the warnings of the load, and null. docs/LIBRARY.md lists
-// their members. The document of a whole run has such an object as its member "objects", with programs joined by the
-// target directory of the list, with the tests of the list that enable each setup script, with only the wrapper scripts
-// that the list uses, and with where the values of the run and the groups come from as "origins".
+// run, the wrapper scripts in the order of RINQEBO_WRAPPER, the warnings of the load, and where the values of the run
+// and the groups come from. docs/LIBRARY.md lists their members. The document of a whole run has such an object as its
+// member "objects", with programs joined by the target directory of the list, with the tests of the list that enable
+// each setup script, and with only the wrapper scripts that the list uses.
 uint32_t rinqebo_profile_text(const struct rinqebo_profile *profile, uint32_t kind, size_t index, uint8_t *out,
                               size_t out_len, size_t *needed);
 

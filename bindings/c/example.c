@@ -156,8 +156,9 @@ static int check_objects(const struct rinqebo_profile *profile) {
     if (!argument_is(profile, test_of("", ""), 0, RINQEBO_NOT_KNOWN, "")) return 38;
     test.size -= 1;
     if (!argument_is(profile, test, 0, RINQEBO_BAD_SIZE, "")) return 38;
-    static const char *groups = "\"groups\":[{\"max-threads\":2,\"name\":\"db\"}],\"origins\":null,\"run\":{";
-    uint8_t out[4096];
+    static const char *groups = "\"groups\":[{\"max-threads\":2,\"name\":\"db\"}],\"origins\":{\"groups\":{\"db\":"
+                                "[{\"index\":null,\"kind\":\"file\",\"lines\":[4,4],\"profile\":null,";
+    uint8_t out[8192];
     size_t needed = 0, length = strlen(groups);
     if (rinqebo_profile_text(profile, RINQEBO_OBJECTS, 0, out, sizeof out, &needed) != RINQEBO_DONE) return 39;
     static const char *findings = "{\"findings\":[],";

@@ -177,7 +177,7 @@ pub struct Origin {
     pub profile: Option<String>,
     /// The position of the rule in its list, from 0.
     pub index: Option<usize>,
-    /// The position of the source among those of the document, from 0.
+    /// The position of the source among those of the document, from 0. `Sources::paths` has the same order.
     pub source: Option<usize>,
     /// The first and the last line.
     pub lines: Option<(usize, usize)>,

@@ -256,8 +256,8 @@ pub struct Objects {
     /// The warnings of the load.
     #[serde(rename = "findings")]
     pub warnings: Vec<Warning>,
-    /// Where the values of `run` and the groups come from. A session does not know it, and has `None` here.
-    pub origins: Option<ObjectOrigins>,
+    /// Where the values of `run` and the groups come from.
+    pub origins: ObjectOrigins,
 }
 
 /// A warning of a load, as the library writes it in JSON.

@@ -1,7 +1,7 @@
 //! What a configuration is loaded from: the library's request, which is written as JSON.
 
 use serde::{Serialize, Serializer};
-use std::{fs, io};
+use std::{fs, io, iter};
 
 /// The files of a configuration, with their texts. The caller reads them.
 #[derive(Clone, Debug, Serialize)]
@@ -142,5 +142,14 @@ impl Sources {
             target: None,
             target_directory: None,
         }
+    }
+
+    /// Returns the paths of the files, from the lowest source to the highest, by the positions that origins have. At
+    /// position 0 is the default table, which has no path.
+    pub fn paths(&self) -> Vec<Option<&str>> {
+        let tools = self.tools.iter().rev().map(|tool| &tool.file);
+        let repository = self.config_file.as_ref().unwrap_or(&self.file);
+        let files = tools.chain(&self.organisation_config_file).chain([repository]);
+        iter::once(None).chain(files.map(|file| Some(file.path.as_str()))).collect()
     }
 }

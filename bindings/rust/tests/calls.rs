@@ -769,19 +769,14 @@ fn a_run_has_the_objects_of_its_profile() {
             }
             assert!(listed.wrappers.is_empty());
             listed.wrappers.clone_from(&objects.wrappers);
-            // It does not keep where files write values.
-            assert!(listed.origins.take().is_some());
             assert_eq!(listed, objects);
         }
     }
 }
 
 #[test]
-fn a_run_says_where_its_objects_come_from() {
-    let list = example("list.json");
-    let sources = Sources::of_file("/w", RUNNER, TRIPLE);
-    let request = RunRequest { sources: &sources, profile: "ci", mode: Mode::Test, list: &list };
-    let origins = resolve(&request).unwrap().objects.origins.unwrap();
+fn a_session_says_where_its_objects_come_from() {
+    let origins = runner(None).profile("ci").unwrap().objects().unwrap().origins;
     let text = |line: usize| RUNNER.lines().nth(line - 1).unwrap();
     // The line of the one origin in the file, and the profile that writes it.
     let written = |origins: &[Origin]| -> (String, Option<String>) {
@@ -808,6 +803,36 @@ fn a_run_says_where_its_objects_come_from() {
     assert_eq!(written(&origins.groups["db"]), ("max-threads = 2".to_owned(), None));
     assert_eq!(written(&origins.groups["net"]), ("max-threads = \"num-cpus\"".to_owned(), None));
     assert_eq!(origins.groups.len(), 2);
+}
+
+#[test]
+fn a_session_and_a_run_count_sources_alike() {
+    let list = example("list.json");
+    let group = |text: &str| format!("[test-groups.\"@{text}\"]\nmax-threads = 2\n");
+    let mut sources = Sources::of_file("/w", "[profile.ci]\nfail-fast = false\n", TRIPLE);
+    for tool in ["first", "second"] {
+        let text = group(&format!("tool:{tool}:db"));
+        sources.tools.push(ToolFile { tool: tool.to_owned(), file: File::of(&format!("/{tool}.toml"), &text) });
+    }
+    sources.organisation_config_file = Some(File::of("/org.toml", &group("org:db")));
+    let origins = |sources: &Sources| Config::load(sources).unwrap().profile("ci").unwrap().objects().unwrap().origins;
+    let run = |sources: &Sources| {
+        resolve(&RunRequest { sources, profile: "ci", mode: Mode::Test, list: &list }).unwrap()
+    };
+    let document = run(&sources);
+    let found = origins(&sources);
+    assert_eq!(found, document.objects.origins);
+    let paths = [None, Some("/second.toml"), Some("/first.toml"), Some("/org.toml"), Some("/w/.config/nextest.toml")];
+    assert_eq!(sources.paths(), paths);
+    assert_eq!(document.sources.iter().map(|source| source.path.as_deref()).collect::<Vec<_>>(), paths);
+    let source = |group: &str| found.groups[group][0].source.unwrap();
+    assert_eq!(["@tool:second:db", "@tool:first:db", "@org:db"].map(source), [1, 2, 3]);
+    assert_eq!((found.run.max_fail[0].source, found.run.max_fail[0].lines), (Some(4), Some((2, 2))));
+    // The file that a user named is in place of the repository's own.
+    sources.config_file = Some(File::of("/mine.toml", "[profile.ci]\n\nfail-fast = true\n"));
+    let found = origins(&sources);
+    assert_eq!(found, run(&sources).objects.origins);
+    assert_eq!((sources.paths()[4], found.run.max_fail[0].lines), (Some("/mine.toml"), Some((3, 3))));
 }
 
 #[test]
@@ -876,7 +901,8 @@ fn objects_are_written_as_they_are_read() {
     assert_eq!(written["groups"][1], json!({"name": "net", "max-threads": "num-cpus"}));
     assert_eq!(written["setup-scripts"][0]["slow-timeout"]["period"], json!("90s"));
     assert_eq!(written["setup-scripts"][0]["tests"], json!(null));
-    assert_eq!(written["origins"], json!(null));
+    assert_eq!(written["origins"]["run"]["test-threads"][0]["profile"], json!("default"));
+    assert_eq!(written["origins"]["groups"]["db"][0]["kind"], json!("file"));
 }
 
 #[test]

@@ -5,7 +5,7 @@ ghost use Rattle.rinqebo_session.specs.Statuses.{request_status, engine_status, 
 use crate::status::{
     MEMORY, NO_ENGINES, NO_PROFILE, NOT_LOADED, NOT_TEXT, NOT_UNDERSTOOD, REFUSED,
 };
-use nextest_config::{ConfigParseError, ProfileError, ProfileNotFound};
+use nextest_config::{ConfigParseError, ProfileNotFound};
 use rinqebo_forms::{EngineFault, RequestFault};
 use std::alloc::AllocError;
 use thiserror::Error;
@@ -113,20 +113,6 @@ pub enum OpenFailure {
     /// Memory was refused.
     #[error("out of memory")]
     Memory,
-}
-
-impl From<ProfileError> for OpenFailure {
-    ghost use Rattle.std.specs.Prelude.{◌≡◌};
-    ghost use Rattle.rinqebo_session.specs.Opening.{open_failure};
-
-    ghost from_gives = { λ error failure. failure ≡ open_failure error };
-
-    fn from(error: ProfileError) -> OpenFailure {
-        match error {
-            ProfileError::NotFound(missing) => OpenFailure::NotFound(missing),
-            ProfileError::Memory => OpenFailure::Memory,
-        }
-    }
 }
 
 impl From<AllocError> for OpenFailure {

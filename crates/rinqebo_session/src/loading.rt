@@ -6,7 +6,7 @@ ghost use Rattle.nextest_rules.specs.KnownView.{features_view};
 ghost use Rattle.nextest_tree.specs.View.{tree_view};
 ghost use Rattle.rinqebo_forms.specs.Features.{AreFeaturesBy};
 ghost use Rattle.rinqebo_forms.specs.Requests.{request_view};
-ghost use Rattle.rinqebo_session.specs.Loading.{repository_file, AreFeaturesFor, LoadsBy, IsLoadedBy, IsFailureBy, IsLoadedFrom, IsFailureOf};
+ghost use Rattle.rinqebo_session.specs.Loading.{repository_file, AreFeaturesFor, AreFilesOf, LoadsBy, IsConfiguredBy, IsLoadedBy, IsFailureBy, IsLoadedFrom, IsFailureOf};
 ghost use Rattle.rinqebo_session.specs.Readings.{readings};
 
 use crate::failure::Failure;
@@ -14,19 +14,34 @@ use crate::features::features_of;
 use filter_engine::NextestFilters;
 use nextest_config::{
     BuildPlatforms, ConfigExperimental, ConfigFileSelection, ConfigParseError,
-    DefaultConfigWarnings, FileInput, NextestConfig, ParseContext, Tree,
+    DefaultConfigWarnings, FileInput, LoadedConfig, ParseContext, Tree,
 };
+use nextest_sources::ConfigInputs;
 use platform_language::{Platform, TargetSpecs};
 use rinqebo_forms::{LoadRequest, features_by, filters_of, platforms_of, tree_of};
+use rinqebo_request::Gathered;
 use std::alloc::{AllocError, Global};
 use std::collections::BTreeSet;
 
 /// A configuration whose filters and platforms are written in nextest's languages.
-pub type Config = NextestConfig<NextestFilters, TargetSpecs>;
+pub type Config = LoadedConfig<NextestFilters, TargetSpecs>;
 
 /// A configuration, the machines of a build, and the warnings of the load.
 #[derive(Drop)]
+pub struct Configured {
+    /// The configuration.
+    pub config: Config,
+    /// The machines.
+    pub platforms: BuildPlatforms<Platform>,
+    /// The warnings, in their order.
+    pub warnings: DefaultConfigWarnings,
+}
+
+/// A configuration, and the files that it is loaded from.
+#[derive(Drop)]
 pub struct Loaded {
+    /// The workspace's root, and the files, which say where values come from.
+    pub files: Gathered,
     /// The configuration.
     pub config: Config,
     /// The machines.
@@ -102,47 +117,84 @@ fn config_of(
         filters,
         specs: &TargetSpecs,
     };
-    NextestConfig::from_sources_with_paths(
-        alloc,
-        &asked.paths,
-        &engines,
-        selection_of(asked),
-        &asked.tools,
+    let inputs = ConfigInputs {
+        shared: &asked.paths.shared,
+        selection: selection_of(asked),
+        tools: &asked.tools,
         features,
-        warnings,
-    )
+    };
+    LoadedConfig::load(alloc, &inputs, &engines, warnings)
 }
 
-/// A copy of the target directory, if the request gives it.
-fn target_directory_of(asked: &LoadRequest) -> Result<Option<String>, AllocError>
-    ensures { IfOk result (λ directory.
-        option_map string_bytes directory ≡ (request_view asked.now).target_directory) }
-{
-    match &asked.target_directory {
-        Some(directory) => Ok(Some(directory.clone()?)),
-        None => Ok(None),
-    }
-}
-
-/// What the files of a request denote, with its engines.
-fn loaded_by(alloc: Global, asked: &LoadRequest) -> Result<Loaded, Failure>
-    ensures ok { IfOk result (IsLoadedBy (request_view asked.now)) }
+/// The configuration of a request, by its engines.
+fn configured_by(alloc: Global, asked: &LoadRequest) -> Result<Configured, Failure>
+    ensures ok { IfOk result (IsConfiguredBy (request_view asked.now)) }
     ensures err { IfErr result (IsFailureBy (request_view asked.now)) }
 {
     let filters = filters_of(alloc, &asked.metadata)?;
     let platforms = platforms_of(alloc, asked)?;
     let features = features_for(alloc, asked)?;
-    let target_directory = target_directory_of(asked)?;
     let mut warnings = DefaultConfigWarnings::new(alloc);
     match config_of(alloc, &filters, &features, asked, &mut warnings) {
-        Ok(config) => Ok(Loaded {
+        Ok(config) => Ok(Configured {
             config,
             platforms,
             warnings,
-            target_directory,
         }),
         Err(error) => Err(Failure::Refused(error)),
     }
+}
+
+/// The files of a request, and the target directory, if the request gives it.
+fn parted(asked: LoadRequest) -> (Gathered, Option<String>)
+    ensures files { AreFilesOf (request_view asked) result.0 }
+    ensures target_directory { option_map string_bytes result.1
+        ≡ (request_view asked).target_directory }
+{
+    let LoadRequest {
+        paths,
+        config_file,
+        organisation_file,
+        tools,
+        features: _features,
+        metadata: _metadata,
+        host: _host,
+        target: _target,
+        target_directory,
+    } = asked;
+    let files = Gathered {
+        paths,
+        config_file,
+        organisation_file,
+        tools,
+        rustc_version: None,
+        host_cfg: None,
+        target_cfg: None,
+        metadata: None,
+        list: None,
+    };
+    (files, target_directory)
+}
+
+/// What the files of a request denote, with its engines, and the files.
+fn loaded_by(alloc: Global, asked: LoadRequest) -> Result<Loaded, Failure>
+    ensures ok { IfOk result (IsLoadedBy (request_view asked)) }
+    ensures err { IfErr result (IsFailureBy (request_view asked)) }
+{
+    let configured = configured_by(alloc, &asked)?;
+    let Configured {
+        config,
+        platforms,
+        warnings,
+    } = configured;
+    let (files, target_directory) = parted(asked);
+    Ok(Loaded {
+        files,
+        config,
+        platforms,
+        warnings,
+        target_directory,
+    })
 }
 
 /// What a request denotes.
@@ -154,5 +206,5 @@ pub fn loaded_from(alloc: Global, request: &[u8]) -> Result<Loaded, Failure>
         return Err(Failure::NotText);
     };
     let asked = LoadRequest::read(alloc, text)?;
-    loaded_by(alloc, &asked)
+    loaded_by(alloc, asked)
 }

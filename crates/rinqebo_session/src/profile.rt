@@ -1,12 +1,12 @@
 //! Profiles of a session, and what their calls return.
-ghost use Rattle.std.specs.Prelude.{◌≡◌, ◌≢◌, ◌↔◌, IfOk, IfErr, IsTrue, None, map, option_map, slice_get, string_bytes};
+ghost use Rattle.std.specs.Prelude.{◌≡◌, ◌≢◌, ◌↔◌, IfOk, IfErr, IsTrue, map, option_map, slice_get, string_bytes};
 ghost use Rattle.nextest_load.specs.ConfigView.{groups_view};
 ghost use Rattle.nextest_scripts.specs.ScriptId.{script_text};
+ghost use Rattle.nextest_tables.specs.FileTexts.{names_in, IsIn};
 ghost use Rattle.rinqebo_session.specs.Answering.{ReturnsNumbers, ReturnsBy, ReturnsTest, AreSized, IsAnswerOf};
-ghost use Rattle.rinqebo_objects.specs.Scripts.{directories_view};
 ghost use Rattle.rinqebo_session.specs.Arguments.{ReturnsArgument, ReturnsArgumentBy, IsArgumentCopied, IsArgumentOf, IsCopiedOrNone};
 ghost use Rattle.rinqebo_session.specs.Asking.{needs_on, IsFaultIn, IsKnownTest};
-ghost use Rattle.rinqebo_session.specs.Opening.{directories_in, group_entry, IsObjectsText, IsOpened, IsNotOpened, IsProfileIn, IsOpenedIn};
+ghost use Rattle.rinqebo_session.specs.Opening.{group_entry, IsOpened, IsNotOpened, IsProfileIn, IsOpenedIn};
 ghost use Rattle.nextest_engines.specs.Engines.{test_view};
 ghost use Rattle.filter_engine.specs.Engine.{filter_holds};
 ghost use Rattle.rinqebo_session.specs.Readings.{filter_meaning};
@@ -16,7 +16,9 @@ ghost use Rattle.rinqebo_session.specs.Texts.{MayNotOpenFor, profile_status, nam
 use crate::copies::{copy_nothing, copy_out};
 use crate::failure::OpenFailure;
 use crate::loading::Loaded;
+use crate::named::{Evaluated, evaluated, known_name, missing_profile};
 use crate::needs::Needs;
+use crate::objects::objects_of;
 use crate::session::Session;
 use crate::settings::{SettingNumbers, numbers_of};
 use crate::status::{BAD_SIZE, DONE, UNKNOWN_NUMBER};
@@ -24,11 +26,9 @@ use crate::test::{Asked, CallerTest, TestFault};
 use filter_engine::{NextestFilters, NextestTally};
 use indexmap::IndexMap;
 use nextest_config::{
-    BuildPlatform, CustomTestGroup, EvaluatableProfile, Filters, ScriptId, TestGroupConfig,
-    TestThreads, WrapperScriptConfig,
+    BuildPlatform, CustomTestGroup, Filters, ScriptId, TestGroupConfig, TestThreads,
+    WrapperScriptConfig,
 };
-use platform_language::TargetSpecs;
-use rinqebo_objects::{Directories, Surroundings, objects_text};
 use std::alloc::{AllocError, Global};
 use std::collections::BTreeMap;
 use std::mem::size_of;
@@ -46,7 +46,7 @@ pub struct Group<'a> {
 #[derive(Drop)]
 pub struct Opened<'a> {
     /// The profile.
-    pub profile: EvaluatableProfile<'a, NextestFilters, TargetSpecs>,
+    pub profile: Evaluated<'a>,
     /// The groups that the configuration defines.
     pub groups: Vec<Group<'a>>,
     /// The ids of the wrapper scripts that it defines.
@@ -101,66 +101,17 @@ fn ids_of<'a>(
     Ok(ids)
 }
 
-/// The directories that programs are relative to, if there is a target directory.
-fn directories_of(loaded: &Loaded) -> Option<Directories<'_>>
-    ensures { directories_view result ≡ directories_in loaded.now }
+/// A profile that a configuration has.
+fn opened_as<'a>(alloc: Global, loaded: &'a Loaded, name: &'a str) -> Result<Opened<'a>, AllocError>
+    requires { IsIn (names_in loaded.now.config.config.profiles) name.now }
+    ensures { IfOk result (IsOpened loaded.now name.now) }
 {
-    match &loaded.target_directory {
-        Some(target) => Some(Directories {
-            root: loaded.config.workspace_root(),
-            target: target.as_str(),
-        }),
-        None => None,
-    }
-}
-
-/// What the objects of a profile have from a configuration whose profiles have these names. It is
-/// not known where values come from.
-fn surroundings_of<'a>(loaded: &'a Loaded, profiles: &'a [String]) -> Surroundings<'a>
-    ensures profiles { result.profiles.now ≡ profiles.now }
-    ensures warnings { result.warnings.now ≡ loaded.now.warnings }
-    ensures directories { directories_view result.directories ≡ directories_in loaded.now }
-    ensures origins { result.origins ≡ None }
-{
-    Surroundings {
-        profiles,
-        warnings: &loaded.warnings,
-        directories: directories_of(loaded),
-        origins: None,
-    }
-}
-
-/// The objects of a profile of a configuration, as a text.
-fn objects_of(
-    alloc: Global,
-    loaded: &Loaded,
-    profile: &EvaluatableProfile<'_, NextestFilters, TargetSpecs>,
-) -> Result<String, AllocError>
-    ensures { IfOk result (λ text.
-        IsObjectsText loaded.now profile.now.facts profile.now.default_filter.text
-        (string_bytes text)) }
-{
-    let profiles = loaded.config.profile_names(alloc)?;
-    let around = surroundings_of(loaded, &profiles);
-    let mut tally = NextestTally::new();
-    let text = objects_text(alloc, profile, around, &mut tally)?;
-    Ok(text)
-}
-
-/// The profile of a name in a configuration.
-fn opened_of<'a>(alloc: Global, loaded: &'a Loaded, name: &str) -> Result<Opened<'a>, OpenFailure>
-    ensures ok { IfOk result (IsOpened loaded.now name.now) }
-    ensures err { IfErr result (IsNotOpened loaded.now name.now) }
-{
-    let early = loaded.config.profile(alloc, name)?;
-    let Ok(profile) = early.apply_build_platforms(alloc, &loaded.platforms) else {
-        return Err(OpenFailure::Memory);
-    };
+    let profile = evaluated(alloc, loaded, name)?;
     let groups = groups_of(alloc, profile.test_group_config())?;
     let wrappers = ids_of(alloc, &profile.script_config().wrapper)?;
     let for_host = Needs::of(&profile, BuildPlatform::Host);
     let for_target = Needs::of(&profile, BuildPlatform::Target);
-    let objects = objects_of(alloc, loaded, &profile)?;
+    let objects = objects_of(alloc, loaded, name, &profile)?;
     Ok(Opened {
         profile,
         groups,
@@ -169,6 +120,20 @@ fn opened_of<'a>(alloc: Global, loaded: &'a Loaded, name: &str) -> Result<Opened
         for_target,
         objects,
     })
+}
+
+/// The profile of a name in a configuration.
+fn opened_of<'a>(alloc: Global, loaded: &'a Loaded, name: &str) -> Result<Opened<'a>, OpenFailure>
+    ensures ok { IfOk result (IsOpened loaded.now name.now) }
+    ensures err { IfErr result (IsNotOpened loaded.now name.now) }
+{
+    match known_name(&loaded.config, name) {
+        Some(known) => Ok(opened_as(alloc, loaded, known)?),
+        None => {
+            let missing = missing_profile(alloc, &loaded.config, name)?;
+            Err(OpenFailure::NotFound(missing))
+        }
+    }
 }
 
 /// The profile of a name in a session.

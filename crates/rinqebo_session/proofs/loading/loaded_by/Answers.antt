@@ -1,15 +1,11 @@
-use Rattle.nextest_rules.specs.KnownView.{features_view}
 use Rattle.rinqebo_session.proofs.loading.loaded_by.Goals as goal
 
-pub returns-in-Ok-clause-ok : goal.returns-in-Ok-clause-ok
-returns-in-Ok-clause-ok c = record {
-  loads = record {
-    filters = c.in_ok-filters.filters;
-    are_filters = c.in_ok-filters.ensures.ok;
-    features = features_view c.in_ok-features.features;
-    are_features = c.in_ok-features.ensures;
-    loads = c.in-Ok.ensures c.new-warnings.ensures;
-  };
-  platforms = c.in_ok-platforms.ensures.ok;
-  target_directory = c.in_ok-target_directory.ensures;
-}
+pub returns-clause-ok : goal.returns-clause-ok
+returns-clause-ok c =
+    let configured = c.in_ok-configured.ensures.ok in
+    record {
+      loads = configured.loads;
+      platforms = configured.platforms;
+      files = c.parted.ensures.files;
+      target_directory = c.parted.ensures.target_directory;
+    }
