@@ -5,6 +5,7 @@ use Rattle.std.specs.Option.{option_to_list}
 use Rattle.std.proofs.lemmas.List.Elements.{filter_map-append}
 use Rattle.std.proofs.lemmas.Slice.Zip.{all_zipped_more}
 use Rattle.filter_inputs.specs.Lists.Lists.{ListTest}
+use Rattle.filter_inputs.specs.declared.lists.list.ListedTest.{ListedTest}
 use Rattle.rinqebo_changes.specs.Changes.{changed_rows, rows_in, IsChangedTest}
 use Rattle.rinqebo_changes.specs.declared.change.SideRow.{SideRow}
 use Rattle.rinqebo_changes.specs.declared.change.TestChanges.{TestChanges}
@@ -62,15 +63,20 @@ renamed P one two asked runs with_runs a b c d is_one is_two is_runs is_left is_
     (subst (λ other. P other two runs a c) is_one is))))
 
 -- what is said of a pair is said of it by other names of what its sides are evaluated by
-pub moved_sides : {A B : Type 0} {changes : SideRow → SideRow → Bool} {with_runs : Bool} {pair : TestPair}
-    {result : Option TestChanges} (left : A → ListTest → TestRows → Type 0) (right : B → ListTest → TestRows → Type 0)
-    (a b : A) (c d : B) → a ≡ b → c ≡ d → IsComparedBy (left a) (right c) changes with_runs pair result
+pub moved_sides : {A B : Type 0} (a b : A) (c d : B) → a ≡ b → c ≡ d → (left : A → ListTest → TestRows → Type 0)
+    (right : B → ListTest → TestRows → Type 0) (changes : SideRow → SideRow → Bool) (with_runs : Bool) (pair : TestPair)
+    (result : Option TestChanges) → IsComparedBy (left a) (right c) changes with_runs pair result
     → IsComparedBy (left b) (right d) changes with_runs pair result
-moved_sides {A} {B} {changes} {with_runs} {pair} {result} left right a b c d one two is =
+moved_sides a b c d one two left right changes with_runs pair result is =
     subst (λ o. IsComparedBy (left b) (right o) changes with_runs pair result) two
     (subst (λ o. IsComparedBy (left o) (right c) changes with_runs pair result) one is)
 
-module _ {left right : ListTest → TestRows → Type 0} {changes : SideRow → SideRow → Bool} {with_runs : Bool}
+-- what is said of two lists is said of them by other names
+pub lists_as : (P : List ListedTest → List ListedTest → Type 0) (a b c d : List ListedTest) → a ≡ b → c ≡ d → P a c
+    → P b d
+lists_as P a b c d one two is = subst (P b) two (subst (λ tests. P tests c) one is)
+
+module _ (left right : ListTest → TestRows → Type 0) (changes : SideRow → SideRow → Bool) (with_runs : Bool)
     (from : List ListTest) where
   abbrev AreSo : List ListTest → List TestChanges → ℕ → Type 0
   AreSo = AreTestsCompared left right changes with_runs from
@@ -85,13 +91,18 @@ module _ {left right : ListTest → TestRows → Type 0} {changes : SideRow → 
   }
 
   -- a test that the left list lacks is not compared
-  pub tests_kept : (done more : List ListTest) (test : ListTest) (changed : List TestChanges) (count : ℕ)
-      → more ≡ done ++ test ∷ [] → is_in from test ≡ false → AreSo done changed count → AreSo more changed count
-  tests_kept done more test changed count is none so = record {
+  pub tests_kept : (done more : List ListTest) (test : ListTest) (changed after : List TestChanges) (count next : ℕ)
+      → more ≡ done ++ test ∷ [] → is_in from test ≡ false → after ≡ changed → next ≡ count → AreSo done changed count
+      → AreSo more after next
+  tests_kept done more test changed after count next is none then same so = record {
     pairs = so.pairs;
     are_pairs = pairs_kept from done more test so.pairs is none so.are_pairs;
-    are_compared = so.are_compared;
-    counted = so.counted;
+    are_compared = record {
+      results = so.are_compared.results;
+      each = so.are_compared.each;
+      kept = then ∙ so.are_compared.kept;
+    };
+    counted = same ∙ so.counted;
   }
 
   -- one more test is compared

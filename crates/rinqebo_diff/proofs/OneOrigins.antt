@@ -1,5 +1,5 @@
 -- What origins are those of determines the owners of their files, and what they have beside these.
-use Rattle.std.proofs.Common.{◌≡◌, ◌∙◌, ℕ, zero, suc, false, List, [], ◌∷◌, ◌++◌, Option, None, Some, String, Global, map, option_map, option_and_then, string_bytes, refl, sym, ap, subst}
+use Rattle.std.proofs.Common.{◌≡◌, ◌∙◌, ℕ, zero, suc, false, List, [], ◌∷◌, ◌++◌, Option, None, Some, map, option_map, option_and_then, string_bytes, refl, sym, ap, subst}
 use Rattle.std.specs.Prelude.{slice_get}
 use Rattle.std.specs.List.{AllByRecursion, AllZip}
 use Rattle.std.proofs.lemmas.Option.{slice_get-map}
@@ -23,11 +23,10 @@ use Rattle.rinqebo_origins.specs.KnownOrigins.{AreOriginsAt}
 use Rattle.rinqebo_origins.specs.Origins.{IsOriginOf, IsWrittenAt, PathStep, key_steps}
 use Rattle.rinqebo_origins.specs.ProfileOrigins.{AreProfileOrigins, AreWrittenOrigins, HasNoReport, IsBuiltIn, IsLayerOrigin, built_in, key_path, is_rule_key, no_key, no_leaf, no_profile, no_report, written}
 use Rattle.rinqebo_origins.specs.RulePlaces.{Place, id_place}
-use Rattle.rinqebo_origins.specs.TestOrigins.{AreOriginsBy, Basis, wrapping_places}
+use Rattle.rinqebo_origins.specs.TestOrigins.{AreOriginsBy, wrapping_places}
 use Rattle.rinqebo_origins.specs.Trees.{trees_of}
 use Rattle.nextest_rules.specs.Rules.{RuleId}
-use Rattle.rinqebo_changes.specs.OriginViews.{written_view}
-use Rattle.rinqebo_changes.specs.SourceViews.{OwnedOrigin, Owner, of_organisation, of_repository, of_tool, owned_view, owner_at, owner_of}
+use Rattle.rinqebo_changes.specs.SourceViews.{Owner, of_organisation, of_repository, of_tool, owned_view, owner_at, owner_of}
 use Rattle.rinqebo_changes.specs.SourceViews as seen
 use Rattle.rinqebo_diff.proofs.InOrder.{all_contains, same_descending}
 
@@ -73,19 +72,22 @@ owner_by organisation_file = of_organisation
 owner_by explicit_file = of_repository
 owner_by discovered_file = of_repository
 
+abbrev file_at : List ℕ → Brought → File
+file_at path brought = record { path = path; kind = brought }
+
+one_owner : (path : List ℕ) (brought : Brought) (file : File) → Some (file_at path brought) ≡ Some file
+    → owner_by brought ≡ owner_by file.kind
+one_owner path brought file is =
+    let same : file_at path brought ≡ file = cc in ap (λ (f : File). owner_by f.kind) same
+
 kind_brought : (kind : SourceKind) (path : Option (List ℕ)) (file : File)
     → option_and_then (file_of (reported_kind kind)) path ≡ Some file → owner_of kind ≡ owner_by file.kind
-kind_brought kind None file is = absurd (let no : None ≡ Some file = is in cc)
-kind_brought told.Default (Some path) file is = absurd (let no : None ≡ Some file = is in cc)
-kind_brought (told.Tool name) (Some path) file is =
-    let same : record { path = path; kind = tool_file (string_bytes name) } ≡ file = cc in
-    ap (λ (f : File). owner_by f.kind) same
-kind_brought told.Organisation (Some path) file is =
-    let same : record { path = path; kind = organisation_file } ≡ file = cc in ap (λ (f : File). owner_by f.kind) same
-kind_brought told.Explicit (Some path) file is =
-    let same : record { path = path; kind = explicit_file } ≡ file = cc in ap (λ (f : File). owner_by f.kind) same
-kind_brought told.Discovered (Some path) file is =
-    let same : record { path = path; kind = discovered_file } ≡ file = cc in ap (λ (f : File). owner_by f.kind) same
+kind_brought kind None file is = absurd (let none : None ≡ Some file = is in cc)
+kind_brought told.Default (Some path) file is = absurd (let none : None ≡ Some file = is in cc)
+kind_brought (told.Tool name) (Some path) file is = one_owner path (tool_file (string_bytes name)) file is
+kind_brought told.Organisation (Some path) file is = one_owner path organisation_file file is
+kind_brought told.Explicit (Some path) file is = one_owner path explicit_file file is
+kind_brought told.Discovered (Some path) file is = one_owner path discovered_file file is
 
 -- the source of a file has the file's owner
 owner_brought : (source : Source) (file : File) → reported_file source ≡ Some file
@@ -103,7 +105,7 @@ pub record AreFiles (layers : List Layer) : Type 0 where
 
 -- no layer is a file that a layer is
 in_no_file : (layers : List Layer) (file : File) (n : ℕ) → HasNoFile layers file → IsFileAt layers file n → ⊥
-in_no_file [] file n none is = absurd (let no : None ≡ Some file = is in cc)
+in_no_file [] file n none is = absurd (let none : None ≡ Some file = is in cc)
 in_no_file (layer ∷ layers) file zero none is = none.0 is
 in_no_file (layer ∷ layers) file (suc n) none is = in_no_file layers file n none.1 is
 
@@ -121,8 +123,8 @@ module _ (layers : List Layer) where
   owner_in : (source : Option Source) (layer : Option Layer) (file : File)
       → option_map reported_file source ≡ option_map layer_file layer → option_and_then layer_file layer ≡ Some file
       → option_map (λ s. owner_of s.kind) source ≡ Some (owner_by file.kind)
-  owner_in source None file same is = absurd (let no : None ≡ Some file = is in cc)
-  owner_in None (Some layer) file same is = absurd (let no : None ≡ Some (layer_file layer) = same in cc)
+  owner_in source None file same is = absurd (let none : None ≡ Some file = is in cc)
+  owner_in None (Some layer) file same is = absurd (let none : None ≡ Some (layer_file layer) = same in cc)
   owner_in (Some source) (Some layer) file same is =
       let both : Some (reported_file source) ≡ Some (layer_file layer) = same in
       let one : reported_file source ≡ layer_file layer = cc in
@@ -137,7 +139,7 @@ module _ (layers : List Layer) where
   none_there : (source : Option Source) → option_map reported_file source ≡ None
       → option_map (λ s. owner_of s.kind) source ≡ None
   none_there None is = refl
-  none_there (Some source) is = absurd (let no : Some (reported_file source) ≡ None = is in cc)
+  none_there (Some source) is = absurd (let none : Some (reported_file source) ≡ None = is in cc)
 
   module _ (s t : List Source) (one_s : AreSources s) (one_t : AreSources t) (files : AreFiles layers) where
     -- one file has one owner

@@ -4,23 +4,19 @@ use Rattle.std.specs.Prelude.{slice_get}
 use Rattle.std.specs.Option.{option_map_or}
 use Rattle.std.specs.List.{AllByRecursion}
 use Rattle.std.proofs.lemmas.Option.{slice_get-map}
-use Rattle.nextest_sources.specs.Sources.{Source as File, SourceKind as Brought, explicit_file, discovered_file}
+use Rattle.nextest_sources.specs.Sources.{Source as File, explicit_file, discovered_file}
 use Rattle.nextest_sources.specs.declared.sources.FileInput.{FileInput}
 use Rattle.nextest_sources.specs.declared.sources.ToolConfigFile.{ToolConfigFile}
-use Rattle.rinqebo_request.specs.Files.Layers.{LayerRead, default_layer, file_layer, layer_view, layers_read, organisation_layers, repository_layer, tool_layer}
+use Rattle.rinqebo_request.specs.Files.Layers.{LayerRead, default_layer, file_layer, layer_view, organisation_layers, repository_layer, tool_layer}
 use Rattle.rinqebo_request.specs.declared.files.gathering.Gathered.{Gathered}
-use Rattle.rinqebo_request.specs.declared.files.layers.Layer.{Layer}
 use Rattle.rinqebo_diff.specs.Sides.{Evaluation, IsEvaluationOf}
 use Rattle.rinqebo_diff.specs.declared.request.DiffSide.{DiffSide}
-use Rattle.rinqebo_diff.proofs.OneOrigins.{AreFiles, layer_file}
+use Rattle.rinqebo_diff.proofs.OneOrigins.{AreFiles}
 
 -- A source that was read is a file.
 record IsFile (read : LayerRead) : Type 0 where
   file : File
   is : read.file ≡ Some file
-
-is_brought : (kind : Brought) (input : FileInput) → IsFile (file_layer (Some kind) input)
-is_brought kind input = record { file = _; is = refl }
 
 both_files : (xs ys : List LayerRead) → AllByRecursion IsFile xs → AllByRecursion IsFile ys
     → AllByRecursion IsFile (xs ++ ys)

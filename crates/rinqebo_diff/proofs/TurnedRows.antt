@@ -44,19 +44,18 @@ either_along f g (inl n) = inl (λ c. n (f c))
 either_along f g (inr n) = inr (n.0, λ d. n.1 (g d))
 
 module _ (from to files others : List Source) (w : Bool) where
-  -- a setting changes from both sides, or from neither, if its value is the same in both
-  turned_by : (l r m k : SideRow) → SaySame l k → SaySame r m
-      → (Changes from to w l r → Changes files others w m k) → (Changes files others w m k → Changes from to w l r)
-      → is_change files others w m k ≡ is_change from to w l r
-  turned_by l r m k one two into back =
+  -- a setting changes from both sides, or from neither
+  turned_by : (l r m k : SideRow) → (Changes from to w l r → Changes files others w m k)
+      → (Changes files others w m k → Changes from to w l r) → is_change files others w m k ≡ is_change from to w l r
+  turned_by l r m k into back =
       same_from_decides (is_change files others w m k) (is_change from to w l r) (change_decides files others w m k)
       (Decides-like (is_change from to w l r) into back (change_decides from to w l r))
 
-  -- and if it comes from the same
+  -- so it is of one that has the same values and comes from the same
   pub change_alike : (l r m k : SideRow) → ComeAlike from others l k → ComeAlike to files r m
       → is_change files others w m k ≡ is_change from to w l r
   change_alike l r m k one two =
-      turned_by l r m k one.said two.said
+      turned_by l r m k
       (either_along (λ e. one.said.value ∙ sym e ∙ sym two.said.value) (λ e. one.source ∙ sym e ∙ sym two.source))
       (either_along (λ e. sym two.said.value ∙ sym e ∙ one.said.value) (λ e. sym two.source ∙ sym e ∙ one.source))
 
@@ -68,6 +67,6 @@ either_without f (inr n) = absurd (let no : false ≡ true = n.0 in cc)
 pub change_turned : (from to files others : List Source) (l r m k : SideRow) → SaySame l k → SaySame r m
     → is_change files others false m k ≡ is_change from to false l r
 change_turned from to files others l r m k one two =
-    turned_by from to files others false l r m k one two
+    turned_by from to files others false l r m k
     (either_without (λ e. one.value ∙ sym e ∙ sym two.value))
     (either_without (λ e. sym two.value ∙ sym e ∙ one.value))
