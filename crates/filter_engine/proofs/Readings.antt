@@ -27,4 +27,5 @@ pub points_into : (text : List ℕ) (fault : FiltersetFault) (refusal : Refusal)
     → fault.span.start + fault.span.length ≤ length text → refusal_view refusal ≡ fault_refusal fault
     → PointsInto text (refusal_view refusal)
 points_into text fault refusal fits says =
-    subst (PointsInto text) (sym says) (omega arith, fits)
+    let ordered : fault.span.start ≤ fault.span.start + fault.span.length = omega arith in
+    subst (PointsInto text) (sym says) (ordered, fits)
