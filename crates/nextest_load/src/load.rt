@@ -211,14 +211,14 @@ impl<F: Filters, S: Specs> LoadedLayers<F, S> {
     }
 
     /// Reads one more input above these.
-    fn read_layer<P: ParsedTexts, W: ConfigWarnings>(
+    fn read_layer<'x, P: ParsedTexts, W: ConfigWarnings>(
         &mut self,
         alloc: Global,
         pcx: &ParseContext<'_, F, S>,
         features: &BTreeSet<ConfigExperimental>,
         place: usize,
-        input: &SourceInput<'_>,
-        parsed: &P,
+        input: &'x SourceInput<'x>,
+        parsed: &'x P,
         warnings: &mut W,
     ) -> Result<(), ConfigParseError>
         requires { IfSome self.old.defaults (λ tree. tree_view tree ≡ defaults) }

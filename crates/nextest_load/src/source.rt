@@ -79,7 +79,7 @@ fn copy_parsed(
     file: &SourceFile<'_>,
     parsed: ParsedText<'_>,
 ) -> Result<Tree, ConfigParseError>
-    requires { IsParseOf file.now.text.now parsed.entry }
+    requires { IsParseOf file.now.text.now parsed }
     ensures found { let s = source_text_view file.now in
         Found (fault_at_source s.source (document_cause (tree_of s.text))) (ending result) }
     ensures document { IfOk result (λ tree. tree_of file.now.text.now ≡ Some (tree_view tree)) }
