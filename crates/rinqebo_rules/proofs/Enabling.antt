@@ -1,6 +1,5 @@
 -- Setup scripts that tests enable, by the script rules that hold for some of the tests.
-use Rattle.std.proofs.Common.{◌≡◌, ◌∙◌, ◌∷◌, ◌++◌, [], ◌&&◌, ◌||◌, ◌+◌, ℕ, Bool, List, Some, true, false, ap, ap₂, cond, filter, map, refl, slice_get, sym, take, unwrap_or}
-use Rattle.std.proofs.lemmas.List.{append_assoc, map-append}
+use Rattle.std.proofs.Common.{◌≡◌, ◌∙◌, ◌∷◌, [], ◌&&◌, ◌||◌, ◌+◌, ℕ, Bool, List, Some, true, false, ap, ap₂, map, refl, slice_get, sym, take, unwrap_or}
 use Rattle.std.proofs.lemmas.List.Folds.{list_any_at, list_any_more}
 use Rattle.std.proofs.lemmas.Option.{get_or_from_slice_get, slice_get_within}
 use Rattle.std.specs.List.{list_any}
@@ -80,34 +79,3 @@ module _ {M : Type 0} (tests : List (QueryContext M)) (id : Name) (rules : List 
   not_enabled_more stands fails none =
       list_any_more (is_used_for tests id) rules n rule (slice_get_within rules n rule stands)
       ∙ ap₂ (λ a b. a || b) none (ap (is_used_for tests id) (get_or_from_slice_get rules n rule rule stands) ∙ fails)
-
-module _ {A X : Type 0} (view : A → Name × X) (keeps : Name → Bool) where
-  -- the ids that are kept of the scripts that are left
-  abbrev pub ids_left : List A → List Name
-  ids_left left = map (λ e. e.0) (filter (λ e. keeps e.0) (map view left))
-
-  left_kept : (script : A) (left : List A) → keeps (view script).0 ≡ true
-      → ids_left (script ∷ left) ≡ (view script).0 ∷ ids_left left
-  left_kept script left is =
-      ap (λ b. map (λ e. e.0) (cond b (view script ∷ filter (λ e. keeps e.0) (map view left))
-      (filter (λ e. keeps e.0) (map view left)))) is
-
-  left_out : (script : A) (left : List A) → keeps (view script).0 ≡ false → ids_left (script ∷ left) ≡ ids_left left
-  left_out script left is =
-      ap (λ b. map (λ e. e.0) (cond b (view script ∷ filter (λ e. keeps e.0) (map view left))
-      (filter (λ e. keeps e.0) (map view left)))) is
-
-  -- one script more that is kept
-  pub id_more : {S : Type 0} (bytes : S → Name) (old new : List S) (id : S) (script : A) (left : List A)
-      (all : List Name) → map bytes old ++ ids_left (script ∷ left) ≡ all → keeps (view script).0 ≡ true
-      → new ≡ old ++ id ∷ [] → bytes id ≡ (view script).0 → map bytes new ++ ids_left left ≡ all
-  id_more bytes old new id script left all so_far is put named =
-      ap (λ ids. ids ++ ids_left left)
-      (ap (map bytes) put ∙ map-append bytes old (id ∷ []) ∙ ap (λ name. map bytes old ++ name ∷ []) named)
-      ∙ append_assoc (map bytes old) ((view script).0 ∷ []) (ids_left left)
-      ∙ ap (λ ids. map bytes old ++ ids) (sym (left_kept script left is)) ∙ so_far
-
-  -- one script more that is not kept
-  pub id_same : (now : List Name) (script : A) (left : List A) (all : List Name)
-      → now ++ ids_left (script ∷ left) ≡ all → keeps (view script).0 ≡ false → now ++ ids_left left ≡ all
-  id_same now script left all so_far is = ap (λ ids. now ++ ids) (sym (left_out script left is)) ∙ so_far
