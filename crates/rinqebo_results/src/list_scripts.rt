@@ -12,7 +12,7 @@ ghost use Rattle.rinqebo_rules.specs.Unused.{AreUsedIn};
 
 use crate::list_report::Profile;
 use filter_engine::NextestTally;
-use nextest_config::NextestRunMode;
+use nextest_elements::NextestRunMode;
 use rinqebo_load::Session;
 use rinqebo_report::ListScripts;
 use rinqebo_rules::{UsedRules, scripts_by, scripts_of};
