@@ -1,4 +1,9 @@
 //! What is wrong with values that a file may not have, in words.
+ghost use Rattle.std.specs.Prelude.{◌≡◌, Some, IfOk, map, option_map, string_bytes};
+ghost use Rattle.std.specs.Option.{option_copied};
+ghost use Rattle.nextest_tree.specs.View.{tree_view};
+ghost use Rattle.rinqebo_faults.specs.Elements.{bad_text, element_notes, is_text, lack_text, out_of_range, refused_notes, wanted, wanted_text, wrong_element, wrong_kind};
+
 use crate::expected::{expected_at, expected_name, expected_text};
 use crate::given::kind_words;
 use crate::headers::header_text;
@@ -12,7 +17,10 @@ use nextest_tree::{ElementCause, Tree};
 use std::alloc::{AllocError, Global};
 
 /// What is wrong with a value of a wrong kind: the kind that it has.
-fn wrong_kind(alloc: Global, name: &str, given: Option<&Tree>) -> Result<String, AllocError> {
+fn wrong_kind(alloc: Global, name: &str, given: Option<&Tree>) -> Result<String, AllocError>
+    ensures { IfOk result (λ text. string_bytes text
+        ≡ wrong_kind name.now (option_map (λ tree. tree_view tree.now) given.entry)) }
+{
     match given {
         Some(tree) => {
             let kind = kind_words(tree);
@@ -23,7 +31,10 @@ fn wrong_kind(alloc: Global, name: &str, given: Option<&Tree>) -> Result<String,
 }
 
 /// What is wrong with a value that is out of its range: the value.
-fn out_of_range(alloc: Global, name: &str, given: Option<&Tree>) -> Result<String, AllocError> {
+fn out_of_range(alloc: Global, name: &str, given: Option<&Tree>) -> Result<String, AllocError>
+    ensures { IfOk result (λ text. string_bytes text
+        ≡ out_of_range name.now (option_map (λ tree. tree_view tree.now) given.entry)) }
+{
     match given {
         Some(Tree::Int(number)) => format!(in alloc; "{name} is {number}"),
         Some(Tree::Array(items)) if items.is_empty() => format!(in alloc; "{name} is empty"),
@@ -35,22 +46,33 @@ fn out_of_range(alloc: Global, name: &str, given: Option<&Tree>) -> Result<Strin
     }
 }
 
+/// Whether the value at a path is a text.
+fn is_text(found: Option<&Tree>, given: &str) -> bool
+    ensures { result ≡ is_text (option_map (λ tree. tree_view tree.now) found.entry) given.now }
+{
+    match found {
+        Some(Tree::Text(text)) => text.as_str() == given,
+        _ => false,
+    }
+}
+
 /// What is wrong with a text that is not taken: the text, or the name that it is.
 fn bad_text(
     alloc: Global,
     name: &str,
     given: &str,
     found: Option<&Tree>,
-) -> Result<String, AllocError> {
-    match found {
-        Some(Tree::Text(text)) if text.as_str() == given => {
-            if given.is_empty() {
-                return format!(in alloc; "{name} is empty");
-            }
-            format!(in alloc; "{name} is `{given}`")
-        }
-        _ => format!(in alloc; "`{given}` is not a valid name here"),
+) -> Result<String, AllocError>
+    ensures { IfOk result (λ text. string_bytes text
+        ≡ bad_text name.now given.now (option_map (λ tree. tree_view tree.now) found.entry)) }
+{
+    if !is_text(found, given) {
+        return format!(in alloc; "`{given}` is not a valid name here");
     }
+    if given.is_empty() {
+        return format!(in alloc; "{name} is empty");
+    }
+    format!(in alloc; "{name} is `{given}`")
 }
 
 /// What is wrong with the value at a path, if there is one.
@@ -59,7 +81,10 @@ pub fn wrong_element(
     found: Option<&Tree>,
     cause: &ElementCause,
     path: &[Step<'_>],
-) -> Result<String, AllocError> {
+) -> Result<String, AllocError>
+    ensures { IfOk result (λ text. string_bytes text
+        ≡ wrong_element (option_map (λ tree. tree_view tree.now) found.entry) cause.now path.now) }
+{
     let name = called(alloc, path)?;
     let name = name.as_str();
     match cause {
@@ -80,10 +105,14 @@ fn wanted_text(
     path: &[Step<'_>],
     given: &str,
     expected: &str,
-) -> Result<Option<String>, AllocError> {
-    let words = match found {
-        Some(Tree::Text(text)) if text.as_str() == given => expected_text(alloc, path)?,
-        _ => expected_name(alloc, path)?,
+) -> Result<Option<String>, AllocError>
+    ensures { IfOk result (λ words. option_map string_bytes words ≡ Some (wanted_text
+        (option_map (λ tree. tree_view tree.now) found.entry) path.now given.now expected.now)) }
+{
+    let words = if is_text(found, given) {
+        expected_text(alloc, path)?
+    } else {
+        expected_name(alloc, path)?
     };
     match words {
         Some(words) => Ok(Some(words)),
@@ -97,7 +126,10 @@ pub fn wanted(
     found: Option<&Tree>,
     cause: &ElementCause,
     path: &[Step<'_>],
-) -> Result<Option<String>, AllocError> {
+) -> Result<Option<String>, AllocError>
+    ensures { IfOk result (λ words. option_map string_bytes words
+        ≡ wanted (option_map (λ tree. tree_view tree.now) found.entry) cause.now path.now) }
+{
     match cause {
         ElementCause::BadValue { given, expected } => {
             wanted_text(alloc, found, path, given.as_str(), *expected)
@@ -143,19 +175,36 @@ pub fn advice(
     spelled(alloc, found, path)
 }
 
-/// The notes about a value that is refused: the keys that its table has, where it is a key.
-pub fn element_notes(
-    alloc: Global,
-    cause: &ElementCause,
-    path: &[Step<'_>],
-) -> Result<Vec<String>, AllocError> {
+/// The notes about the key at the end of a path, which its table refuses.
+fn refused_notes(alloc: Global, path: &[Step<'_>]) -> Result<Vec<String>, AllocError>
+    ensures { IfOk result (λ notes. map string_bytes notes.items ≡ refused_notes path.now) }
+{
     let mut notes = Vec::new(alloc);
-    if let (ElementCause::UnknownField, Some((_key, table))) = (cause, path.split_last()) {
+    if let Some((_key, table)) = path.split_last() {
         if let Some(note) = keys_note(alloc, table)? {
             notes.push(note)?;
         }
     }
     Ok(notes)
+}
+
+/// The notes about a value that is refused: the keys that its table has, where it is a key.
+pub fn element_notes(
+    alloc: Global,
+    cause: &ElementCause,
+    path: &[Step<'_>],
+) -> Result<Vec<String>, AllocError>
+    ensures { IfOk result (λ notes. map string_bytes notes.items
+        ≡ element_notes cause.now path.now) }
+{
+    match cause {
+        ElementCause::UnknownField => refused_notes(alloc, path),
+        ElementCause::WrongKind
+        | ElementCause::Missing(_)
+        | ElementCause::BadValue { .. }
+        | ElementCause::OutOfRange
+        | ElementCause::Memory => Ok(Vec::new(alloc)),
+    }
 }
 
 /// That the table at a path lacks a key, and may have another one in its place.
@@ -164,7 +213,10 @@ pub fn lack_text(
     key: &str,
     table: &[Step<'_>],
     stray: Option<&str>,
-) -> Result<String, AllocError> {
+) -> Result<String, AllocError>
+    ensures { IfOk result (λ text. string_bytes text
+        ≡ lack_text key.now table.now (option_copied stray.entry)) }
+{
     let name = called(alloc, table)?;
     match stray {
         Some(stray) => format!(in alloc; "{name} needs `{key}`, not `{stray}`"),

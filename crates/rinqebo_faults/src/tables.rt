@@ -1,4 +1,15 @@
 //! What tables and values are called, and the keys that tables have.
+ghost use Rattle.std.specs.Prelude.{◌≡◌, ◌++◌, IfOk, map, option_map, string_bytes};
+ghost use Rattle.std.specs.Option.{option_copied};
+ghost use Rattle.nextest_shape.specs.Keys.{keys_at};
+ghost use Rattle.nextest_shape.specs.View.{shape_view};
+ghost use Rattle.nextest_tree.specs.Node.{as_table};
+ghost use Rattle.nextest_tree.specs.Schema.{is_one_of};
+ghost use Rattle.nextest_tree.specs.View.{tree_view};
+ghost use Rattle.rinqebo_faults.specs.Tables.{called, called_by_key, has_key, IsStray, key_at, keys_note, known_keys, known_note, name_in_profile, name_in_scripts, name_in_section, part_text, table_name};
+ghost use Rattle.std.specs.Prelude.{None, if◌then◌else◌};
+ghost use Rattle.rinqebo_faults.specs.Tables.{is_script_kind, script_header, unknown_key_text};
+
 use crate::headers::header_text;
 use crate::hints::{name_by_front, near_name};
 use crate::shapes::shape_at;
@@ -10,46 +21,114 @@ use rinqebo_report::{HelpPlace, nearest_name};
 use std::alloc::{AllocError, Global};
 
 /// The key of the step at a place of a path, if it is one to a key.
-pub fn key_at<'p>(path: &[Step<'p>], place: usize) -> Option<&'p str> {
+pub fn key_at<'p>(path: &[Step<'p>], place: usize) -> Option<&'p str>
+    ensures { option_copied result ≡ key_at path.now place }
+{
     match path.get(place) {
         Some(Step::Key(key)) => Some(*key),
         Some(Step::Position(_)) | None => None,
     }
 }
 
+/// Whether the step at a place of a path is one to a key.
+fn has_key(path: &[Step<'_>], place: usize, key: &str) -> bool
+    ensures { result ≡ has_key path.now place key.now }
+{
+    match key_at(path, place) {
+        Some(own) => own == key,
+        None => false,
+    }
+}
+
+/// What a table of a section of files is called.
+fn name_in_section(path: &[Step<'_>]) -> Option<&'static str>
+    ensures { option_copied result ≡ name_in_section path.now }
+{
+    if has_key(path, 0, "profile") {
+        return Some("a profile");
+    }
+    if has_key(path, 0, "test-groups") {
+        return Some("a test group");
+    }
+    if has_key(path, 0, "script") {
+        return Some("a setup script");
+    }
+    None
+}
+
+/// What a table of the scripts of files is called.
+fn name_in_scripts(path: &[Step<'_>]) -> Option<&'static str>
+    ensures { option_copied result ≡ name_in_scripts path.now }
+{
+    if !has_key(path, 0, "scripts") {
+        return None;
+    }
+    if has_key(path, 1, "setup") {
+        return Some("a setup script");
+    }
+    if has_key(path, 1, "wrapper") {
+        return Some("a wrapper script");
+    }
+    None
+}
+
+/// What a table of a list of a profile is called.
+fn name_in_profile(path: &[Step<'_>]) -> Option<&'static str>
+    ensures { option_copied result ≡ name_in_profile path.now }
+{
+    if !has_key(path, 0, "profile") {
+        return None;
+    }
+    if has_key(path, 2, "overrides") {
+        return Some("an override");
+    }
+    if has_key(path, 2, "scripts") {
+        return Some("a script rule");
+    }
+    None
+}
+
 /// What the table at a path is called, if files have tables of a name there.
-fn table_name(path: &[Step<'_>]) -> Option<&'static str> {
-    let keys = (key_at(path, 0), key_at(path, 1), key_at(path, 2));
-    match (path.len(), keys) {
-        (0, _) => Some("a configuration file"),
-        (2, (Some("profile"), _, _)) => Some("a profile"),
-        (2, (Some("test-groups"), _, _)) => Some("a test group"),
-        (2, (Some("script"), _, _)) => Some("a setup script"),
-        (3, (Some("scripts"), Some("setup"), _)) => Some("a setup script"),
-        (3, (Some("scripts"), Some("wrapper"), _)) => Some("a wrapper script"),
-        (4, (Some("profile"), _, Some("overrides"))) => Some("an override"),
-        (4, (Some("profile"), _, Some("scripts"))) => Some("a script rule"),
+fn table_name(path: &[Step<'_>]) -> Option<&'static str>
+    ensures { option_copied result ≡ table_name path.now }
+{
+    match path.len() {
+        0 => Some("a configuration file"),
+        2 => name_in_section(path),
+        3 => name_in_scripts(path),
+        4 => name_in_profile(path),
         _ => None,
     }
 }
 
-/// What the value at a path is called: by the name of such tables, or else by its key.
-pub fn called(alloc: Global, path: &[Step<'_>]) -> Result<String, AllocError> {
-    if let Some(name) = table_name(path) {
-        return String::from_str(alloc, name);
-    }
-    match path.split_last() {
-        Some((Step::Key(key), _)) => format!(in alloc; "`{key}`"),
-        Some((Step::Position(_), list)) => match list.split_last() {
-            Some((Step::Key(key), _)) => format!(in alloc; "an item of `{key}`"),
-            _ => String::from_str(alloc, "an item"),
+/// What the value at a path is called by the last key of the path.
+fn called_by_key(alloc: Global, path: &[Step<'_>]) -> Result<String, AllocError>
+    ensures { IfOk result (λ name. string_bytes name ≡ called_by_key path.now) }
+{
+    match path.last() {
+        Some(Step::Key(key)) => format!(in alloc; "`{key}`"),
+        Some(Step::Position(_)) => match key_at(path, path.len().saturating_sub(2)) {
+            Some(key) => format!(in alloc; "an item of `{key}`"),
+            None => String::from_str(alloc, "an item"),
         },
         None => String::from_str(alloc, "the file"),
     }
 }
 
+/// What the value at a path is called: by the name of such tables, or else by its key.
+pub fn called(alloc: Global, path: &[Step<'_>]) -> Result<String, AllocError>
+    ensures { IfOk result (λ name. string_bytes name ≡ called path.now) }
+{
+    match table_name(path) {
+        Some(name) => String::from_str(alloc, name),
+        None => called_by_key(alloc, path),
+    }
+}
+
 /// A step as the shape of a file has it: any position is that of all items of a list.
-fn part_of<'s>(step: Step<'s>) -> &'s str {
+fn part_of<'s>(step: Step<'s>) -> &'s str
+    ensures { result.now ≡ part_text step.entry }
+{
     match step {
         Step::Key(key) => key,
         Step::Position(_) => "0",
@@ -61,7 +140,10 @@ fn keys_at(
     alloc: Global,
     file: &Shape,
     path: &[Step<'_>],
-) -> Result<Vec<&'static str>, AllocError> {
+) -> Result<Vec<&'static str>, AllocError>
+    ensures { IfOk result (λ keys. map (λ key. key.now) keys.items
+        ≡ keys_at (shape_view file.now) (map part_text path.now)) }
+{
     let mut parts = Vec::new(alloc);
     for step in path {
         parts.push(part_of(*step))?;
@@ -70,18 +152,25 @@ fn keys_at(
 }
 
 /// The keys that the table at a path knows.
-pub fn known_keys(alloc: Global, path: &[Step<'_>]) -> Result<Vec<&'static str>, AllocError> {
+pub fn known_keys(alloc: Global, path: &[Step<'_>]) -> Result<Vec<&'static str>, AllocError>
+    ensures { IfOk result (λ keys. map (λ key. key.now) keys.items ≡ known_keys path.now) }
+{
     keys_at(alloc, &file_shape(alloc)?, path)
 }
 
 /// The note that lists the keys of a table.
-pub fn known_note(alloc: Global, table: &str, known: &[&str]) -> Result<String, AllocError> {
+pub fn known_note(alloc: Global, table: &str, known: &[&str]) -> Result<String, AllocError>
+    ensures { IfOk result (λ note. string_bytes note
+        ≡ known_note table.now (map (λ key. key.now) known.now)) }
+{
     let keys = quoted(alloc, known, ", ")?;
     format!(in alloc; "keys of {table}: {keys}")
 }
 
 /// The note that lists the keys which the table at a path knows, if it knows some.
-pub fn keys_note(alloc: Global, path: &[Step<'_>]) -> Result<Option<String>, AllocError> {
+pub fn keys_note(alloc: Global, path: &[Step<'_>]) -> Result<Option<String>, AllocError>
+    ensures { IfOk result (λ note. option_map string_bytes note ≡ keys_note path.now) }
+{
     let keys = known_keys(alloc, path)?;
     if keys.is_empty() {
         return Ok(None);
@@ -97,7 +186,10 @@ pub fn stray_key<'t>(
     path: &[Step<'_>],
     table: &'t Tree,
     missing: &str,
-) -> Result<Option<&'t str>, AllocError> {
+) -> Result<Option<&'t str>, AllocError>
+    ensures { IfOk result (λ found. IsStray path.now (as_table (tree_view table.now)) missing.now
+        found) }
+{
     let Some(members) = table.as_table() else {
         return Ok(None);
     };
@@ -111,26 +203,39 @@ pub fn stray_key<'t>(
     nearest_name(alloc, missing, &strays)
 }
 
+/// The kind of scripts that a path names in the old way: `setup` of `script.setup`.
+fn script_kind<'p>(path: &[Step<'p>]) -> Option<&'p str>
+    ensures { option_copied result ≡ (if is_script_kind path.now then key_at path.now 1 else None) }
+{
+    if path.len() != 2 || !has_key(path, 0, "script") {
+        return None;
+    }
+    if has_key(path, 1, "setup") || has_key(path, 1, "wrapper") {
+        return key_at(path, 1);
+    }
+    None
+}
+
 /// The header of the script that is meant by the first key of a table at `script.setup` or
 /// `script.wrapper`.
 pub fn script_header(
     alloc: Global,
     path: &[Step<'_>],
     table: Option<&Tree>,
-) -> Result<Option<String>, AllocError> {
-    let (2, Some("script"), Some(kind)) = (path.len(), key_at(path, 0), key_at(path, 1)) else {
+) -> Result<Option<String>, AllocError>
+    ensures { IfOk result (λ header. option_map string_bytes header
+        ≡ script_header path.now (option_map (λ table. tree_view table.now) table.entry)) }
+{
+    let Some(kind) = script_kind(path) else {
         return Ok(None);
     };
-    if kind != "setup" && kind != "wrapper" {
-        return Ok(None);
-    }
     let Some(Tree::Table(members)) = table else {
         return Ok(None);
     };
-    for key in members.keys() {
-        return Ok(Some(format!(in alloc; "write `[scripts.{kind}.{key}]`")?));
+    match members.keys().next() {
+        Some(key) => Ok(Some(format!(in alloc; "write `[scripts.{kind}.{key}]`")?)),
+        None => Ok(None),
     }
-    Ok(None)
 }
 
 /// A path with more steps.
@@ -138,7 +243,9 @@ pub fn longer<'p>(
     alloc: Global,
     path: &[Step<'p>],
     rest: &[Step<'p>],
-) -> Result<Vec<Step<'p>>, AllocError> {
+) -> Result<Vec<Step<'p>>, AllocError>
+    ensures { IfOk result (λ longer. longer.items ≡ path.now ++ rest.now) }
+{
     let mut longer = Vec::from_slice(alloc, path)?;
     for step in rest {
         longer.push(*step)?;
@@ -147,7 +254,9 @@ pub fn longer<'p>(
 }
 
 /// Whether the table at a path knows a key.
-fn knows(alloc: Global, path: &[Step<'_>], key: &str) -> Result<bool, AllocError> {
+fn knows(alloc: Global, path: &[Step<'_>], key: &str) -> Result<bool, AllocError>
+    ensures { IfOk result (λ known. known ≡ is_one_of (known_keys path.now) key.now) }
+{
     let known = known_keys(alloc, path)?;
     Ok(is_among(&known, key))
 }
@@ -293,7 +402,9 @@ pub fn unknown_key_help(
 }
 
 /// What is wrong with a key that its table does not know.
-pub fn unknown_key_text(alloc: Global, path: &[Step<'_>]) -> Result<String, AllocError> {
+pub fn unknown_key_text(alloc: Global, path: &[Step<'_>]) -> Result<String, AllocError>
+    ensures { IfOk result (λ text. string_bytes text ≡ unknown_key_text path.now) }
+{
     match path.split_last() {
         Some((Step::Key(key), table)) => {
             let table = called(alloc, table)?;

@@ -1,9 +1,16 @@
 //! Lists in words.
+ghost use Rattle.std.specs.Prelude.{◌≡◌, IfOk, map, option_map, string_bytes};
+ghost use Rattle.std.specs.Option.{option_copied};
+ghost use Rattle.nextest_tree.specs.Schema.{is_one_of};
+ghost use Rattle.rinqebo_faults.specs.Words.{is_number, listed, mark_before, quoted};
+
 use std::alloc::{AllocError, Global};
 
 /// What is written before the item at a place of a list: commas, and something else before the last
 /// one.
-fn mark_before(place: usize, count: usize, last: &'static str) -> &'static str {
+fn mark_before(place: usize, count: usize, last: &'static str) -> &'static str
+    ensures { result.now ≡ mark_before place count last.now }
+{
     if place == 0 {
         return "";
     }
@@ -14,7 +21,9 @@ fn mark_before(place: usize, count: usize, last: &'static str) -> &'static str {
 }
 
 /// Items with commas between them, and something else before the last one.
-pub fn listed(alloc: Global, items: &[String], last: &'static str) -> Result<String, AllocError> {
+pub fn listed(alloc: Global, items: &[String], last: &'static str) -> Result<String, AllocError>
+    ensures { IfOk result (λ text. string_bytes text ≡ listed last.now (map string_bytes items.now)) }
+{
     let mut text = String::new(alloc);
     for (place, item) in items.iter().enumerate() {
         text.push_str(mark_before(place, items.len(), last))?;
@@ -24,7 +33,10 @@ pub fn listed(alloc: Global, items: &[String], last: &'static str) -> Result<Str
 }
 
 /// Words between backquotes with commas between them, and something else before the last one.
-pub fn quoted(alloc: Global, words: &[&str], last: &'static str) -> Result<String, AllocError> {
+pub fn quoted(alloc: Global, words: &[&str], last: &'static str) -> Result<String, AllocError>
+    ensures { IfOk result (λ text. string_bytes text
+        ≡ quoted last.now (map (λ word. word.now) words.now)) }
+{
     let mut text = String::new(alloc);
     for (place, word) in words.iter().enumerate() {
         let mark = mark_before(place, words.len(), last);
@@ -35,7 +47,9 @@ pub fn quoted(alloc: Global, words: &[&str], last: &'static str) -> Result<Strin
 }
 
 /// Whether a word is one of some others.
-pub fn is_among(words: &[&str], word: &str) -> bool {
+pub fn is_among(words: &[&str], word: &str) -> bool
+    ensures { result ≡ is_one_of (map (λ word. word.now) words.now) word.now }
+{
     for other in words {
         if *other == word {
             return true;
@@ -45,7 +59,9 @@ pub fn is_among(words: &[&str], word: &str) -> bool {
 }
 
 /// Whether a text has digits alone.
-pub fn is_number(text: &str) -> bool {
+pub fn is_number(text: &str) -> bool
+    ensures { result ≡ is_number text.now }
+{
     for c in text.chars() {
         if !c.is_ascii_digit() {
             return false;
@@ -55,7 +71,9 @@ pub fn is_number(text: &str) -> bool {
 }
 
 /// A text of its own, if there is one.
-pub fn owned(alloc: Global, text: Option<&str>) -> Result<Option<String>, AllocError> {
+pub fn owned(alloc: Global, text: Option<&str>) -> Result<Option<String>, AllocError>
+    ensures { IfOk result (λ own. option_map string_bytes own ≡ option_copied text.entry) }
+{
     match text {
         Some(text) => Ok(Some(String::from_str(alloc, text)?)),
         None => Ok(None),
