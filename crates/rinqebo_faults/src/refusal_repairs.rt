@@ -1,4 +1,9 @@
 //! What files are read without where a later check refuses them.
+ghost use Rattle.std.specs.Prelude.{◌≡◌, [], ◌∷◌, OnOk, option_map, string_bytes};
+ghost use Rattle.nextest_tree.specs.View.{tree_view};
+ghost use Rattle.rinqebo_faults.specs.Edits.{edits_view, mark_of, remove, with_edits};
+ghost use Rattle.rinqebo_faults.specs.Repairs.{error_edits, groups_edits, kind_path, old_scripts_edits, parent_edits, parents_edits, script_rules_edits, scripts_edits, sections_edits, unknown_groups_edits};
+
 use crate::edits::Edits;
 use crate::given::profiles_of;
 use crate::namings::naming_mark;
@@ -33,7 +38,10 @@ pub fn leave_out_foreign_groups(
     edits: &mut Edits,
     place: usize,
     groups: &BTreeSet<CustomTestGroup>,
-) -> Result<(), AllocError> {
+) -> Result<(), AllocError>
+    ensures { OnOk result (edits_view edits.new
+        ≡ with_edits (edits_view edits.old) (groups_edits place groups.now.keys)) }
+{
     for group in groups.iter() {
         let name = group.to_string(alloc)?;
         edits.remove(place, &[Step::Key("test-groups"), Step::Key(name.as_str())])?;
@@ -42,22 +50,35 @@ pub fn leave_out_foreign_groups(
     Ok(())
 }
 
+/// Leaves out a script of a kind.
+fn leave_out_kind(
+    edits: &mut Edits,
+    place: usize,
+    kind: &str,
+    name: &str,
+) -> Result<(), AllocError>
+    ensures { OnOk result (edits_view edits.new ≡ with_edits (edits_view edits.old)
+        (remove (mark_of place (kind_path kind.now name.now)) ∷ [])) }
+{
+    let path = [Step::Key("scripts"), Step::Key(kind), Step::Key(name)];
+    edits.remove(place, &path)
+}
+
 /// Leaves out scripts of a source.
 pub fn leave_out_scripts(
     alloc: Global,
     edits: &mut Edits,
     place: usize,
     scripts: &BTreeSet<ScriptId>,
-) -> Result<(), AllocError> {
+) -> Result<(), AllocError>
+    ensures { OnOk result (edits_view edits.new
+        ≡ with_edits (edits_view edits.old) (scripts_edits place scripts.now.keys)) }
+{
     for script in scripts.iter() {
         let name = script.to_string(alloc)?;
         let name = name.as_str();
-        for kind in ["setup", "wrapper"] {
-            edits.remove(
-                place,
-                &[Step::Key("scripts"), Step::Key(kind), Step::Key(name)],
-            )?;
-        }
+        leave_out_kind(edits, place, "setup", name)?;
+        leave_out_kind(edits, place, "wrapper", name)?;
         edits.remove(place, &[Step::Key("script"), Step::Key(name)])?;
         edits.left_out.scripts.add(name)?;
     }
@@ -74,7 +95,10 @@ pub fn leave_out_old_scripts(
     edits: &mut Edits,
     place: usize,
     tree: Option<&Tree>,
-) -> Result<(), AllocError> {
+) -> Result<(), AllocError>
+    ensures { OnOk result (edits_view edits.new ≡ with_edits (edits_view edits.old)
+        (old_scripts_edits place (option_map (λ tree. tree_view tree.now) tree.entry))) }
+{
     if let Some(scripts) = old_scripts(tree) {
         for name in scripts.keys() {
             edits.left_out.scripts.add(name.as_str())?;
@@ -84,7 +108,10 @@ pub fn leave_out_old_scripts(
 }
 
 /// Leaves out the parent of a profile, in any source.
-fn leave_out_parent(edits: &mut Edits, sources: usize, profile: &str) -> Result<(), AllocError> {
+fn leave_out_parent(edits: &mut Edits, sources: usize, profile: &str) -> Result<(), AllocError>
+    ensures { OnOk result (edits_view edits.new
+        ≡ with_edits (edits_view edits.old) (parent_edits sources profile.now)) }
+{
     for place in 0..sources {
         edits.remove(place, &parent_path(profile))?;
     }
@@ -96,7 +123,10 @@ pub fn leave_out_parents(
     edits: &mut Edits,
     sources: usize,
     errors: &[InheritsError],
-) -> Result<(), AllocError> {
+) -> Result<(), AllocError>
+    ensures { OnOk result (edits_view edits.new
+        ≡ with_edits (edits_view edits.old) (parents_edits sources errors.now)) }
+{
     for error in errors {
         match error {
             InheritsError::DefaultProfileInheritance(profile)
@@ -122,7 +152,10 @@ fn leave_out_section(
     edits: &mut Edits,
     place: usize,
     error: &ConfigCompileError,
-) -> Result<(), AllocError> {
+) -> Result<(), AllocError>
+    ensures { OnOk result (edits_view edits.new
+        ≡ with_edits (edits_view edits.old) (error_edits place error.now)) }
+{
     let section = section_path(alloc, error.profile_name.as_str(), error.section)?;
     if let ConfigCompileSection::DefaultFilter = error.section {
         return edits.replace(place, &section, FILTER);
@@ -161,7 +194,10 @@ pub fn leave_out_sections(
     edits: &mut Edits,
     place: usize,
     errors: &[ConfigCompileError],
-) -> Result<(), AllocError> {
+) -> Result<(), AllocError>
+    ensures { OnOk result (edits_view edits.new
+        ≡ with_edits (edits_view edits.old) (sections_edits place errors.now)) }
+{
     for error in errors {
         leave_out_section(alloc, edits, place, error)?;
     }
@@ -216,7 +252,10 @@ pub fn leave_out_groups(
     place: usize,
     tree: Option<&Tree>,
     errors: &[UnknownTestGroupError],
-) -> Result<(), AllocError> {
+) -> Result<(), AllocError>
+    ensures { OnOk result (edits_view edits.new ≡ with_edits (edits_view edits.old)
+        (unknown_groups_edits place (option_map (λ tree. tree_view tree.now) tree.entry) errors.now)) }
+{
     let mut marks = BTreeSet::new(alloc);
     for error in errors {
         let name = error.name.to_string(alloc)?;
@@ -241,7 +280,10 @@ pub fn leave_out_script_rules(
     edits: &mut Edits,
     place: usize,
     errors: &ProfileScriptErrors,
-) -> Result<(), AllocError> {
+) -> Result<(), AllocError>
+    ensures { OnOk result (edits_view edits.new
+        ≡ with_edits (edits_view edits.old) (script_rules_edits place errors.now)) }
+{
     for error in &errors.unknown_scripts {
         leave_out_rules(edits, place, error.profile_name.as_str())?;
     }
