@@ -1,2 +1,16 @@
+pub mod Checks
+pub mod Edits
+pub mod ElementRepairs
+pub mod Elements
+pub mod Expected
+pub mod Given
+pub mod Headers
+pub mod Hints
 pub mod Order
 pub mod Paths
+pub mod Repairs
+pub mod Shapes
+pub mod Tables
+pub mod TomlLines
+pub mod Worded
+pub mod Words

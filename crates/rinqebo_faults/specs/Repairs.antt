@@ -154,43 +154,43 @@ set_group_path profile index =
     ++ paths.position index ∷ paths.key (codes "test-group") ∷ []
 
 -- the group that an override sets is left out, if it is among those with some marks
-abbrev pub override_edits : ℕ → List (List ℕ) → List ℕ → ℕ → Option (List ℕ) → List Edit
+abbrev pub override_edits : ℕ → (List ℕ → Bool) → List ℕ → ℕ → Option (List ℕ) → List Edit
 override_edits place marks profile index None = []
 override_edits place marks profile index (Some group) =
-    edit_if (is_one_of marks (naming_mark profile (codes "test-group") group))
+    edit_if (marks (naming_mark profile (codes "test-group") group))
     (remove (mark_of place (set_group_path profile index)))
 
 -- the groups that overrides set are left out, from a position on
-abbrev pub overrides_edits : ℕ → List (List ℕ) → List ℕ → ℕ → Nodes → List Edit
+abbrev pub overrides_edits : ℕ → (List ℕ → Bool) → List ℕ → ℕ → Nodes → List Edit
 overrides_edits place marks profile index no_nodes = []
 overrides_edits place marks profile index (node rule rules) =
     override_edits place marks profile index (group_of rule)
     ++ overrides_edits place marks profile (suc index) rules
 
 -- the groups that the overrides of a profile set are left out
-abbrev pub list_edits : ℕ → List (List ℕ) → List ℕ → Option Nodes → List Edit
+abbrev pub list_edits : ℕ → (List ℕ → Bool) → List ℕ → Option Nodes → List Edit
 list_edits place marks profile None = []
 list_edits place marks profile (Some rules) = overrides_edits place marks profile 0 rules
 
-abbrev pub profile_edits : ℕ → List (List ℕ) → List ℕ → Node → List Edit
+abbrev pub profile_edits : ℕ → (List ℕ → Bool) → List ℕ → Node → List Edit
 profile_edits place marks profile table =
     list_edits place marks profile
     (option_and_then as_array (member_of (codes "overrides") table))
 
 -- the groups that overrides set are left out in each profile
-abbrev pub profiles_edits : ℕ → List (List ℕ) → Entries → List Edit
+abbrev pub profiles_edits : ℕ → (List ℕ → Bool) → Entries → List Edit
 profiles_edits place marks no_entries = []
 profiles_edits place marks (entry profile table profiles) =
     profile_edits place marks profile table ++ profiles_edits place marks profiles
 
 -- groups that overrides of a file set and no file defines are left out
-abbrev pub edits_in : ℕ → List (List ℕ) → Option Entries → List Edit
+abbrev pub edits_in : ℕ → (List ℕ → Bool) → Option Entries → List Edit
 edits_in place marks None = []
 edits_in place marks (Some profiles) = profiles_edits place marks profiles
 
 abbrev pub unknown_groups_edits : ℕ → Option Node → List UnknownTestGroupError → List Edit
 unknown_groups_edits place file errors =
-    edits_in place (map unknown_mark errors) (profiles_in file)
+    edits_in place (is_one_of (map unknown_mark errors)) (profiles_in file)
 
 -- the script rules of a profile are left out
 abbrev pub rules_edit : ℕ → List ℕ → Edit

@@ -3,7 +3,8 @@ ghost use Rattle.std.specs.Prelude.{◌≡◌, [], ◌++◌, ◌∷◌, IfOk, On
 ghost use Rattle.std.specs.Option.{option_copied};
 ghost use Rattle.nextest_places.specs.Spans.Paths.{path_step};
 ghost use Rattle.nextest_places.specs.Spans.Paths as paths;
-ghost use Rattle.rinqebo_faults.specs.Edits.{add, edit_count, edits_view, mark_below, mark_of, no_edits, remove, replace, with_edit};
+ghost use Rattle.rinqebo_faults.specs.Paths.{shown_path};
+ghost use Rattle.rinqebo_faults.specs.Edits.{add, edit_count, edits_view, mark_below, mark_of, no_edits, omit_group, omit_groups, omit_rule, omit_script, omit_scripts, remove, replace, with_edit};
 
 use crate::left_out::LeftOut;
 use nextest_places::Step;
@@ -133,6 +134,44 @@ impl Edits {
         }
         drop(self.added.insert(mark, entries)?);
         Ok(())
+    }
+
+    /// Notes that the definition of a group is left out.
+    pub fn omit_group(&mut self, name: &str) -> Result<(), AllocError>
+        ensures { OnOk result (edits_view self.new
+            ≡ with_edit (edits_view self.old) (omit_group name.now)) }
+    {
+        self.left_out.groups.add(name)
+    }
+
+    /// Notes that the definitions of all groups are left out.
+    pub fn omit_groups(&mut self)
+        ensures { edits_view self.new ≡ with_edit (edits_view self.old) omit_groups }
+    {
+        self.left_out.groups.is_any = true;
+    }
+
+    /// Notes that the definition of a script is left out.
+    pub fn omit_script(&mut self, name: &str) -> Result<(), AllocError>
+        ensures { OnOk result (edits_view self.new
+            ≡ with_edit (edits_view self.old) (omit_script name.now)) }
+    {
+        self.left_out.scripts.add(name)
+    }
+
+    /// Notes that the definitions of all scripts are left out.
+    pub fn omit_scripts(&mut self)
+        ensures { edits_view self.new ≡ with_edit (edits_view self.old) omit_scripts }
+    {
+        self.left_out.scripts.is_any = true;
+    }
+
+    /// Notes that a value of the script rules at a path is left out.
+    pub fn omit_rules(&mut self, path: &[Step<'_>]) -> Result<(), AllocError>
+        ensures { OnOk result (edits_view self.new
+            ≡ with_edit (edits_view self.old) (omit_rule (shown_path path.now))) }
+    {
+        self.left_out.rules.add_path(path)
     }
 
     /// Whether the value at a mark is left out.

@@ -1,4 +1,7 @@
 //! Where the rules of profiles name groups and scripts.
+ghost use Rattle.std.specs.Prelude.{◌≡◌, IfOk, string_bytes};
+ghost use Rattle.rinqebo_faults.specs.Repairs.{naming_mark};
+
 use crate::given::profiles_of;
 use crate::paths::profile_path;
 use crate::tables::longer;
@@ -44,7 +47,9 @@ pub fn naming_mark(
     profile: &str,
     key: &str,
     name: &str,
-) -> Result<String, AllocError> {
+) -> Result<String, AllocError>
+    ensures { IfOk result (λ mark. string_bytes mark ≡ naming_mark profile.now key.now name.now) }
+{
     let length = profile.len();
     format!(in alloc; "{length}:{profile} {key} {name}")
 }

@@ -31,7 +31,7 @@ pub fn key_at<'p>(path: &[Step<'p>], place: usize) -> Option<&'p str>
 }
 
 /// Whether the step at a place of a path is one to a key.
-fn has_key(path: &[Step<'_>], place: usize, key: &str) -> bool
+pub fn has_key(path: &[Step<'_>], place: usize, key: &str) -> bool
     ensures { result ≡ has_key path.now place key.now }
 {
     match key_at(path, place) {
@@ -203,17 +203,24 @@ pub fn stray_key<'t>(
     nearest_name(alloc, missing, &strays)
 }
 
+/// Whether a path is that of `script.setup` or `script.wrapper`, which is meant as a table of scripts.
+pub fn is_script_kind(path: &[Step<'_>]) -> bool
+    ensures { result ≡ is_script_kind path.now }
+{
+    path.len() == 2
+        && has_key(path, 0, "script")
+        && (has_key(path, 1, "setup") || has_key(path, 1, "wrapper"))
+}
+
 /// The kind of scripts that a path names in the old way: `setup` of `script.setup`.
 fn script_kind<'p>(path: &[Step<'p>]) -> Option<&'p str>
     ensures { option_copied result ≡ (if is_script_kind path.now then key_at path.now 1 else None) }
 {
-    if path.len() != 2 || !has_key(path, 0, "script") {
-        return None;
+    if is_script_kind(path) {
+        key_at(path, 1)
+    } else {
+        None
     }
-    if has_key(path, 1, "setup") || has_key(path, 1, "wrapper") {
-        return key_at(path, 1);
-    }
-    None
 }
 
 /// The header of the script that is meant by the first key of a table at `script.setup` or
