@@ -3,13 +3,16 @@ pub mod Edits
 pub mod ElementRepairs
 pub mod Elements
 pub mod Expected
+pub mod Features
 pub mod Given
 pub mod Headers
 pub mod Hints
 pub mod Order
 pub mod Paths
+pub mod RefusedValues
 pub mod Repairs
 pub mod Shapes
+pub mod Spellings
 pub mod Tables
 pub mod TomlLines
 pub mod Worded

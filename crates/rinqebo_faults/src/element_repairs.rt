@@ -86,7 +86,7 @@ fn is_bad_name(cause: &ElementCause, path: &[Step<'_>]) -> bool
 }
 
 /// Whether the last step of a path is one to a key.
-fn ends_with_key(path: &[Step<'_>], key: &str) -> bool
+pub fn ends_with_key(path: &[Step<'_>], key: &str) -> bool
     ensures { result ≡ ends_with_key path.now key.now }
 {
     !path.is_empty() && has_key(path, path.len().saturating_sub(1), key)
@@ -145,9 +145,8 @@ fn leave_out_of_script(
     path: &[Step<'_>],
     steps: usize,
 ) -> Result<(), AllocError>
-    requires { steps < 2 ^ 63 }
-    ensures { OnOk result (edits_view edits.new ≡ with_edits (edits_view edits.old)
-        (script_edits place cause.now path.now steps)) }
+    ensures { steps < 2 ^ 63 → OnOk result (edits_view edits.new
+        ≡ with_edits (edits_view edits.old) (script_edits place cause.now path.now steps)) }
 {
     if path.len() < steps {
         edits.omit_scripts();
@@ -157,7 +156,7 @@ fn leave_out_of_script(
         return leave_out_table(edits, place, cause, path, SCRIPT);
     }
     if has_key(path, steps, "command") {
-        return leave_out_needed(edits, place, path, steps + 1);
+        return leave_out_needed(edits, place, path, steps.saturating_add(1));
     }
     leave_out_needed(edits, place, path, path.len())
 }

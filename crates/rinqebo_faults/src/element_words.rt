@@ -47,7 +47,7 @@ fn out_of_range(alloc: Global, name: &str, given: Option<&Tree>) -> Result<Strin
 }
 
 /// Whether the value at a path is a text.
-fn is_text(found: Option<&Tree>, given: &str) -> bool
+pub fn is_text(found: Option<&Tree>, given: &str) -> bool
     ensures { result ≡ is_text (option_map (λ tree. tree_view tree.now) found.entry) given.now }
 {
     match found {

@@ -207,7 +207,7 @@ fn has_duration(shapes: &Vec<Shape>) -> bool
 }
 
 /// Whether a shape takes durations.
-fn takes_duration(shape: &Shape) -> bool
+pub fn takes_duration(shape: &Shape) -> bool
     ensures { result ≡ takes_duration (shape_view shape.now) }
 {
     match shape {

@@ -2,11 +2,13 @@
 ghost use Rattle.std.specs.Prelude.{◌≡◌, ◌++◌, ◌∷◌, [], IfOk, OnOk, string_bytes};
 ghost use Rattle.nextest_shape.specs.Faults.Found.{step_text};
 ghost use Rattle.rinqebo_faults.specs.Paths.{shown_path};
-ghost use Rattle.std.specs.Prelude.{codes, map, option_map};
+ghost use Rattle.std.specs.Prelude.{◌==◌, codes, map, option_map};
 ghost use Rattle.std.specs.Option.{option_copied};
 ghost use Rattle.nextest_places.specs.Spans.Paths.{path_step};
 ghost use Rattle.nextest_tree.specs.View.{tree_view};
 ghost use Rattle.rinqebo_faults.specs.Paths.{has_script, profile_path, script_kind, script_path, section_path};
+ghost use Rattle.std.specs.List.{slice_split};
+ghost use Rattle.nextest_places.specs.Spans.Paths as paths;
 
 use crate::refused_values::{Fault, is_at_fault};
 use crate::ways::ways_of;
@@ -139,7 +141,10 @@ pub fn script_path<'p>(
 }
 
 /// The keys of a text that no file has: parted at its dots.
-pub fn parted<'s>(alloc: Global, text: &'s str) -> Result<Vec<Step<'s>>, AllocError> {
+pub fn parted<'s>(alloc: Global, text: &'s str) -> Result<Vec<Step<'s>>, AllocError>
+    ensures { IfOk result (λ steps. map path_step steps.items
+        ≡ map paths.key (slice_split (λ b. b == 46) text.entry.now)) }
+{
     let mut steps = Vec::new(alloc);
     for part in text.split('.') {
         steps.push(Step::Key(part))?;
