@@ -1,13 +1,21 @@
 -- What is wrong with values that a file may not have, in words.
-use Rattle.std.specs.Prelude.{ℕ, ◌-◌, ◌==◌, Bool, false, List, [], ◌∷◌, ◌++◌, codes, length, take, Option, None, Some, string_bytes, if◌then◌else◌}
+use Rattle.std.specs.Prelude.{◌≡◌, ◌⊎◌, ℕ, ◌-◌, ◌==◌, Bool, false, List, [], ◌∷◌, ◌++◌, codes, length, take, Option, None, Some, string_bytes, if◌then◌else◌}
 use Rattle.std.specs.Fmt.{signed_decimal}
+use Rattle.std.specs.Option.{option_and_then}
 use Rattle.std.specs.Str.{bytes_eq}
 use Rattle.nextest_places.specs.declared.step.Step.{Step}
+use Rattle.nextest_shape.specs.Form.{Form}
 use Rattle.nextest_tree.specs.Node.{Node, table, array, text, int, bool, opaque, Nodes, no_nodes, node}
 use Rattle.nextest_tree.specs.declared.fault.ElementCause.{ElementCause}
 use Rattle.nextest_tree.specs.declared.fault.ElementCause.TheVariants as causes
+use Rattle.rinqebo_report.specs.declared.finding.HelpPlace.{HelpPlace}
 use Rattle.rinqebo_faults.specs.Expected.{expected_at, expected_name, expected_text}
 use Rattle.rinqebo_faults.specs.Given.{kind_words}
+use Rattle.rinqebo_faults.specs.Headers.{header_text}
+use Rattle.rinqebo_faults.specs.Hints.{IsHintAt}
+use Rattle.rinqebo_faults.specs.Shapes.{wanted_at}
+use Rattle.rinqebo_faults.specs.Spellings.{spelling}
+use Rattle.rinqebo_faults.specs.UnknownKeys.{IsUnknownKeyHelp}
 use Rattle.rinqebo_faults.specs.Tables.{called, keys_note, unknown_key_text}
 use Rattle.rinqebo_faults.specs.Words.{backquoted}
 
@@ -100,3 +108,27 @@ abbrev pub lack_text : List ℕ → List Step → Option (List ℕ) → List ℕ
 lack_text key table None = lack_alone (called table) key
 lack_text key table (Some stray) =
     called table ++ (codes " needs " ++ (backquoted key ++ (codes ", not " ++ backquoted stray)))
+
+-- how a value that there is is meant to be spelled by a form, where that is plain
+abbrev pub spelled_by : Option Node → List Step → Form → Option (List ℕ)
+spelled_by None path form = None
+spelled_by (Some node) path form = spelling form node (header_text path)
+
+-- how the value at a path is meant to be spelled, where that is plain
+abbrev pub spelled : Option Node → List Step → Option (List ℕ)
+spelled found path = option_and_then (spelled_by found path) (wanted_at path)
+
+-- What to do about a text that is refused: a word that is near is meant, or else the text is meant
+-- to be spelled otherwise.
+abbrev pub IsTextAdvice : Option Node → List ℕ → List Step → Option (List ℕ) → Type 0
+IsTextAdvice found given path advice =
+    ((hint : List ℕ) × IsHintAt given path (Some hint) × (advice ≡ Some hint))
+    ⊎ (IsHintAt given path None × (advice ≡ spelled found path))
+
+-- What to do about a value that is refused for a cause.
+abbrev pub IsAdvice : Option Node → ElementCause → List Step → Option (List ℕ) → Type 0
+IsAdvice found (causes.BadValue given expected) path advice =
+    IsTextAdvice found (string_bytes given) path advice
+IsAdvice found causes.UnknownField path advice =
+    (place : HelpPlace) × IsUnknownKeyHelp path advice place
+IsAdvice found cause path advice = advice ≡ spelled found path

@@ -3,7 +3,6 @@ use Rattle.std.specs.Prelude.{ℕ, ℤ, ◌-◌, nat_lt, Bool, true, false, List
 use Rattle.std.specs.Fmt.{signed_decimal}
 use Rattle.std.specs.Option.{option_and_then}
 use Rattle.nextest_places.specs.declared.step.Step.{Step}
-use Rattle.nextest_shape.specs.FileForm.{file_form}
 use Rattle.nextest_shape.specs.Form.{TextForm, any_text, one_of, of_pattern, Form, anything, a_truth, a_number, a_text, an_array, a_table, a_map, either, FieldForms, no_fields, a_field, Forms, no_forms, or_form}
 use Rattle.nextest_shape.specs.declared.shape.Pattern.{Pattern}
 use Rattle.nextest_shape.specs.declared.shape.Pattern.TheVariants as patterns
@@ -11,7 +10,7 @@ use Rattle.nextest_tree.specs.Key.{key_text}
 use Rattle.nextest_tree.specs.Schema.{is_one_of}
 use Rattle.nextest_tree.specs.declared.fault.ElementCause.{ElementCause}
 use Rattle.nextest_tree.specs.declared.fault.ElementCause.TheVariants as causes
-use Rattle.rinqebo_faults.specs.Shapes.{form_at, key_of}
+use Rattle.rinqebo_faults.specs.Shapes.{key_of, wanted_at}
 use Rattle.rinqebo_faults.specs.Words.{backquoted, listed, quoted}
 
 -- an integer in its range, in words
@@ -131,11 +130,11 @@ expected_by causes.Memory form = None
 
 -- what is expected at a path in place of a value that is refused, if the shape of a file has it
 abbrev pub expected_at : ElementCause → List Step → Option (List ℕ)
-expected_at cause path = option_and_then (expected_by cause) (form_at path file_form)
+expected_at cause path = option_and_then (expected_by cause) (wanted_at path)
 
 -- what is expected at a path in place of a string that is refused, if the shape of a file has it
 abbrev pub expected_text : List Step → Option (List ℕ)
-expected_text path = option_and_then all_words (form_at path file_form)
+expected_text path = option_and_then all_words (wanted_at path)
 
 -- what a name of a map is, in words
 abbrev pub name_words : Form → Option (List ℕ)
@@ -144,7 +143,7 @@ name_words form = None
 
 -- what is expected in place of a name below the table at a path
 abbrev pub name_below : List Step → List ℕ → Option (List ℕ)
-name_below table name = option_and_then name_words (form_at table file_form)
+name_below table name = option_and_then name_words (wanted_at table)
 
 -- what is expected in place of the key at the end of a path, which is a name, if the shape of a
 -- file has it

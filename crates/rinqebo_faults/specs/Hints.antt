@@ -4,10 +4,9 @@ use Rattle.std.specs.Borrow.{Bor}
 use Rattle.std.specs.List.{list_all, list_any, starts_with}
 use Rattle.std.specs.Str.{chars, str_eq_ignore_ascii_case}
 use Rattle.nextest_places.specs.declared.step.Step.{Step}
-use Rattle.nextest_shape.specs.FileForm.{file_form}
 use Rattle.nextest_shape.specs.Form.{one_of, Form, a_text, either, Forms, no_forms, or_form}
 use Rattle.rinqebo_report.specs.Hints.{distance, reach, IsNearest}
-use Rattle.rinqebo_faults.specs.Shapes.{form_at}
+use Rattle.rinqebo_faults.specs.Shapes.{wanted_at}
 
 -- one of two texts, which has three bytes at least, begins the other
 abbrev pub begins : (one other : List ℕ) → Bool
@@ -105,4 +104,4 @@ IsHintBy word (Some form) hint = IsWordHint word form hint
 
 -- A hint is that one of the words is meant of which the shape of a file takes one at a path.
 abbrev pub IsHintAt : List ℕ → List Step → Option (List ℕ) → Type 0
-IsHintAt word path hint = IsHintBy word (form_at path file_form) hint
+IsHintAt word path hint = IsHintBy word (wanted_at path) hint

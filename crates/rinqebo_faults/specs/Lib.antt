@@ -15,5 +15,6 @@ pub mod Shapes
 pub mod Spellings
 pub mod Tables
 pub mod TomlLines
+pub mod UnknownKeys
 pub mod Worded
 pub mod Words

@@ -1,5 +1,5 @@
 -- Whether the shape of a file refuses a value: which of several values a refusal is about.
-use Rattle.std.specs.Prelude.{ℕ, ℤ, int_lt, ◌-◌, ◌==◌, Bool, true, false, not, ◌&&◌, ◌||◌, List, is_some, is_none, length, take, Option, None, Some, string_bytes}
+use Rattle.std.specs.Prelude.{ℕ, ℤ, int_lt, ◌-◌, ◌==◌, Bool, true, false, not, ◌&&◌, ◌||◌, List, is_some, is_none, length, map, take, Option, None, Some, string_bytes}
 use Rattle.std.specs.Option.{option_and_then}
 use Rattle.std.specs.Str.{bytes_eq}
 use Rattle.nextest_places.specs.declared.step.Step.{Step}
@@ -11,7 +11,7 @@ use Rattle.rinqebo_faults.specs.declared.refused_values.Fault.{Fault}
 use Rattle.rinqebo_faults.specs.declared.refused_values.Fault.TheVariants as faults
 use Rattle.rinqebo_faults.specs.ElementRepairs.{ends_with_key}
 use Rattle.rinqebo_faults.specs.Elements.{is_text}
-use Rattle.rinqebo_faults.specs.Shapes.{form_at}
+use Rattle.rinqebo_faults.specs.Shapes.{form_at, key_of}
 use Rattle.rinqebo_faults.specs.Spellings.{takes}
 
 -- one form takes values of the kind of a node
@@ -56,8 +56,8 @@ is_out_of_range form opaque = false
 -- the last key of a path is none that its table knows
 abbrev pub is_unknown : Form → List Step → Bool
 is_unknown file path =
-    not (length path == 0) && (is_some (form_at (take (length path - 1) path) file)
-    && is_none (form_at path file))
+    not (length path == 0) && (is_some (form_at (map key_of (take (length path - 1) path)) file)
+    && is_none (form_at (map key_of path) file))
 
 -- a table has no such key
 abbrev pub lacks : Node → List ℕ → Bool
@@ -80,7 +80,7 @@ holds_of test (Some form) = test form
 
 -- the value at the end of a path is refused for a cause
 abbrev pub is_refused : Form → ElementCause → List Step → Node → Bool
-is_refused file cause path node = holds_of (is_refused_by cause path node) (form_at path file)
+is_refused file cause path node = holds_of (is_refused_by cause path node) (form_at (map key_of path) file)
 
 -- it may be the value at the end of a path that is refused for a cause
 abbrev pub is_cause_at : Form → ElementCause → List Step → Node → Bool

@@ -3,6 +3,9 @@ ghost use Rattle.std.specs.Prelude.{◌≡◌, Some, IfOk, map, option_map, stri
 ghost use Rattle.std.specs.Option.{option_copied};
 ghost use Rattle.nextest_tree.specs.View.{tree_view};
 ghost use Rattle.rinqebo_faults.specs.Elements.{bad_text, element_notes, is_text, lack_text, out_of_range, refused_notes, wanted, wanted_text, wrong_element, wrong_kind};
+ghost use Rattle.rinqebo_report.specs.declared.finding.HelpPlace.{HelpPlace};
+ghost use Rattle.rinqebo_faults.specs.Elements.{IsAdvice, IsTextAdvice, spelled};
+ghost use Rattle.rinqebo_faults.specs.UnknownKeys.{IsUnknownKeyHelp};
 
 use crate::expected::{expected_at, expected_name, expected_text};
 use crate::given::kind_words;
@@ -10,7 +13,8 @@ use crate::headers::header_text;
 use crate::hints::word_hint;
 use crate::shapes::shape_at;
 use crate::spellings::spelling;
-use crate::tables::{called, keys_note, unknown_key_help, unknown_key_text};
+use crate::tables::{called, keys_note, unknown_key_text};
+use crate::unknown_keys::unknown_key_help;
 use nextest_places::Step;
 use nextest_shape::file_shape;
 use nextest_tree::{ElementCause, Tree};
@@ -147,7 +151,10 @@ fn spelled(
     alloc: Global,
     found: Option<&Tree>,
     path: &[Step<'_>],
-) -> Result<Option<String>, AllocError> {
+) -> Result<Option<String>, AllocError>
+    ensures { IfOk result (λ words. option_map string_bytes words
+        ≡ spelled (option_map (λ tree. tree_view tree.now) found.entry) path.now) }
+{
     let file = file_shape(alloc)?;
     let header = header_text(alloc, path)?;
     match (shape_at(&file, path), found) {
@@ -156,23 +163,50 @@ fn spelled(
     }
 }
 
+/// What to do about a text that is refused.
+fn text_advice(
+    alloc: Global,
+    found: Option<&Tree>,
+    given: &str,
+    path: &[Step<'_>],
+) -> Result<Option<String>, AllocError>
+    ensures { IfOk result (λ advice. IsTextAdvice
+        (option_map (λ tree. tree_view tree.now) found.entry) given.now path.now
+        (option_map string_bytes advice)) }
+{
+    match word_hint(alloc, given, path)? {
+        Some(hint) => Ok(Some(hint)),
+        None => spelled(alloc, found, path),
+    }
+}
+
+/// What to do about the key at the end of a path, which its table refuses.
+fn key_advice(alloc: Global, path: &[Step<'_>]) -> Result<Option<String>, AllocError>
+    ensures { IfOk result (λ advice. (place : HelpPlace)
+        × IsUnknownKeyHelp path.now (option_map string_bytes advice) place) }
+{
+    let (help, _place) = unknown_key_help(alloc, path)?;
+    Ok(help)
+}
+
 /// What to do about a value that is refused: the one at a path, if there is one.
 pub fn advice(
     alloc: Global,
     found: Option<&Tree>,
     cause: &ElementCause,
     path: &[Step<'_>],
-) -> Result<Option<String>, AllocError> {
-    if let ElementCause::BadValue { given, .. } = cause {
-        if let Some(hint) = word_hint(alloc, given.as_str(), path)? {
-            return Ok(Some(hint));
-        }
+) -> Result<Option<String>, AllocError>
+    ensures { IfOk result (λ advice. IsAdvice (option_map (λ tree. tree_view tree.now) found.entry)
+        cause.now path.now (option_map string_bytes advice)) }
+{
+    match cause {
+        ElementCause::BadValue { given, .. } => text_advice(alloc, found, given.as_str(), path),
+        ElementCause::UnknownField => key_advice(alloc, path),
+        ElementCause::WrongKind
+        | ElementCause::Missing(_)
+        | ElementCause::OutOfRange
+        | ElementCause::Memory => spelled(alloc, found, path),
     }
-    if let ElementCause::UnknownField = cause {
-        let (help, _place) = unknown_key_help(alloc, path)?;
-        return Ok(help);
-    }
-    spelled(alloc, found, path)
 }
 
 /// The notes about the key at the end of a path, which its table refuses.

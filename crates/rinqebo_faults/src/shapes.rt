@@ -1,5 +1,5 @@
 //! What the shape of a file wants at a path.
-ghost use Rattle.std.specs.Prelude.{◌≡◌, option_map};
+ghost use Rattle.std.specs.Prelude.{◌≡◌, map, option_map};
 ghost use Rattle.std.specs.Option.{option_copied};
 ghost use Rattle.nextest_shape.specs.View.{fields_view, shape_view, shapes_view};
 ghost use Rattle.rinqebo_faults.specs.Shapes.{below_first, below_one, field_at, form_at, form_below, key_of};
@@ -33,7 +33,7 @@ fn field_of<'s>(fields: &'s Vec<Field<Shape>>, key: &str) -> Option<&'s Shape>
 /// What one shape wants at a key, a name or a position below it. A list wants the same everywhere.
 fn below_one<'s>(shape: &'s Shape, step: Step<'_>) -> Option<&'s Shape>
     ensures { option_map (λ wanted. shape_view wanted.now) result
-        ≡ below_one (shape_view shape.now) step.entry }
+        ≡ below_one (shape_view shape.now) (key_of step.entry) }
 {
     match shape {
         Shape::List { items, .. } => Some(items),
@@ -53,7 +53,7 @@ fn below_one<'s>(shape: &'s Shape, step: Step<'_>) -> Option<&'s Shape>
 /// What the first of several shapes wants that has something there.
 fn below_first<'s>(shapes: &'s Vec<Shape>, step: Step<'_>) -> Option<&'s Shape>
     ensures { option_map (λ wanted. shape_view wanted.now) result
-        ≡ below_first (shapes_view shapes.now.items) step.entry }
+        ≡ below_first (shapes_view shapes.now.items) (key_of step.entry) }
 {
     for shape in shapes {
         if let Some(wanted) = below_one(shape, step) {
@@ -66,7 +66,7 @@ fn below_first<'s>(shapes: &'s Vec<Shape>, step: Step<'_>) -> Option<&'s Shape>
 /// What is wanted at a key, a name or a position below a shape.
 fn below<'s>(shape: &'s Shape, step: Step<'_>) -> Option<&'s Shape>
     ensures { option_map (λ wanted. shape_view wanted.now) result
-        ≡ form_below (shape_view shape.now) step.entry }
+        ≡ form_below (shape_view shape.now) (key_of step.entry) }
 {
     match shape {
         Shape::Either(shapes) => below_first(shapes, step),
@@ -77,7 +77,7 @@ fn below<'s>(shape: &'s Shape, step: Step<'_>) -> Option<&'s Shape>
 /// The shape at a path below another one.
 pub fn shape_at<'s>(shape: &'s Shape, path: &[Step<'_>]) -> Option<&'s Shape>
     ensures { option_map (λ wanted. shape_view wanted.now) result
-        ≡ form_at path.now (shape_view shape.now) }
+        ≡ form_at (map key_of path.now) (shape_view shape.now) }
 {
     let mut wanted = shape;
     for step in path {

@@ -63,7 +63,7 @@ fn are_strings(shape: &Shape) -> bool
 }
 
 /// Whether a shape is that of arrays of tables.
-fn are_tables(shape: &Shape) -> bool
+pub fn are_tables(shape: &Shape) -> bool
     ensures { result ≡ are_tables (shape_view shape.now) }
 {
     match shape {

@@ -1,23 +1,18 @@
 //! What tables and values are called, and the keys that tables have.
-ghost use Rattle.std.specs.Prelude.{◌≡◌, ◌++◌, IfOk, map, option_map, string_bytes};
+ghost use Rattle.std.specs.Prelude.{◌≡◌, ◌++◌, None, IfOk, map, option_map, string_bytes, if◌then◌else◌};
 ghost use Rattle.std.specs.Option.{option_copied};
 ghost use Rattle.nextest_shape.specs.Keys.{keys_at};
 ghost use Rattle.nextest_shape.specs.View.{shape_view};
 ghost use Rattle.nextest_tree.specs.Node.{as_table};
 ghost use Rattle.nextest_tree.specs.Schema.{is_one_of};
 ghost use Rattle.nextest_tree.specs.View.{tree_view};
-ghost use Rattle.rinqebo_faults.specs.Tables.{called, called_by_key, has_key, IsStray, key_at, keys_note, known_keys, known_note, name_in_profile, name_in_scripts, name_in_section, part_text, table_name};
-ghost use Rattle.std.specs.Prelude.{None, if◌then◌else◌};
-ghost use Rattle.rinqebo_faults.specs.Tables.{is_script_kind, script_header, unknown_key_text};
+ghost use Rattle.rinqebo_faults.specs.Tables.{called, called_by_key, has_key, is_script_kind, IsStray, key_at, keys_note, known_keys, known_note, name_in_profile, name_in_scripts, name_in_section, part_text, script_header, table_name, unknown_key_text};
 
-use crate::headers::header_text;
-use crate::hints::{name_by_front, near_name};
-use crate::shapes::shape_at;
 use crate::words::{is_among, quoted};
 use nextest_places::Step;
 use nextest_shape::{Shape, file_shape, keys_of};
 use nextest_tree::Tree;
-use rinqebo_report::{HelpPlace, nearest_name};
+use rinqebo_report::nearest_name;
 use std::alloc::{AllocError, Global};
 
 /// The key of the step at a place of a path, if it is one to a key.
@@ -136,7 +131,7 @@ fn part_of<'s>(step: Step<'s>) -> &'s str
 }
 
 /// The keys that the table at a path of a file of a shape knows.
-fn keys_at(
+pub fn keys_at(
     alloc: Global,
     file: &Shape,
     path: &[Step<'_>],
@@ -261,151 +256,11 @@ pub fn longer<'p>(
 }
 
 /// Whether the table at a path knows a key.
-fn knows(alloc: Global, path: &[Step<'_>], key: &str) -> Result<bool, AllocError>
+pub fn knows(alloc: Global, path: &[Step<'_>], key: &str) -> Result<bool, AllocError>
     ensures { IfOk result (λ known. known ≡ is_one_of (known_keys path.now) key.now) }
 {
     let known = known_keys(alloc, path)?;
     Ok(is_among(&known, key))
-}
-
-/// Where a key of a profile belongs that is one of overrides.
-fn in_overrides(
-    alloc: Global,
-    profile: &[Step<'_>],
-    key: &str,
-) -> Result<Option<String>, AllocError> {
-    let rule = longer(alloc, profile, &[Step::Key("overrides"), Step::Position(0)])?;
-    if !knows(alloc, &rule, key)? {
-        return Ok(None);
-    }
-    let header = header_text(alloc, profile)?;
-    let help = format!(in alloc;
-        "`{key}` is a setting of overrides: write it in `[[{header}.overrides]]`"
-    )?;
-    Ok(Some(help))
-}
-
-/// Where a key of another table belongs that is one of a profile.
-fn in_profile(
-    alloc: Global,
-    profile: &[Step<'_>],
-    key: &str,
-) -> Result<Option<String>, AllocError> {
-    if !knows(alloc, profile, key)? {
-        return Ok(None);
-    }
-    let header = header_text(alloc, profile)?;
-    let help = format!(in alloc; "`{key}` is a setting of profiles: write it in `[{header}]`")?;
-    Ok(Some(help))
-}
-
-/// Where a key of a table belongs that is one of a table in it: the first that knows it.
-fn in_part(alloc: Global, table: &[Step<'_>], key: &str) -> Result<Option<String>, AllocError> {
-    let file = file_shape(alloc)?;
-    for part in keys_at(alloc, &file, table)? {
-        let path = longer(alloc, table, &[Step::Key(part)])?;
-        let keys = keys_at(alloc, &file, &path)?;
-        if is_among(&keys, key) {
-            let header = header_text(alloc, &path)?;
-            let help = format!(in alloc; "`{key}` is a key of `{part}`: write `{header}.{key}`")?;
-            return Ok(Some(help));
-        }
-    }
-    Ok(None)
-}
-
-/// The name of the profile that has a path.
-fn profile_of<'p>(path: &[Step<'p>]) -> Option<&'p str> {
-    match key_at(path, 0) {
-        Some("profile") => key_at(path, 1),
-        _ => None,
-    }
-}
-
-/// Where a key belongs that a table of a profile does not know, and another one does.
-fn place_in_profile(
-    alloc: Global,
-    table: &[Step<'_>],
-    key: &str,
-) -> Result<Option<String>, AllocError> {
-    let Some(name) = profile_of(table) else {
-        return Ok(None);
-    };
-    let profile = [Step::Key("profile"), Step::Key(name)];
-    if table.len() == 2 {
-        return in_overrides(alloc, &profile, key);
-    }
-    in_profile(alloc, &profile, key)
-}
-
-/// Where a key belongs that its table does not know, and another one does.
-fn place_elsewhere(
-    alloc: Global,
-    table: &[Step<'_>],
-    key: &str,
-) -> Result<Option<String>, AllocError> {
-    if let (1, Some("scripts")) = (table.len(), key_at(table, 0)) {
-        return Ok(Some(format!(in alloc;
-            "write `[scripts.setup.{key}]` or `[scripts.wrapper.{key}]`"
-        )?));
-    }
-    if table.is_empty() {
-        let profile = [Step::Key("profile"), Step::Key("default")];
-        if let Some(help) = in_profile(alloc, &profile, key)? {
-            return Ok(Some(help));
-        }
-    }
-    if let Some(help) = place_in_profile(alloc, table, key)? {
-        return Ok(Some(help));
-    }
-    in_part(alloc, table, key)
-}
-
-/// Whether the values of a key of a table are arrays of tables.
-fn is_list(alloc: Global, table: &[Step<'_>], key: &'static str) -> Result<bool, AllocError> {
-    let path = longer(alloc, table, &[Step::Key(key)])?;
-    let file = file_shape(alloc)?;
-    match shape_at(&file, &path) {
-        Some(Shape::List { items, .. }) => Ok(has_fields(items)),
-        _ => Ok(false),
-    }
-}
-
-/// Whether a shape is that of tables.
-fn has_fields(shape: &Shape) -> bool {
-    matches!(shape, Shape::Table(_))
-}
-
-/// The hint that a key of a table is meant: by its header, where it is that of an array of tables.
-fn key_hint(alloc: Global, table: &[Step<'_>], key: &'static str) -> Result<String, AllocError> {
-    if !is_list(alloc, table, key)? {
-        return format!(in alloc; "did you mean `{key}`?");
-    }
-    let path = longer(alloc, table, &[Step::Key(key)])?;
-    let header = header_text(alloc, &path)?;
-    format!(in alloc; "did you mean `[[{header}]]`?")
-}
-
-/// What to do about a key that its table does not know, and whether it is that a near one is meant.
-pub fn unknown_key_help(
-    alloc: Global,
-    path: &[Step<'_>],
-) -> Result<(Option<String>, HelpPlace), AllocError> {
-    let Some((Step::Key(key), table)) = path.split_last() else {
-        return Ok((None, HelpPlace::Below));
-    };
-    let known = known_keys(alloc, table)?;
-    if let Some(near) = near_name(alloc, *key, &known)? {
-        let hint = key_hint(alloc, table, near)?;
-        return Ok((Some(hint), HelpPlace::Beside));
-    }
-    if let Some(help) = place_elsewhere(alloc, table, *key)? {
-        return Ok((Some(help), HelpPlace::Below));
-    }
-    match name_by_front(*key, &known) {
-        Some(near) => Ok((Some(key_hint(alloc, table, near)?), HelpPlace::Beside)),
-        None => Ok((None, HelpPlace::Beside)),
-    }
 }
 
 /// What is wrong with a key that its table does not know.
