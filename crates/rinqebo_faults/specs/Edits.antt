@@ -129,23 +129,23 @@ with_edit edits (replace mark text) =
 with_edit edits (add mark entry) =
     record edits {
       added = λ other. cond (bytes_eq mark other)
-      (Some (entries_with entry (edits.added mark))) (edits.added other)
+          (Some (entries_with entry (edits.added mark))) (edits.added other);
     }
 with_edit edits (omit_group name) =
     record edits {
-      left_out = record edits.left_out { groups = with_name name edits.left_out.groups }
+      left_out = record edits.left_out { groups = with_name name edits.left_out.groups };
     }
 with_edit edits omit_groups =
     record edits { left_out = record edits.left_out { groups = with_any edits.left_out.groups } }
 with_edit edits (omit_script name) =
     record edits {
-      left_out = record edits.left_out { scripts = with_name name edits.left_out.scripts }
+      left_out = record edits.left_out { scripts = with_name name edits.left_out.scripts };
     }
 with_edit edits omit_scripts =
     record edits { left_out = record edits.left_out { scripts = with_any edits.left_out.scripts } }
 with_edit edits (omit_rule path) =
     record edits {
-      left_out = record edits.left_out { rules = with_name path edits.left_out.rules }
+      left_out = record edits.left_out { rules = with_name path edits.left_out.rules };
     }
 
 -- edits, and some more

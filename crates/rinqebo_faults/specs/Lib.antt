@@ -7,8 +7,10 @@ pub mod Features
 pub mod Given
 pub mod Headers
 pub mod Hints
+pub mod Lines
 pub mod Order
 pub mod Paths
+pub mod Positions
 pub mod RefusedValues
 pub mod Repairs
 pub mod Shapes

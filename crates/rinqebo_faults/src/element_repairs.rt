@@ -185,9 +185,7 @@ fn leave_out_of_group(
 fn is_condition(path: &[Step<'_>]) -> bool
     ensures { result ≡ is_condition path.now }
 {
-    has_key(path, 4, "filter")
-        || has_key(path, 4, "default-filter")
-        || has_key(path, 4, "platform")
+    has_key(path, 4, "filter") || has_key(path, 4, "default-filter") || has_key(path, 4, "platform")
 }
 
 /// Whether a path is one into the rules of a profile.

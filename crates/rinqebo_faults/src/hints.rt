@@ -119,10 +119,7 @@ pub fn near_hint(alloc: Global, name: &str, known: &[&str]) -> Result<Option<Str
 }
 
 /// The names of a set.
-pub fn names_of<'k>(
-    alloc: Global,
-    known: &'k BTreeSet<String>,
-) -> Result<Vec<&'k str>, AllocError>
+pub fn names_of<'k>(alloc: Global, known: &'k BTreeSet<String>) -> Result<Vec<&'k str>, AllocError>
     ensures { IfOk result (λ names. texts names.items ≡ map string_bytes known.entry.now.keys) }
 {
     let mut names = Vec::new(alloc);
@@ -150,10 +147,7 @@ fn words_of_one(shape: &Shape) -> &'static [&'static str]
 }
 
 /// Adds the words of which each of some shapes takes one.
-fn add_words_of_each(
-    shapes: &Vec<Shape>,
-    words: &mut Vec<&'static str>,
-) -> Result<(), AllocError>
+fn add_words_of_each(shapes: &Vec<Shape>, words: &mut Vec<&'static str>) -> Result<(), AllocError>
     ensures { OnOk result (texts words.new.items
         ≡ texts words.old.items ++ words_of_each (shapes_view shapes.now.items)) }
 {
@@ -179,11 +173,7 @@ fn words_of(alloc: Global, shape: &Shape) -> Result<Vec<&'static str>, AllocErro
 
 /// The hint that one of the words is meant of which the shape of a file takes one at a path, if one
 /// is near.
-pub fn word_hint(
-    alloc: Global,
-    word: &str,
-    path: &[Step<'_>],
-) -> Result<Option<String>, AllocError>
+pub fn word_hint(alloc: Global, word: &str, path: &[Step<'_>]) -> Result<Option<String>, AllocError>
     ensures { IfOk result (λ hint. IsHintAt word.now path.now (option_map string_bytes hint)) }
 {
     match shape_at(&file_shape(alloc)?, path) {

@@ -64,9 +64,7 @@ pub use refusal_repairs::{
 pub use refused_filters::{filter_help, filter_words};
 pub use refused_platforms::platform_words;
 pub use refused_values::Fault;
-pub use tables::{
-    called, keys_note, known_note, script_header, stray_key, unknown_key_text,
-};
+pub use tables::{called, keys_note, known_note, script_header, stray_key, unknown_key_text};
 pub use toml_lines::{
     earlier_definition, first_note, line_at, lines_with_first, on_one_line, range_from, start_of,
 };

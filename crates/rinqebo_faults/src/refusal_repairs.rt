@@ -55,12 +55,7 @@ pub fn leave_out_foreign_groups(
 }
 
 /// Leaves out a script of a kind.
-fn leave_out_kind(
-    edits: &mut Edits,
-    place: usize,
-    kind: &str,
-    name: &str,
-) -> Result<(), AllocError>
+fn leave_out_kind(edits: &mut Edits, place: usize, kind: &str, name: &str) -> Result<(), AllocError>
     ensures { OnOk result (edits_view edits.new ≡ with_edits (edits_view edits.old)
         (remove (mark_of place (kind_path kind.now name.now)) ∷ [])) }
 {
@@ -281,10 +276,7 @@ fn leave_out_groups_of(
 }
 
 /// Returns the marks of groups that no file defines.
-fn marks_of(
-    alloc: Global,
-    errors: &[UnknownTestGroupError],
-) -> Result<BTreeSet<String>, AllocError>
+fn marks_of(alloc: Global, errors: &[UnknownTestGroupError]) -> Result<BTreeSet<String>, AllocError>
     ensures { IfOk result (λ marks. (mark : List ℕ) → contains_text marks mark
         ≡ is_one_of (map unknown_mark errors.now) mark) }
 {

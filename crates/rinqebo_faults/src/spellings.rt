@@ -120,11 +120,7 @@ fn milliseconds(digits: &str) -> Option<u64>
 }
 
 /// Seconds and milliseconds behind a point, as a duration has them.
-fn seconds_of(
-    alloc: Global,
-    seconds: &str,
-    fraction: &str,
-) -> Result<Option<String>, AllocError>
+fn seconds_of(alloc: Global, seconds: &str, fraction: &str) -> Result<Option<String>, AllocError>
     ensures { IfOk result (λ text. option_map string_bytes text
         ≡ seconds_of seconds.now fraction.now) }
 {

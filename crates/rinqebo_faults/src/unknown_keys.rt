@@ -52,11 +52,7 @@ fn in_profile(alloc: Global, profile: &str, key: &str) -> Result<Option<String>,
 }
 
 /// Returns the path of a key of the table at a path.
-fn below<'p>(
-    alloc: Global,
-    table: &[Step<'p>],
-    key: &'p str,
-) -> Result<Vec<Step<'p>>, AllocError>
+fn below<'p>(alloc: Global, table: &[Step<'p>], key: &'p str) -> Result<Vec<Step<'p>>, AllocError>
     ensures { IfOk result (λ path. path.items ≡ table.now ++ Step.Key key.entry ∷ []) }
 {
     let mut path = Vec::from_slice(alloc, table)?;

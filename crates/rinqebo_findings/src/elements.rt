@@ -195,7 +195,11 @@ fn missing_in_source<'s>(
 }
 
 /// Adds that a value is refused.
-pub fn add_element(refused: &mut Refused<'_, '_>, fault: &ElementFault) -> Result<(), AllocError> {
+pub fn add_element(
+    refused: &Refused<'_, '_>,
+    findings: &mut Vec<Finding>,
+    fault: &ElementFault,
+) -> Result<(), AllocError> {
     let about = Fault::Value(&fault.cause);
     let source = refused.source;
     let path = spelled_path(refused.alloc, source, fault.path.as_str(), about)?;
@@ -203,5 +207,5 @@ pub fn add_element(refused: &mut Refused<'_, '_>, fault: &ElementFault) -> Resul
         ElementCause::Missing(key) => missing_in_source(refused, source, key.as_str(), &path)?,
         cause => element_finding(refused, cause, &path)?,
     };
-    refused.add_finding(found)
+    refused.add_finding(findings, found)
 }

@@ -114,7 +114,8 @@ fn labelled_finding(
 
 /// Adds what is wrong with a text at a path.
 fn add_text(
-    refused: &mut Refused<'_, '_>,
+    refused: &Refused<'_, '_>,
+    findings: &mut Vec<Finding>,
     code: Code,
     path: &[Step<'_>],
     text: &str,
@@ -123,7 +124,7 @@ fn add_text(
     let alloc = refused.alloc;
     let Some(span) = &refusal.span else {
         let wrong = refusal.message.as_str();
-        return refused.add_fault(code, path, SpanPart::Value, wrong, None, None);
+        return refused.add_fault(findings, code, path, SpanPart::Value, wrong, None, None);
     };
     let stopped = Stopped {
         text,
@@ -138,7 +139,7 @@ fn add_text(
     };
     let mut found = found?;
     found.expression = Some(shown);
-    refused.add_finding(found)
+    refused.add_finding(findings, found)
 }
 
 /// Where the texts of a section are: its path, and its table.
@@ -163,7 +164,8 @@ fn path_below<'p>(
 
 /// Adds what is wrong with the filter of a section at a key, if it is refused.
 fn add_filter(
-    refused: &mut Refused<'_, '_>,
+    refused: &Refused<'_, '_>,
+    findings: &mut Vec<Finding>,
     section: Section<'_>,
     key: &str,
     refusal: &Option<Refusal>,
@@ -172,12 +174,13 @@ fn add_filter(
         return Ok(());
     };
     let path = path_below(refused.alloc, section.path, &[key])?;
-    add_text(refused, Code::InvalidFilter, &path, text, refusal)
+    add_text(refused, findings, Code::InvalidFilter, &path, text, refusal)
 }
 
 /// Adds what is wrong with a rule's expression for the host, if it is refused.
 fn add_host(
-    refused: &mut Refused<'_, '_>,
+    refused: &Refused<'_, '_>,
+    findings: &mut Vec<Finding>,
     section: Section<'_>,
     refusal: &Option<Refusal>,
 ) -> Result<(), AllocError> {
@@ -185,7 +188,14 @@ fn add_host(
         return Ok(());
     };
     let path = path_below(refused.alloc, section.path, &["platform", "host"])?;
-    add_text(refused, Code::InvalidPlatform, &path, text, refusal)
+    add_text(
+        refused,
+        findings,
+        Code::InvalidPlatform,
+        &path,
+        text,
+        refusal,
+    )
 }
 
 /// The path at which a rule writes what the platform has to meet which a binary runs on.
@@ -199,7 +209,8 @@ fn target_path<'p>(alloc: Global, section: Section<'p>) -> Result<Vec<Step<'p>>,
 /// Adds what is wrong with a rule's expression for the platform which a binary runs on, if it is
 /// refused.
 fn add_target(
-    refused: &mut Refused<'_, '_>,
+    refused: &Refused<'_, '_>,
+    findings: &mut Vec<Finding>,
     section: Section<'_>,
     refusal: &Option<Refusal>,
 ) -> Result<(), AllocError> {
@@ -207,13 +218,21 @@ fn add_target(
         return Ok(());
     };
     let path = target_path(refused.alloc, section)?;
-    add_text(refused, Code::InvalidPlatform, &path, text, refusal)
+    add_text(
+        refused,
+        findings,
+        Code::InvalidPlatform,
+        &path,
+        text,
+        refusal,
+    )
 }
 
 /// Adds what is wrong with the texts of a section: its host, its target, its filter and its default
 /// filter.
 fn add_texts(
-    refused: &mut Refused<'_, '_>,
+    refused: &Refused<'_, '_>,
+    findings: &mut Vec<Finding>,
     section: Section<'_>,
     kind: &ConfigCompileErrorKind,
 ) -> Result<(), AllocError> {
@@ -226,11 +245,12 @@ fn add_texts(
     else {
         return Ok(());
     };
-    add_host(refused, section, host_parse_error)?;
-    add_target(refused, section, target_parse_error)?;
-    add_filter(refused, section, "filter", filter_parse_error)?;
+    add_host(refused, findings, section, host_parse_error)?;
+    add_target(refused, findings, section, target_parse_error)?;
+    add_filter(refused, findings, section, "filter", filter_parse_error)?;
     add_filter(
         refused,
+        findings,
         section,
         "default-filter",
         default_filter_parse_error,
@@ -239,7 +259,8 @@ fn add_texts(
 
 /// Adds what is wrong with the refused texts of a section of a profile.
 pub fn add_refused_texts(
-    refused: &mut Refused<'_, '_>,
+    refused: &Refused<'_, '_>,
+    findings: &mut Vec<Finding>,
     error: &ConfigCompileError,
 ) -> Result<(), AllocError> {
     let Some(tree) = refused.source.tree() else {
@@ -253,7 +274,7 @@ pub fn add_refused_texts(
                 path: &path,
                 table: profile_table(tree, profile),
             };
-            return add_texts(refused, section, &error.kind);
+            return add_texts(refused, findings, section, &error.kind);
         }
         ConfigCompileSection::Override(index) => ("overrides", index),
         ConfigCompileSection::Script(index) => ("scripts", index),
@@ -268,5 +289,5 @@ pub fn add_refused_texts(
         path: &path,
         table: rule_table(tree, profile, list, index),
     };
-    add_texts(refused, section, &error.kind)
+    add_texts(refused, findings, section, &error.kind)
 }

@@ -25,7 +25,8 @@ fn placed(found: Finding, start: Position, len: usize) -> Finding {
 
 /// Adds that a line of a text is not TOML, with what is wrong there, in words.
 fn add_bad_line(
-    refused: &mut Refused<'_, '_>,
+    refused: &Refused<'_, '_>,
+    findings: &mut Vec<Finding>,
     text: &str,
     position: TextPosition,
     bad: BadLine<'_>,
@@ -47,47 +48,53 @@ fn add_bad_line(
     found.help = help;
     found.lines = lines;
     let found = with_note(found, note)?;
-    refused.add_finding(found)
+    refused.add_finding(findings, found)
 }
 
 /// Adds that a text is not TOML, for a reason, and where, if that is known.
 fn add_reason(
-    refused: &mut Refused<'_, '_>,
+    refused: &Refused<'_, '_>,
+    findings: &mut Vec<Finding>,
     position: Option<TextPosition>,
     reason: &str,
 ) -> Result<(), AllocError> {
     let message = on_one_line(refused.alloc, reason)?;
     let found = refused.finding(Code::NotToml, message)?;
     match position {
-        Some(position) => refused.add_finding(placed(found, start_of(position), 1)),
-        None => refused.add_finding(found),
+        Some(position) => refused.add_finding(findings, placed(found, start_of(position), 1)),
+        None => refused.add_finding(findings, found),
     }
 }
 
 /// Adds that a text is not TOML, for a reason, with what is wrong in its line, if that is known.
 fn add_at(
-    refused: &mut Refused<'_, '_>,
+    refused: &Refused<'_, '_>,
+    findings: &mut Vec<Finding>,
     position: Option<TextPosition>,
     reason: &str,
 ) -> Result<(), AllocError> {
     let (Some(text), Some(place)) = (refused.text, position) else {
-        return add_reason(refused, position, reason);
+        return add_reason(refused, findings, position, reason);
     };
     let Some(line) = line_at(Some(text), place.line) else {
-        return add_reason(refused, position, reason);
+        return add_reason(refused, findings, position, reason);
     };
     let bad = BadLine {
         line,
         column: place.column,
         reason,
     };
-    add_bad_line(refused, text, place, bad)
+    add_bad_line(refused, findings, text, place, bad)
 }
 
 /// Adds that a text is not a document: where it is at fault, and why.
-pub fn add_no_document(refused: &mut Refused<'_, '_>, message: &str) -> Result<(), AllocError> {
+pub fn add_no_document(
+    refused: &Refused<'_, '_>,
+    findings: &mut Vec<Finding>,
+    message: &str,
+) -> Result<(), AllocError> {
     match refused.source.fault() {
-        Some(fault) => add_at(refused, fault.position, fault.reason.as_str()),
-        None => add_reason(refused, None, message),
+        Some(fault) => add_at(refused, findings, fault.position, fault.reason.as_str()),
+        None => add_reason(refused, findings, None, message),
     }
 }

@@ -11,8 +11,8 @@ use rinqebo_report::{Code, FilePlace, Finding, Level};
 use rinqebo_request::{Layer, SpanPart, part_place};
 use std::alloc::{AllocError, Global};
 
-/// What is refused: the source, and the name of the refusal. Findings go behind the others.
-#[derive(Drop)]
+/// What is refused: the source, and the name of the refusal.
+#[derive(Clone, Copy)]
 pub struct Refused<'r, 't> {
     pub alloc: Global,
     /// The source that is refused.
@@ -23,8 +23,6 @@ pub struct Refused<'r, 't> {
     pub upstream: &'static str,
     /// The names whose definitions are left out.
     pub left_out: &'r LeftOut,
-    /// The findings so far.
-    pub findings: &'r mut Vec<Finding>,
 }
 
 impl Refused<'_, '_> {
@@ -39,8 +37,12 @@ impl Refused<'_, '_> {
     }
 
     /// Adds a finding with more than a message.
-    pub fn add_finding(&mut self, found: Finding) -> Result<(), AllocError> {
-        self.findings.push(found)?;
+    pub fn add_finding(
+        &self,
+        findings: &mut Vec<Finding>,
+        found: Finding,
+    ) -> Result<(), AllocError> {
+        findings.push(found)?;
         Ok(())
     }
 
@@ -85,7 +87,8 @@ impl Refused<'_, '_> {
     /// Adds what is wrong with the value at a path or with its key, what is expected there, if that
     /// is known, and what to do.
     pub fn add_fault(
-        &mut self,
+        &self,
+        findings: &mut Vec<Finding>,
         code: Code,
         path: &[Step<'_>],
         part: SpanPart,
@@ -97,37 +100,60 @@ impl Refused<'_, '_> {
         let mut found = self.part_at(code, path, part, wrong)?;
         found.expected = expected;
         found.help = help;
-        self.add_finding(found)
+        self.add_finding(findings, found)
     }
 
     /// Adds what is wrong with the value at a path, what is expected there, and what to do.
     pub fn add_value(
-        &mut self,
+        &self,
+        findings: &mut Vec<Finding>,
         code: Code,
         path: &[Step<'_>],
         wrong: &str,
         expected: &str,
         help: Option<String>,
     ) -> Result<(), AllocError> {
-        self.add_fault(code, path, SpanPart::Value, wrong, Some(expected), help)
+        self.add_fault(
+            findings,
+            code,
+            path,
+            SpanPart::Value,
+            wrong,
+            Some(expected),
+            help,
+        )
     }
 
     /// Adds what is wrong with the key at the end of a path, what is expected there, and what to do.
     pub fn add_key(
-        &mut self,
+        &self,
+        findings: &mut Vec<Finding>,
         code: Code,
         path: &[Step<'_>],
         wrong: &str,
         expected: &str,
         help: Option<String>,
     ) -> Result<(), AllocError> {
-        self.add_fault(code, path, SpanPart::Key, wrong, Some(expected), help)
+        self.add_fault(
+            findings,
+            code,
+            path,
+            SpanPart::Key,
+            wrong,
+            Some(expected),
+            help,
+        )
     }
 
     /// Adds a finding with one more note.
-    pub fn add_noted(&mut self, found: Finding, note: String) -> Result<(), AllocError> {
+    pub fn add_noted(
+        &self,
+        findings: &mut Vec<Finding>,
+        found: Finding,
+        note: String,
+    ) -> Result<(), AllocError> {
         let noted = with_note(found, Some(note))?;
-        self.add_finding(noted)
+        self.add_finding(findings, noted)
     }
 
     /// The place of the value at a path, as its findings have it.
@@ -142,9 +168,14 @@ impl Refused<'_, '_> {
     }
 
     /// Adds what is wrong with the whole source.
-    pub fn add_whole(&mut self, code: Code, wrong: &str) -> Result<(), AllocError> {
+    pub fn add_whole(
+        &self,
+        findings: &mut Vec<Finding>,
+        code: Code,
+        wrong: &str,
+    ) -> Result<(), AllocError> {
         let found = self.finding(code, String::from_str(self.alloc, wrong)?)?;
-        self.add_finding(found)
+        self.add_finding(findings, found)
     }
 }
 

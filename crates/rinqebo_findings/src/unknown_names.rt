@@ -5,7 +5,7 @@ use nextest_sources::{
     ProfileScriptErrors, ProfileWrongConfigScriptTypeError, UnknownTestGroupError,
 };
 use rinqebo_faults::{Namings, is_among, names_of, near_hint, quoted};
-use rinqebo_report::Code;
+use rinqebo_report::{Code, Finding};
 use std::alloc::{AllocError, Global};
 use std::collections::BTreeSet;
 
@@ -37,7 +37,8 @@ fn one_of(alloc: Global, known: &[&str]) -> Result<Option<String>, AllocError> {
 
 /// Adds that a name at a path is none of some known ones.
 fn add_unknown(
-    refused: &mut Refused<'_, '_>,
+    refused: &Refused<'_, '_>,
+    findings: &mut Vec<Finding>,
     code: Code,
     path: &[Step<'_>],
     wrong: &str,
@@ -50,12 +51,13 @@ fn add_unknown(
     let mut found = refused.at(code, path, wrong)?;
     found.expected = expected;
     found.help = help;
-    refused.add_finding(found)
+    refused.add_finding(findings, found)
 }
 
 /// Adds that a group is not known, which rules name.
 fn add_unknown_group(
-    refused: &mut Refused<'_, '_>,
+    refused: &Refused<'_, '_>,
+    findings: &mut Vec<Finding>,
     namings: &Namings,
     error: &UnknownTestGroupError,
     known: &BTreeSet<String>,
@@ -68,6 +70,7 @@ fn add_unknown_group(
     let names = group_names(alloc, known)?;
     add_unknown(
         refused,
+        findings,
         Code::UnknownGroup,
         &path,
         wrong.as_str(),
@@ -78,7 +81,8 @@ fn add_unknown_group(
 
 /// Adds the groups that rules set and no file defines, but those whose definitions are refused.
 pub fn add_unknown_groups(
-    refused: &mut Refused<'_, '_>,
+    refused: &Refused<'_, '_>,
+    findings: &mut Vec<Finding>,
     errors: &[UnknownTestGroupError],
     known: &BTreeSet<String>,
 ) -> Result<(), AllocError> {
@@ -87,7 +91,7 @@ pub fn add_unknown_groups(
     for error in errors {
         let name = error.name.to_string(alloc)?;
         if !refused.left_out.groups.has(name.as_str()) {
-            add_unknown_group(refused, &namings, error, known)?;
+            add_unknown_group(refused, findings, &namings, error, known)?;
         }
     }
     Ok(())
@@ -95,7 +99,8 @@ pub fn add_unknown_groups(
 
 /// Adds that a script is not known, which rules of a profile name.
 fn add_unknown_script(
-    refused: &mut Refused<'_, '_>,
+    refused: &Refused<'_, '_>,
+    findings: &mut Vec<Finding>,
     namings: &Namings,
     profile: &str,
     name: &str,
@@ -105,6 +110,7 @@ fn add_unknown_script(
     let wrong = format!(in refused.alloc; "unknown script `{name}`")?;
     add_unknown(
         refused,
+        findings,
         Code::UnknownScript,
         &path,
         wrong.as_str(),
@@ -115,7 +121,8 @@ fn add_unknown_script(
 
 /// Adds the scripts that are not known, which rules name, but those whose definitions are refused.
 fn add_unknown_scripts(
-    refused: &mut Refused<'_, '_>,
+    refused: &Refused<'_, '_>,
+    findings: &mut Vec<Finding>,
     namings: &Namings,
     errors: &ProfileScriptErrors,
     known: &BTreeSet<String>,
@@ -126,7 +133,7 @@ fn add_unknown_scripts(
         let name = error.name.to_string(alloc)?;
         if !refused.left_out.scripts.has(name.as_str()) {
             let profile = error.profile_name.as_str();
-            add_unknown_script(refused, namings, profile, name.as_str(), &names)?;
+            add_unknown_script(refused, findings, namings, profile, name.as_str(), &names)?;
         }
     }
     Ok(())
@@ -145,7 +152,8 @@ fn other_use(alloc: Global, key: &str, name: &str) -> Result<(&'static str, Stri
 
 /// Adds that a rule names a script of the wrong kind.
 fn add_wrong_kind(
-    refused: &mut Refused<'_, '_>,
+    refused: &Refused<'_, '_>,
+    findings: &mut Vec<Finding>,
     namings: &Namings,
     error: &ProfileWrongConfigScriptTypeError,
     name: &str,
@@ -157,12 +165,13 @@ fn add_wrong_kind(
     let (expected, help) = other_use(alloc, key, name)?;
     let wrong = format!(in alloc; "`{name}` is a {} script", error.actual)?;
     let code = Code::WrongScriptKind;
-    refused.add_value(code, &path, wrong.as_str(), expected, Some(help))
+    refused.add_value(findings, code, &path, wrong.as_str(), expected, Some(help))
 }
 
 /// Adds that a rule names scripts of the wrong kind, but those whose definitions are refused.
 fn add_wrong_kinds(
-    refused: &mut Refused<'_, '_>,
+    refused: &Refused<'_, '_>,
+    findings: &mut Vec<Finding>,
     namings: &Namings,
     errors: &ProfileScriptErrors,
 ) -> Result<(), AllocError> {
@@ -170,7 +179,7 @@ fn add_wrong_kinds(
     for error in &errors.wrong_script_types {
         let name = error.name.to_string(alloc)?;
         if !refused.left_out.scripts.has(name.as_str()) {
-            add_wrong_kind(refused, namings, error, name.as_str())?;
+            add_wrong_kind(refused, findings, namings, error, name.as_str())?;
         }
     }
     Ok(())
@@ -178,7 +187,8 @@ fn add_wrong_kinds(
 
 /// Adds that a rule of a profile with a filter on tests names a wrapper of lists.
 fn add_list_wrapper(
-    refused: &mut Refused<'_, '_>,
+    refused: &Refused<'_, '_>,
+    findings: &mut Vec<Finding>,
     namings: &Namings,
     profile: &str,
     name: &str,
@@ -189,32 +199,40 @@ fn add_list_wrapper(
     )?;
     let expected = "a filter on packages and binaries, whose tests are not known yet";
     let code = Code::ListWrapperFilter;
-    refused.add_value(code, &path, wrong.as_str(), expected, None)
+    refused.add_value(findings, code, &path, wrong.as_str(), expected, None)
 }
 
 /// Adds that rules with filters on tests name wrappers of lists.
 fn add_list_wrappers(
-    refused: &mut Refused<'_, '_>,
+    refused: &Refused<'_, '_>,
+    findings: &mut Vec<Finding>,
     namings: &Namings,
     errors: &ProfileScriptErrors,
 ) -> Result<(), AllocError> {
     let alloc = refused.alloc;
     for error in &errors.list_scripts_using_run_filters {
         let name = error.name.to_string(alloc)?;
-        add_list_wrapper(refused, namings, error.profile_name.as_str(), name.as_str())?;
+        add_list_wrapper(
+            refused,
+            findings,
+            namings,
+            error.profile_name.as_str(),
+            name.as_str(),
+        )?;
     }
     Ok(())
 }
 
 /// Adds what is wrong with the scripts that rules name, but those whose definitions are refused.
 pub fn add_script_errors(
-    refused: &mut Refused<'_, '_>,
+    refused: &Refused<'_, '_>,
+    findings: &mut Vec<Finding>,
     errors: &ProfileScriptErrors,
     known: &BTreeSet<String>,
 ) -> Result<(), AllocError> {
     let tree = refused.source.tree();
     let namings = Namings::of(refused.alloc, tree, "scripts", &SCRIPT_USES)?;
-    add_unknown_scripts(refused, &namings, errors, known)?;
-    add_wrong_kinds(refused, &namings, errors)?;
-    add_list_wrappers(refused, &namings, errors)
+    add_unknown_scripts(refused, findings, &namings, errors, known)?;
+    add_wrong_kinds(refused, findings, &namings, errors)?;
+    add_list_wrappers(refused, findings, &namings, errors)
 }
