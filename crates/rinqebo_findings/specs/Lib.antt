@@ -1,3 +1,4 @@
+pub mod Later
 pub mod Placed
 pub mod Shown
 pub mod Subjects

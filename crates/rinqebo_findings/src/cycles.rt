@@ -1,4 +1,7 @@
 //! The findings of profiles that inherit in a cycle.
+ghost use Rattle.std.specs.Prelude.{◌∷◌, [], OnOk, map, string_bytes};
+ghost use Rattle.rinqebo_findings.specs.Later.{AddsLater, cycle_fault};
+
 use crate::below::file_at;
 use crate::refused::Refused;
 use rinqebo_faults::{Mark, lines_of, parent_path};
@@ -104,7 +107,10 @@ pub fn add_cycle(
     refused: &Refused<'_, '_>,
     findings: &mut Vec<Finding>,
     cycle: &[String],
-) -> Result<(), AllocError> {
+) -> Result<(), AllocError>
+    ensures { OnOk result (AddsLater refused.now.source.layers.now refused.now.source.position
+        (cycle_fault (map string_bytes cycle.now) ∷ []) findings.old.items findings.new.items) }
+{
     let alloc = refused.alloc;
     let words = cycle_words(alloc, refused, cycle)?;
     let Some(first) = cycle.first() else {

@@ -1,4 +1,7 @@
 //! Findings of features that are not enabled.
+ghost use Rattle.std.specs.Prelude.{◌∷◌, [], OnOk};
+ghost use Rattle.rinqebo_findings.specs.Later.{AddsLater, document_at, feature_fault, feature_faults};
+
 use crate::refused::Refused;
 use nextest_elements::ConfigExperimental;
 use rinqebo_faults::{feature_help, feature_path};
@@ -12,7 +15,13 @@ fn add_feature(
     findings: &mut Vec<Finding>,
     name: &str,
     missing: &[ConfigExperimental],
-) -> Result<(), AllocError> {
+) -> Result<(), AllocError>
+    ensures { let layers = refused.now.source.layers.now in
+        let position = refused.now.source.position in
+        OnOk result (AddsLater layers position
+        (feature_fault (document_at layers position) name.now ∷ []) findings.old.items
+        findings.new.items) }
+{
     let alloc = refused.alloc;
     let tree = refused.source.tree();
     let path = feature_path(alloc, tree, name)?;
@@ -34,7 +43,13 @@ pub fn add_features(
     refused: &Refused<'_, '_>,
     findings: &mut Vec<Finding>,
     features: &[ConfigExperimental],
-) -> Result<(), AllocError> {
+) -> Result<(), AllocError>
+    ensures { let layers = refused.now.source.layers.now in
+        let position = refused.now.source.position in
+        OnOk result (AddsLater layers position
+        (feature_faults (document_at layers position) features.now) findings.old.items
+        findings.new.items) }
+{
     let alloc = refused.alloc;
     for feature in features {
         let name = feature.to_string(alloc)?;

@@ -1,9 +1,11 @@
 //! Findings: how they are made, and those of warnings.
-ghost use Rattle.std.specs.Prelude.{◌≡◌, IfOk, Some, None};
+ghost use Rattle.std.specs.Prelude.{◌≡◌, IfOk, Some, None, option_map};
 ghost use Rattle.rinqebo_report.specs.Codes.Codes.{code_word};
 ghost use Rattle.rinqebo_faults.specs.Paths.{shown_path};
 ghost use Rattle.rinqebo_findings.specs.Placed.{IsPlaceIn};
 ghost use Rattle.rinqebo_findings.specs.Subjects.{subject};
+ghost use Rattle.nextest_tree.specs.View.{tree_view};
+ghost use Rattle.rinqebo_findings.specs.Later.{document_at, whole_place};
 
 use crate::given::value_at;
 use crate::paths::spelled_path;
@@ -28,7 +30,10 @@ pub struct SourceAt<'l, 't> {
 
 impl<'l, 't> SourceAt<'l, 't> {
     /// The tree of the source, if its text is a document.
-    pub fn tree(self) -> Option<&'l Tree> {
+    pub fn tree(self) -> Option<&'l Tree>
+        ensures { option_map (λ tree. tree_view tree.now) result
+            ≡ document_at self.entry.layers.now self.entry.position }
+    {
         self.layers.get(self.position?)?.tree()
     }
 
@@ -43,7 +48,9 @@ impl<'l, 't> SourceAt<'l, 't> {
     }
 
     /// The place of the whole source.
-    fn place(self) -> Option<FilePlace> {
+    fn place(self) -> Option<FilePlace>
+        ensures { result ≡ option_map whole_place self.entry.position }
+    {
         Some(FilePlace::in_source(self.position?))
     }
 
@@ -69,7 +76,9 @@ pub struct Label {
 
 impl Label {
     /// Returns a code without a name of nextest-runner.
-    pub fn own(code: Code) -> Label {
+    pub fn own(code: Code) -> Label
+        ensures { result ≡ record { code = code; upstream = None } }
+    {
         Label {
             code,
             upstream: None,
@@ -117,8 +126,10 @@ pub fn finding(
     source: SourceAt<'_, '_>,
     message: String,
 ) -> Result<Finding, AllocError>
-    ensures { IfOk result (λ found. subject found
+    ensures about { IfOk result (λ found. subject found
         ≡ record { level = level; code = code_word label.code; path = None }) }
+    ensures place { IfOk result (λ found. found.place
+        ≡ option_map whole_place source.entry.position) }
 {
     let upstream = copied(alloc, label.upstream)?;
     let code = String::from_str(alloc, label.code.word())?;

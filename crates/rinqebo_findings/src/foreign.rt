@@ -1,4 +1,9 @@
 //! Findings of groups and scripts that a file may not define.
+ghost use Rattle.std.specs.Prelude.{◌∷◌, [], OnOk, map};
+ghost use Rattle.nextest_places.specs.Spans.Paths.{path_step};
+ghost use Rattle.rinqebo_request.specs.declared.files.places.SpanPart.TheVariants as parts;
+ghost use Rattle.rinqebo_findings.specs.Later.{AddsLater, at, document_at, group_faults, script_fault, script_faults};
+
 use crate::refused::Refused;
 use nextest_elements::CustomTestGroup;
 use nextest_places::Step;
@@ -33,7 +38,11 @@ fn add_owned(
     path: &[Step<'_>],
     what: &str,
     name: &str,
-) -> Result<(), AllocError> {
+) -> Result<(), AllocError>
+    ensures { OnOk result (AddsLater refused.now.source.layers.now refused.now.source.position
+        (at parts.Key code (map path_step path.now) ∷ []) findings.old.items
+        findings.new.items) }
+{
     let owner = if name.starts_with("@org:") {
         "the organisation"
     } else {
@@ -61,7 +70,11 @@ fn add_foreign(
     path: &[Step<'_>],
     what: &str,
     name: &str,
-) -> Result<(), AllocError> {
+) -> Result<(), AllocError>
+    ensures { OnOk result (AddsLater refused.now.source.layers.now refused.now.source.position
+        (at parts.Key code (map path_step path.now) ∷ []) findings.old.items
+        findings.new.items) }
+{
     let alloc = refused.alloc;
     let Some(prefix) = own_prefix(refused)? else {
         return add_owned(refused, findings, code, path, what, name);
@@ -84,7 +97,10 @@ pub fn add_groups(
     refused: &Refused<'_, '_>,
     findings: &mut Vec<Finding>,
     groups: &BTreeSet<CustomTestGroup>,
-) -> Result<(), AllocError> {
+) -> Result<(), AllocError>
+    ensures { OnOk result (AddsLater refused.now.source.layers.now refused.now.source.position
+        (group_faults groups.now.keys) findings.old.items findings.new.items) }
+{
     for group in groups.iter() {
         let name = group.to_string(refused.alloc)?;
         let name = name.as_str();
@@ -100,7 +116,11 @@ fn add_twice(
     findings: &mut Vec<Finding>,
     path: &[Step<'_>],
     name: &str,
-) -> Result<(), AllocError> {
+) -> Result<(), AllocError>
+    ensures { OnOk result (AddsLater refused.now.source.layers.now refused.now.source.position
+        (at parts.Key Code.DuplicateScript (map path_step path.now) ∷ []) findings.old.items
+        findings.new.items) }
+{
     let wrong = format!(in refused.alloc; "`{name}` is a setup script and a wrapper script")?;
     let expected = "a name of its own for each script";
     let code = Code::DuplicateScript;
@@ -122,7 +142,13 @@ fn add_script(
     findings: &mut Vec<Finding>,
     name: &str,
     fault: ScriptFault,
-) -> Result<(), AllocError> {
+) -> Result<(), AllocError>
+    ensures { let layers = refused.now.source.layers.now in
+        let position = refused.now.source.position in
+        OnOk result (AddsLater layers position
+        (script_fault (document_at layers position) fault name.now ∷ []) findings.old.items
+        findings.new.items) }
+{
     let path = script_path(refused.alloc, refused.source.tree(), name)?;
     match fault {
         ScriptFault::Foreign => add_foreign(
@@ -143,7 +169,13 @@ pub fn add_scripts(
     findings: &mut Vec<Finding>,
     scripts: &BTreeSet<ScriptId>,
     fault: ScriptFault,
-) -> Result<(), AllocError> {
+) -> Result<(), AllocError>
+    ensures { let layers = refused.now.source.layers.now in
+        let position = refused.now.source.position in
+        OnOk result (AddsLater layers position
+        (script_faults (document_at layers position) fault scripts.now.keys) findings.old.items
+        findings.new.items) }
+{
     let alloc = refused.alloc;
     for script in scripts.iter() {
         let name = script.to_string(alloc)?;

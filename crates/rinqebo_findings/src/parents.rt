@@ -1,4 +1,7 @@
 //! Findings of parents that profiles may not have.
+ghost use Rattle.std.specs.Prelude.{◌∷◌, [], OnOk, map, string_bytes};
+ghost use Rattle.rinqebo_findings.specs.Later.{AddsLater, cycle_fault, parent_fault, parent_faults, parent_faults_of};
+
 use crate::cycles::add_cycle;
 use crate::refused::Refused;
 use nextest_inheritance::InheritsError;
@@ -33,7 +36,10 @@ fn add_unknown_parent(
     profile: &str,
     parent: &str,
     wrong: &str,
-) -> Result<(), AllocError> {
+) -> Result<(), AllocError>
+    ensures { OnOk result (AddsLater refused.now.source.layers.now refused.now.source.position
+        (parent_fault Code.UnknownParent profile.now ∷ []) findings.old.items findings.new.items) }
+{
     let alloc = refused.alloc;
     let help = near_hint(alloc, parent, names)?;
     let expected = quoted(alloc, names, " or ")?;
@@ -69,7 +75,11 @@ fn add_cycles(
     refused: &Refused<'_, '_>,
     findings: &mut Vec<Finding>,
     cycles: &[Vec<String>],
-) -> Result<(), AllocError> {
+) -> Result<(), AllocError>
+    ensures { OnOk result (AddsLater refused.now.source.layers.now refused.now.source.position
+        (map (λ cycle. cycle_fault (map string_bytes cycle.items)) cycles.now) findings.old.items
+        findings.new.items) }
+{
     for cycle in cycles {
         add_cycle(refused, findings, cycle)?;
     }
@@ -82,7 +92,10 @@ fn add_parent(
     findings: &mut Vec<Finding>,
     names: &[&str],
     error: &InheritsError,
-) -> Result<(), AllocError> {
+) -> Result<(), AllocError>
+    ensures { OnOk result (AddsLater refused.now.source.layers.now refused.now.source.position
+        (parent_faults_of error.now) findings.old.items findings.new.items) }
+{
     let alloc = refused.alloc;
     let wrong = parent_text(alloc, error)?;
     let wrong = wrong.as_str();
@@ -123,7 +136,10 @@ pub fn add_parents(
     refused: &Refused<'_, '_>,
     findings: &mut Vec<Finding>,
     errors: &[InheritsError],
-) -> Result<(), AllocError> {
+) -> Result<(), AllocError>
+    ensures { OnOk result (AddsLater refused.now.source.layers.now refused.now.source.position
+        (parent_faults errors.now) findings.old.items findings.new.items) }
+{
     let names = profile_names(refused.alloc, refused.source.layers)?;
     for error in errors {
         add_parent(refused, findings, &names, error)?;

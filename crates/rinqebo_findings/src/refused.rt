@@ -3,6 +3,11 @@ ghost use Rattle.std.specs.Prelude.{◌≡◌, ℕ, IfOk, IfSome, Option};
 ghost use Rattle.rinqebo_request.specs.Files.Origins.{IsPartPlace};
 ghost use Rattle.rinqebo_findings.specs.Placed.{IsPlaceIn, IsPlacedAt};
 ghost use Rattle.rinqebo_findings.specs.Subjects.{error_at, subject};
+ghost use Rattle.std.specs.Prelude.{OnOk, None, ◌++◌, ◌∷◌, [], map, option_map};
+ghost use Rattle.rinqebo_report.specs.Codes.Codes.{code_word};
+ghost use Rattle.rinqebo_report.specs.declared.finding.Finding.{Finding};
+ghost use Rattle.nextest_places.specs.Spans.Paths.{path_step};
+ghost use Rattle.rinqebo_findings.specs.Later.{AddsLater, at, of_file, whole_place};
 
 use crate::findings::{Label, SourceAt, finding, finding_at, with_note};
 use nextest_places::Step;
@@ -41,7 +46,9 @@ impl Refused<'_, '_> {
         &self,
         findings: &mut Vec<Finding>,
         found: Finding,
-    ) -> Result<(), AllocError> {
+    ) -> Result<(), AllocError>
+        ensures { OnOk result (findings.new.items ≡ findings.old.items ++ found ∷ []) }
+    {
         findings.push(found)?;
         Ok(())
     }
@@ -79,7 +86,12 @@ impl Refused<'_, '_> {
     }
 
     /// A finding with a message alone.
-    pub fn finding(&self, code: Code, message: String) -> Result<Finding, AllocError> {
+    pub fn finding(&self, code: Code, message: String) -> Result<Finding, AllocError>
+        ensures about { IfOk result (λ found. subject found
+            ≡ record { level = Level.Error; code = code_word code; path = None }) }
+        ensures place { IfOk result (λ found. found.place
+            ≡ option_map whole_place self.now.source.position) }
+    {
         let label = self.label(code);
         finding(self.alloc, Level::Error, label, self.source, message)
     }
@@ -95,7 +107,10 @@ impl Refused<'_, '_> {
         wrong: &str,
         expected: Option<&str>,
         help: Option<String>,
-    ) -> Result<(), AllocError> {
+    ) -> Result<(), AllocError>
+        ensures { OnOk result (AddsLater self.now.source.layers.now self.now.source.position
+            (at part code (map path_step path.now) ∷ []) findings.old.items findings.new.items) }
+    {
         let expected = owned(self.alloc, expected)?;
         let mut found = self.part_at(code, path, part, wrong)?;
         found.expected = expected;
@@ -112,7 +127,11 @@ impl Refused<'_, '_> {
         wrong: &str,
         expected: &str,
         help: Option<String>,
-    ) -> Result<(), AllocError> {
+    ) -> Result<(), AllocError>
+        ensures { OnOk result (AddsLater self.now.source.layers.now self.now.source.position
+            (at SpanPart.Value code (map path_step path.now) ∷ []) findings.old.items
+            findings.new.items) }
+    {
         self.add_fault(
             findings,
             code,
@@ -133,7 +152,11 @@ impl Refused<'_, '_> {
         wrong: &str,
         expected: &str,
         help: Option<String>,
-    ) -> Result<(), AllocError> {
+    ) -> Result<(), AllocError>
+        ensures { OnOk result (AddsLater self.now.source.layers.now self.now.source.position
+            (at SpanPart.Key code (map path_step path.now) ∷ []) findings.old.items
+            findings.new.items) }
+    {
         self.add_fault(
             findings,
             code,
@@ -151,13 +174,19 @@ impl Refused<'_, '_> {
         findings: &mut Vec<Finding>,
         found: Finding,
         note: String,
-    ) -> Result<(), AllocError> {
+    ) -> Result<(), AllocError>
+        ensures { OnOk result ((noted : Finding) × (findings.new.items ≡ findings.old.items ++ noted ∷ [])
+            × (subject noted ≡ subject found) × (noted.place ≡ found.place)) }
+    {
         let noted = with_note(found, Some(note))?;
         self.add_finding(findings, noted)
     }
 
     /// The place of the value at a path, as its findings have it.
-    pub fn place_at(&self, path: &[Step<'_>]) -> Option<FilePlace> {
+    pub fn place_at(&self, path: &[Step<'_>]) -> Option<FilePlace>
+        ensures { IsPlacedAt SpanPart.Value self.now.source.layers.now self.now.source.position path.now
+            result }
+    {
         let part = SpanPart::Value;
         written_place(
             self.source.layers,
@@ -173,7 +202,10 @@ impl Refused<'_, '_> {
         findings: &mut Vec<Finding>,
         code: Code,
         wrong: &str,
-    ) -> Result<(), AllocError> {
+    ) -> Result<(), AllocError>
+        ensures { OnOk result (AddsLater self.now.source.layers.now self.now.source.position
+            (of_file code ∷ []) findings.old.items findings.new.items) }
+    {
         let found = self.finding(code, String::from_str(self.alloc, wrong)?)?;
         self.add_finding(findings, found)
     }
