@@ -8,6 +8,7 @@ pub mod Given
 pub mod Headers
 pub mod Hints
 pub mod Lines
+pub mod Namings
 pub mod Order
 pub mod Paths
 pub mod Positions

@@ -1,3 +1,4 @@
+pub mod Compile
 pub mod Later
 pub mod Placed
 pub mod Shown

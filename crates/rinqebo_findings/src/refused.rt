@@ -42,11 +42,7 @@ impl Refused<'_, '_> {
     }
 
     /// Adds a finding with more than a message.
-    pub fn add_finding(
-        &self,
-        findings: &mut Vec<Finding>,
-        found: Finding,
-    ) -> Result<(), AllocError>
+    pub fn add_finding(&self, findings: &mut Vec<Finding>, found: Finding) -> Result<(), AllocError>
         ensures { OnOk result (findings.new.items ≡ findings.old.items ++ found ∷ []) }
     {
         findings.push(found)?;

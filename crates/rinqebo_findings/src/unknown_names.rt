@@ -1,4 +1,12 @@
 //! Findings of rules that name groups and scripts which they may not.
+ghost use Rattle.std.specs.Prelude.{◌∷◌, [], OnOk, codes, flat_map, map, string_bytes};
+ghost use Rattle.nextest_elements.specs.TestGroup.{custom_group_text};
+ghost use Rattle.nextest_scripts.specs.ScriptType.{profile_script_type_text};
+ghost use Rattle.nextest_places.specs.Spans.Paths.{path_step};
+ghost use Rattle.rinqebo_faults.specs.Edits.{names_view};
+ghost use Rattle.rinqebo_request.specs.declared.files.places.SpanPart.TheVariants as parts;
+ghost use Rattle.rinqebo_findings.specs.Later.{AddsLater, AddsScriptErrors, AddsUnknownGroups, at, group_uses, list_wrapper_fault, name_fault, script_uses, unknown_script_faults, wrong_kind_faults};
+
 use crate::refused::Refused;
 use nextest_places::Step;
 use nextest_sources::{
@@ -44,7 +52,10 @@ fn add_unknown(
     wrong: &str,
     name: &str,
     known: &[&str],
-) -> Result<(), AllocError> {
+) -> Result<(), AllocError>
+    ensures { OnOk result (AddsLater refused.now.source.layers.now refused.now.source.position
+        (at parts.Value code (map path_step path.now) ∷ []) findings.old.items findings.new.items) }
+{
     let alloc = refused.alloc;
     let help = near_hint(alloc, name, known)?;
     let expected = one_of(alloc, known)?;
@@ -61,7 +72,11 @@ fn add_unknown_group(
     namings: &Namings,
     error: &UnknownTestGroupError,
     known: &BTreeSet<String>,
-) -> Result<(), AllocError> {
+) -> Result<(), AllocError>
+    ensures { OnOk result (AddsLater refused.now.source.layers.now refused.now.source.position
+        (name_fault Code.UnknownGroup namings.now (string_bytes error.now.profile_name) group_uses
+        (custom_group_text error.now.name) ∷ []) findings.old.items findings.new.items) }
+{
     let alloc = refused.alloc;
     let profile = error.profile_name.as_str();
     let name = error.name.as_str();
@@ -85,7 +100,11 @@ pub fn add_unknown_groups(
     findings: &mut Vec<Finding>,
     errors: &[UnknownTestGroupError],
     known: &BTreeSet<String>,
-) -> Result<(), AllocError> {
+) -> Result<(), AllocError>
+    ensures { OnOk result (AddsUnknownGroups refused.now.source.layers.now
+        refused.now.source.position (names_view refused.now.left_out.now.groups) errors.now
+        findings.old.items findings.new.items) }
+{
     let alloc = refused.alloc;
     let namings = Namings::of(alloc, refused.source.tree(), "overrides", &GROUP_USES)?;
     for error in errors {
@@ -105,7 +124,11 @@ fn add_unknown_script(
     profile: &str,
     name: &str,
     known: &[&str],
-) -> Result<(), AllocError> {
+) -> Result<(), AllocError>
+    ensures { OnOk result (AddsLater refused.now.source.layers.now refused.now.source.position
+        (name_fault Code.UnknownScript namings.now profile.now script_uses name.now ∷ [])
+        findings.old.items findings.new.items) }
+{
     let path = namings.path_of(profile, &SCRIPT_USES, name)?;
     let wrong = format!(in refused.alloc; "unknown script `{name}`")?;
     add_unknown(
@@ -126,7 +149,11 @@ fn add_unknown_scripts(
     namings: &Namings,
     errors: &ProfileScriptErrors,
     known: &BTreeSet<String>,
-) -> Result<(), AllocError> {
+) -> Result<(), AllocError>
+    ensures { OnOk result (AddsLater refused.now.source.layers.now refused.now.source.position
+        (flat_map (unknown_script_faults namings.now (names_view refused.now.left_out.now.scripts))
+        errors.now.unknown_scripts.items) findings.old.items findings.new.items) }
+{
     let alloc = refused.alloc;
     let names = names_of(alloc, known)?;
     for error in &errors.unknown_scripts {
@@ -157,7 +184,11 @@ fn add_wrong_kind(
     namings: &Namings,
     error: &ProfileWrongConfigScriptTypeError,
     name: &str,
-) -> Result<(), AllocError> {
+) -> Result<(), AllocError>
+    ensures { OnOk result (AddsLater refused.now.source.layers.now refused.now.source.position
+        (name_fault Code.WrongScriptKind namings.now (string_bytes error.now.profile_name)
+        (profile_script_type_text error.now.attempted ∷ []) name.now ∷ []) findings.old.items findings.new.items) }
+{
     let alloc = refused.alloc;
     let key = error.attempted.to_string(alloc)?;
     let key = key.as_str();
@@ -174,7 +205,11 @@ fn add_wrong_kinds(
     findings: &mut Vec<Finding>,
     namings: &Namings,
     errors: &ProfileScriptErrors,
-) -> Result<(), AllocError> {
+) -> Result<(), AllocError>
+    ensures { OnOk result (AddsLater refused.now.source.layers.now refused.now.source.position
+        (flat_map (wrong_kind_faults namings.now (names_view refused.now.left_out.now.scripts))
+        errors.now.wrong_script_types.items) findings.old.items findings.new.items) }
+{
     let alloc = refused.alloc;
     for error in &errors.wrong_script_types {
         let name = error.name.to_string(alloc)?;
@@ -192,7 +227,11 @@ fn add_list_wrapper(
     namings: &Namings,
     profile: &str,
     name: &str,
-) -> Result<(), AllocError> {
+) -> Result<(), AllocError>
+    ensures { OnOk result (AddsLater refused.now.source.layers.now refused.now.source.position
+        (name_fault Code.ListWrapperFilter namings.now profile.now (codes "list-wrapper" ∷ [])
+        name.now ∷ []) findings.old.items findings.new.items) }
+{
     let path = namings.path_of(profile, &["list-wrapper"], name)?;
     let wrong = format!(in refused.alloc;
         "`{name}` is a list wrapper, and the filter of its rule has a predicate such as `test(..)`"
@@ -208,7 +247,11 @@ fn add_list_wrappers(
     findings: &mut Vec<Finding>,
     namings: &Namings,
     errors: &ProfileScriptErrors,
-) -> Result<(), AllocError> {
+) -> Result<(), AllocError>
+    ensures { OnOk result (AddsLater refused.now.source.layers.now refused.now.source.position
+        (map (list_wrapper_fault namings.now) errors.now.list_scripts_using_run_filters.items)
+        findings.old.items findings.new.items) }
+{
     let alloc = refused.alloc;
     for error in &errors.list_scripts_using_run_filters {
         let name = error.name.to_string(alloc)?;
@@ -229,7 +272,11 @@ pub fn add_script_errors(
     findings: &mut Vec<Finding>,
     errors: &ProfileScriptErrors,
     known: &BTreeSet<String>,
-) -> Result<(), AllocError> {
+) -> Result<(), AllocError>
+    ensures { OnOk result (AddsScriptErrors refused.now.source.layers.now
+        refused.now.source.position (names_view refused.now.left_out.now.scripts) errors.now
+        findings.old.items findings.new.items) }
+{
     let tree = refused.source.tree();
     let namings = Namings::of(refused.alloc, tree, "scripts", &SCRIPT_USES)?;
     add_unknown_scripts(refused, findings, &namings, errors, known)?;
