@@ -1,4 +1,8 @@
 //! Findings of texts that are not TOML.
+ghost use Rattle.std.specs.Prelude.{◌≡◌, ◌∷◌, [], OnOk, option_map};
+ghost use Rattle.rinqebo_findings.specs.Later.{AddsLater, of_file};
+ghost use Rattle.rinqebo_findings.specs.Subjects.{subject};
+
 use crate::findings::with_note;
 use crate::refused::Refused;
 use nextest_places::TextPosition;
@@ -10,7 +14,11 @@ use rinqebo_report::{Code, FileLines, Finding, Position};
 use std::alloc::AllocError;
 
 /// Returns a finding about some characters from a position on, with their line, range and column.
-fn placed(found: Finding, start: Position, len: usize) -> Finding {
+fn placed(found: Finding, start: Position, len: usize) -> Finding
+    ensures about { subject result ≡ subject found }
+    ensures place { option_map (λ place. place.source) result.place
+        ≡ option_map (λ place. place.source) found.place }
+{
     let mut found = found;
     if let Some(place) = &mut found.place {
         place.lines = Some(FileLines {
@@ -30,7 +38,10 @@ fn add_bad_line(
     text: &str,
     position: TextPosition,
     bad: BadLine<'_>,
-) -> Result<(), AllocError> {
+) -> Result<(), AllocError>
+    ensures { OnOk result (AddsLater refused.now.source.layers.now refused.now.source.position
+        (of_file Code.NotToml ∷ []) findings.old.items findings.new.items) }
+{
     let alloc = refused.alloc;
     let LineWords {
         len,
@@ -57,7 +68,10 @@ fn add_reason(
     findings: &mut Vec<Finding>,
     position: Option<TextPosition>,
     reason: &str,
-) -> Result<(), AllocError> {
+) -> Result<(), AllocError>
+    ensures { OnOk result (AddsLater refused.now.source.layers.now refused.now.source.position
+        (of_file Code.NotToml ∷ []) findings.old.items findings.new.items) }
+{
     let message = on_one_line(refused.alloc, reason)?;
     let found = refused.finding(Code::NotToml, message)?;
     match position {
@@ -72,7 +86,10 @@ fn add_at(
     findings: &mut Vec<Finding>,
     position: Option<TextPosition>,
     reason: &str,
-) -> Result<(), AllocError> {
+) -> Result<(), AllocError>
+    ensures { OnOk result (AddsLater refused.now.source.layers.now refused.now.source.position
+        (of_file Code.NotToml ∷ []) findings.old.items findings.new.items) }
+{
     let (Some(text), Some(place)) = (refused.text, position) else {
         return add_reason(refused, findings, position, reason);
     };
@@ -92,7 +109,10 @@ pub fn add_no_document(
     refused: &Refused<'_, '_>,
     findings: &mut Vec<Finding>,
     message: &str,
-) -> Result<(), AllocError> {
+) -> Result<(), AllocError>
+    ensures { OnOk result (AddsLater refused.now.source.layers.now refused.now.source.position
+        (of_file Code.NotToml ∷ []) findings.old.items findings.new.items) }
+{
     match refused.source.fault() {
         Some(fault) => add_at(refused, findings, fault.position, fault.reason.as_str()),
         None => add_reason(refused, findings, None, message),
