@@ -1,4 +1,11 @@
 //! Findings of a refused configuration: one for each thing that is wrong.
+ghost use Rattle.std.specs.Prelude.{[], ◌∷◌, IfOk, OnOk};
+ghost use Rattle.rinqebo_request.specs.declared.files.places.SpanPart.TheVariants as parts;
+ghost use Rattle.rinqebo_faults.specs.Edits.{left_out_view};
+ghost use Rattle.rinqebo_findings.specs.Compile.{compile_fault, compile_faults, section_code};
+ghost use Rattle.rinqebo_findings.specs.Later.{AddsLater, document_at, of_file};
+ghost use Rattle.rinqebo_checks.specs.Refusals.{AddsRefusal, outcome_faults, two_tables};
+
 use nextest_elements::{IdentifierOwner, ToolName};
 use nextest_places::Step;
 use nextest_sources::{
@@ -20,7 +27,10 @@ fn add_outcome(
     refused: &Refused<'_, '_>,
     findings: &mut Vec<Finding>,
     outcome: &ReadOutcome,
-) -> Result<(), AllocError> {
+) -> Result<(), AllocError>
+    ensures { OnOk result (AddsLater refused.now.source.layers.now refused.now.source.position
+        (outcome_faults outcome.now) findings.old.items findings.new.items) }
+{
     match outcome {
         ReadOutcome::Text(_) => Ok(()),
         ReadOutcome::NotFound => refused.add_whole(findings, Code::UnreadableFile, "no such file"),
@@ -38,7 +48,9 @@ fn add_outcome(
 }
 
 /// The code of what is wrong with a whole section.
-fn section_code(kind: &ConfigCompileErrorKind) -> Code {
+fn section_code(kind: &ConfigCompileErrorKind) -> Code
+    ensures { result ≡ section_code kind.now }
+{
     match kind {
         ConfigCompileErrorKind::ConstraintsNotSpecified { .. } => Code::RuleWithoutCondition,
         ConfigCompileErrorKind::FilterAndDefaultFilterSpecified => Code::TwoFilters,
@@ -51,7 +63,13 @@ fn add_compile(
     refused: &Refused<'_, '_>,
     findings: &mut Vec<Finding>,
     error: &ConfigCompileError,
-) -> Result<(), AllocError> {
+) -> Result<(), AllocError>
+    ensures { let layers = refused.now.source.layers.now in
+        let position = refused.now.source.position in
+        OnOk result (AddsLater layers position
+        (compile_fault (document_at layers position) error.now) findings.old.items
+        findings.new.items) }
+{
     let alloc = refused.alloc;
     let profile = error.profile_name.as_str();
     let section = error.section;
@@ -80,13 +98,19 @@ fn add_second_file(
     findings: &mut Vec<Finding>,
     tool: &ToolName,
     first: &ConfigPath,
-) -> Result<(), AllocError> {
+) -> Result<(), AllocError>
+    ensures { OnOk result (AddsLater refused.now.source.layers.now refused.now.source.position
+        (of_file Code.SecondToolFile ∷ []) findings.old.items findings.new.items) }
+{
     let wrong = format!(in refused.alloc; "the tool `{tool}` provides `{first}`, too")?;
     refused.add_whole(findings, Code::SecondToolFile, wrong.as_str())
 }
 
 /// Scripts under the old key and under the new one.
-fn add_both_keys(refused: &Refused<'_, '_>, findings: &mut Vec<Finding>) -> Result<(), AllocError> {
+fn add_both_keys(refused: &Refused<'_, '_>, findings: &mut Vec<Finding>) -> Result<(), AllocError>
+    ensures { OnOk result (AddsLater refused.now.source.layers.now refused.now.source.position
+        (two_tables ∷ []) findings.old.items findings.new.items) }
+{
     let alloc = refused.alloc;
     let help = String::from_str(alloc, "move the scripts of `script` to `scripts.setup`")?;
     let wrong = "there are `scripts` and its old form, `script`";
@@ -107,7 +131,13 @@ fn add_compiles(
     refused: &Refused<'_, '_>,
     findings: &mut Vec<Finding>,
     errors: &[ConfigCompileError],
-) -> Result<(), AllocError> {
+) -> Result<(), AllocError>
+    ensures { let layers = refused.now.source.layers.now in
+        let position = refused.now.source.position in
+        OnOk result (AddsLater layers position
+        (compile_faults (document_at layers position) errors.now) findings.old.items
+        findings.new.items) }
+{
     for error in errors {
         add_compile(refused, findings, error)?;
     }
@@ -123,7 +153,10 @@ fn add_kind(
     refused: &Refused<'_, '_>,
     findings: &mut Vec<Finding>,
     kind: &ConfigParseErrorKind,
-) -> Result<(), AllocError> {
+) -> Result<(), AllocError>
+    ensures { OnOk result (AddsRefusal refused.now.source.layers.now refused.now.source.position
+        (left_out_view refused.now.left_out.now) kind.now findings.old.items findings.new.items) }
+{
     match kind {
         ConfigParseErrorKind::DuplicateToolConfigFile { tool, first } => {
             add_second_file(refused, findings, tool, first)
@@ -180,14 +213,18 @@ pub fn refused_place(layers: &[Layer], error: &ConfigParseError) -> Option<usize
     place_at(layers, refused_owner(error), error.config_file()?)
 }
 
-/// Returns the findings of a refusal of files without what is left out.
+/// Returns the findings of a refusal of files without what is left out: those of the source at a
+/// place among the layers, if it is known.
 pub fn refusal_findings(
     alloc: Global,
     session: &Session<'_>,
+    position: Option<usize>,
     error: &ConfigParseError,
     left_out: &LeftOut,
-) -> Result<Vec<Finding>, AllocError> {
-    let position = refused_place(&session.layers, error);
+) -> Result<Vec<Finding>, AllocError>
+    ensures { IfOk result (λ findings. AddsRefusal session.now.layers.items position
+        (left_out_view left_out.now) error.now.kind [] findings.items) }
+{
     let text = match position {
         Some(position) => text_of(session.gathered, position),
         None => None,

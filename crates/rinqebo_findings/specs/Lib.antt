@@ -3,3 +3,4 @@ pub mod Later
 pub mod Placed
 pub mod Shown
 pub mod Subjects
+pub mod Warnings
