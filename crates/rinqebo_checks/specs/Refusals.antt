@@ -14,7 +14,7 @@ use Rattle.rinqebo_request.specs.declared.files.layers.Layer.{Layer}
 use Rattle.rinqebo_request.specs.declared.files.places.SpanPart.TheVariants as parts
 use Rattle.rinqebo_faults.specs.Edits.{LeftOutView}
 use Rattle.rinqebo_findings.specs.Compile.{compile_faults}
-use Rattle.rinqebo_findings.specs.Later.{AddsLater, AddsScriptErrors, AddsUnknownGroups, at, document_at, feature_faults, group_faults, LaterFault, of_file, parent_faults, script_faults}
+use Rattle.rinqebo_findings.specs.Later.{AddsElement, AddsLater, AddsScriptErrors, AddsUnknownGroups, at, document_at, feature_faults, group_faults, LaterFault, of_file, parent_faults, script_faults}
 use Rattle.rinqebo_findings.specs.Subjects.{IsElementFinding}
 use Rattle.rinqebo_findings.specs.declared.foreign.ScriptFault.TheVariants as faults
 
@@ -28,15 +28,6 @@ outcome_faults (outcomes.Failed message) = of_file UnreadableFile ∷ []
 -- scripts under the old key and under the new one
 abbrev pub two_tables : LaterFault
 two_tables = at parts.Key TwoScriptTables (paths.key (codes "scripts") ∷ [])
-
--- The finding is added of a value that is refused for a cause, at some path.
-pub record AddsElement (layers : List Layer) (source : Option ℕ) (cause : ElementCause)
-    (old new : List Finding) : Type 0 where
-  pub path : List Step
-  pub stray : Option (Bor (List ℕ))
-  pub finding : Finding
-  pub whole : new ≡ old ++ finding ∷ []
-  pub is : IsElementFinding layers source cause path stray finding
 
 -- The findings of a refusal of a kind are added: one of each thing that is refused, in the order of
 -- the refusal, but for names that may be those whose definitions are left out.

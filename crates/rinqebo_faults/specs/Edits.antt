@@ -1,5 +1,5 @@
 -- What the files of a run are read without, and with in its place.
-use Rattle.std.specs.Prelude.{ℕ, ◌+◌, ◌-◌, ◌^◌, min, ◌||◌, Bool, true, false, List, [], ◌∷◌, ◌++◌, codes, decimal, flat_map, fold, length, map, cond, Option, None, Some, option_map, string_bytes}
+use Rattle.std.specs.Prelude.{ℕ, ◌+◌, ◌-◌, ◌^◌, min, ◌||◌, Bool, true, false, List, ◌++◌, codes, decimal, fold, length, cond, Option, None, Some, option_map, string_bytes}
 use Rattle.std.specs.BTreeMap.{btree_map_len, get_by_text}
 use Rattle.std.specs.BTreeSet.{btree_set_len, contains_text}
 use Rattle.std.specs.Str.{bytes_eq}

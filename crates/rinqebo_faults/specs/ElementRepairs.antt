@@ -1,5 +1,5 @@
 -- What files are read without where a value is refused.
-use Rattle.std.specs.Prelude.{ℕ, ◌+◌, ◌-◌, ◌==◌, nat_lt, Bool, true, false, not, ◌&&◌, ◌||◌, List, [], ◌∷◌, ◌++◌, codes, is_some, length, map, slice_get, take, Option, None, Some, string_bytes, if◌then◌else◌}
+use Rattle.std.specs.Prelude.{ℕ, ◌+◌, ◌-◌, ◌==◌, nat_lt, Bool, true, false, not, ◌&&◌, ◌||◌, List, [], ◌∷◌, ◌++◌, codes, is_some, length, map, take, Option, None, Some, string_bytes, if◌then◌else◌}
 use Rattle.std.specs.Option.{option_and_then}
 use Rattle.std.specs.Str.{bytes_eq}
 use Rattle.nextest_places.specs.Spans.Paths.{path_step}
@@ -8,7 +8,7 @@ use Rattle.nextest_tree.specs.declared.fault.ElementCause.{ElementCause}
 use Rattle.nextest_tree.specs.declared.fault.ElementCause.TheVariants as causes
 use Rattle.rinqebo_faults.specs.Edits.{Edit, add, mark_of, omit_groups, omit_rule, omit_scripts, remove, replace}
 use Rattle.rinqebo_faults.specs.Paths.{shown_path}
-use Rattle.rinqebo_faults.specs.Tables.{has_key, is_key, is_script_kind, key_at}
+use Rattle.rinqebo_faults.specs.Tables.{has_key, is_script_kind, key_at}
 
 -- a sound group, script and rule, and no settings
 abbrev pub sound_group : List ℕ

@@ -1,7 +1,7 @@
 -- The headers of tables, as TOML writes them.
 use Rattle.std.specs.Prelude.{ℕ, ◌==◌, Bool, not, ◌&&◌, ◌||◌, List, [], ◌∷◌, ◌++◌, codes, filter_map, length, if◌then◌else◌}
 use Rattle.std.specs.Char.{is_ascii_alphanumeric}
-use Rattle.std.specs.List.{list_all, list_any, join_by}
+use Rattle.std.specs.List.{list_all, list_any}
 use Rattle.std.specs.Str.{chars}
 use Rattle.nextest_places.specs.declared.step.Step.{Step}
 use Rattle.rinqebo_faults.specs.Shapes.{key_of}

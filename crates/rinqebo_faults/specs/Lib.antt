@@ -13,6 +13,7 @@ pub mod Order
 pub mod Paths
 pub mod Positions
 pub mod RefusedValues
+pub mod Regexes
 pub mod Repairs
 pub mod Shapes
 pub mod Spellings

@@ -1,5 +1,5 @@
 -- Paths as findings show them.
-use Rattle.std.specs.Prelude.{ℕ, Bool, false, List, [], ◌∷◌, ◌++◌, codes, is_some, Option, None, Some, if◌then◌else◌}
+use Rattle.std.specs.Prelude.{ℕ, Bool, List, [], ◌∷◌, ◌++◌, codes, is_some, Option, None, Some, if◌then◌else◌}
 use Rattle.std.specs.Option.{option_and_then}
 use Rattle.nextest_shape.specs.Faults.Found.{step_text}
 use Rattle.nextest_places.specs.declared.step.Step.{Step}

@@ -1,9 +1,7 @@
 -- Whether the shape of a file refuses a value: which of several values a refusal is about.
 use Rattle.std.specs.Prelude.{ℕ, ℤ, int_lt, ◌-◌, ◌==◌, Bool, true, false, not, ◌&&◌, ◌||◌, List, is_some, is_none, length, map, take, Option, None, Some, string_bytes}
-use Rattle.std.specs.Option.{option_and_then}
-use Rattle.std.specs.Str.{bytes_eq}
 use Rattle.nextest_places.specs.declared.step.Step.{Step}
-use Rattle.nextest_shape.specs.Form.{Form, anything, a_truth, a_number, a_text, an_array, a_table, a_map, either, Forms, no_forms, or_form}
+use Rattle.nextest_shape.specs.Form.{Form, anything, a_truth, a_number, a_text, an_array, a_table, a_map}
 use Rattle.nextest_tree.specs.Node.{Node, table, array, text, int, bool, opaque, Nodes, no_nodes, node, member_of, as_table}
 use Rattle.nextest_tree.specs.declared.fault.ElementCause.{ElementCause}
 use Rattle.nextest_tree.specs.declared.fault.ElementCause.TheVariants as causes

@@ -1,5 +1,5 @@
 -- Lines of texts that are not TOML: where they are at fault, and which ones are shown.
-use Rattle.std.specs.Prelude.{ℕ, ◌+◌, ◌-◌, ◌^◌, ◌==◌, min, List, [], ◌∷◌, ◌++◌, codes, decimal, fold, length, slice_get, Option, None, Some, option_map, if◌then◌else◌}
+use Rattle.std.specs.Prelude.{ℕ, ◌+◌, ◌-◌, ◌^◌, ◌==◌, min, List, [], ◌++◌, codes, decimal, fold, length, slice_get, Option, None, Some, option_map, if◌then◌else◌}
 use Rattle.std.specs.Str.Lines.{lines}
 use Rattle.nextest_places.specs.declared.spans.position.TextPosition.{TextPosition}
 use Rattle.rinqebo_report.specs.declared.origin.Position.{Position}

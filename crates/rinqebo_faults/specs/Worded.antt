@@ -1,5 +1,5 @@
 -- Texts that are refused, and what is wrong with a part of them.
-use Rattle.std.specs.Prelude.{◌≡◌, ◌⊎◌, ◌≤◌, ◌+◌, ◌-◌, ◌^◌, ℕ, min, List, [], ◌∷◌, length, Option, None, Some, String, string_bytes, option_map, slice_range}
+use Rattle.std.specs.Prelude.{◌≡◌, ◌⊎◌, ◌≤◌, ◌+◌, ◌-◌, ◌^◌, ℕ, min, List, [], ◌∷◌, length, None, Some, string_bytes, option_map, slice_range}
 use Rattle.std.specs.Char.{encode_utf8}
 use Rattle.std.specs.Str.{chars, IsCharBoundary}
 use Rattle.rinqebo_faults.specs.declared.worded.Worded.{Worded}

@@ -28,12 +28,6 @@ quoted last words = listed last (map backquoted words)
 abbrev pub is_number : List ℕ → Bool
 is_number text = list_all is_ascii_digit (chars text) && not (length text == 0)
 
--- what is before the item at a place of a list of so many: commas, and something else before the
--- last one
-abbrev pub mark_before : (place count : ℕ) → List ℕ → List ℕ
-mark_before place count last =
-    if place == 0 then [] else if nat_lt (place + 1) count then codes ", " else last
-
--- the items of a list from a place on
-abbrev pub listed_from : ℕ → List ℕ → List (List ℕ) → List ℕ
-listed_from place last words = if place == 0 then listed last words else listed_behind last words
+-- what is before an item behind the first one: commas, and something else before the last one
+abbrev pub mark_before : (is_last : Bool) → List ℕ → List ℕ
+mark_before is_last last = if is_last then last else codes ", "

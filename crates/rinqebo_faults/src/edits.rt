@@ -4,7 +4,7 @@ ghost use Rattle.std.specs.Option.{option_copied};
 ghost use Rattle.nextest_places.specs.Spans.Paths.{path_step};
 ghost use Rattle.nextest_places.specs.Spans.Paths as paths;
 ghost use Rattle.rinqebo_faults.specs.Paths.{shown_path};
-ghost use Rattle.rinqebo_faults.specs.Edits.{add, edit_count, edits_view, mark_below, mark_of, no_edits, omit_group, omit_groups, omit_rule, omit_script, omit_scripts, remove, replace, with_edit};
+ghost use Rattle.rinqebo_faults.specs.Edits.{add, edit_count, edits_view, entries_with, mark_below, mark_of, no_edits, omit_group, omit_groups, omit_rule, omit_script, omit_scripts, remove, replace, with_edit};
 
 use crate::left_out::LeftOut;
 use nextest_places::Step;
@@ -40,6 +40,17 @@ pub fn mark_of(alloc: Global, place: usize, path: &[Step<'_>]) -> Result<String,
         mark = mark_below(alloc, mark.as_str(), *step)?;
     }
     Ok(mark)
+}
+
+/// An entry before those that are there.
+fn entries_with(alloc: Global, entry: &str, earlier: Option<&str>) -> Result<String, AllocError>
+    ensures { IfOk result (λ entries. string_bytes entries
+        ≡ entries_with entry.now (option_copied earlier.entry)) }
+{
+    match earlier {
+        Some(earlier) => format!(in alloc; "{entry}, {earlier}"),
+        None => String::from_str(alloc, entry),
+    }
 }
 
 /// What the files of a run are read without, and with in its place.
@@ -127,11 +138,8 @@ impl Edits {
             (add (mark_of place (map path_step path.now)) entry.now)) }
     {
         let mark = mark_of(self.alloc, place, path)?;
-        let mut entries = String::from_str(self.alloc, entry)?;
-        if let Some(earlier) = self.added.get(mark.as_str()) {
-            entries.push_str(", ")?;
-            entries.push_str(earlier.as_str())?;
-        }
+        let earlier = self.additions(mark.as_str());
+        let entries = entries_with(self.alloc, entry, earlier)?;
         drop(self.added.insert(mark, entries)?);
         Ok(())
     }

@@ -1,5 +1,5 @@
 //! What files are read without where a value is refused.
-ghost use Rattle.std.specs.Prelude.{◌≡◌, ℕ, ◌-◌, ◌<◌, ◌^◌, ◌&&◌, [], ◌∷◌, OnOk, codes, is_some, length};
+ghost use Rattle.std.specs.Prelude.{◌≡◌, ◌-◌, ◌<◌, ◌^◌, ◌&&◌, [], ◌∷◌, OnOk, codes, is_some, length};
 ghost use Rattle.std.specs.Option.{option_and_then, option_copied};
 ghost use Rattle.rinqebo_faults.specs.Edits.{edits_view, with_edits};
 ghost use Rattle.rinqebo_faults.specs.ElementRepairs.{cause_edits, element_edits, ends_with_key, group_edits, is_bad_name, is_condition, is_either, is_in_rules, missing_edit, needed_edit, profile_edits, rules_note, script_edits, setting_edit, setting_steps, sound_entry, sound_value, table_edit, value_edits};

@@ -1,5 +1,5 @@
 //! What files are read without where a later check refuses them.
-ghost use Rattle.std.specs.Prelude.{◌≡◌, ℕ, List, [], ◌∷◌, IfOk, OnOk, codes, map, option_map, string_bytes};
+ghost use Rattle.std.specs.Prelude.{◌≡◌, ℕ, List, [], ◌∷◌, IfOk, OnOk, codes, map, option_map};
 ghost use Rattle.std.specs.BTreeSet.{contains_text};
 ghost use Rattle.std.specs.Option.{option_and_then, option_copied};
 ghost use Rattle.nextest_tree.specs.Node.{as_array, as_table, member_of};

@@ -6,28 +6,27 @@ ghost use Rattle.rinqebo_faults.specs.Words.{is_number, listed, mark_before, quo
 
 use std::alloc::{AllocError, Global};
 
-/// What is written before the item at a place of a list: commas, and something else before the last
+/// What is written before an item behind the first one: commas, and something else before the last
 /// one.
-fn mark_before(place: usize, count: usize, last: &'static str) -> &'static str
-    ensures { result.now ≡ mark_before place count last.now }
+fn mark_before(is_last: bool, last: &'static str) -> &'static str
+    ensures { result.now ≡ mark_before is_last last.now }
 {
-    if place == 0 {
-        return "";
-    }
-    if place.saturating_add(1) >= count {
-        return last;
-    }
-    ", "
+    if is_last { last } else { ", " }
 }
 
 /// Items with commas between them, and something else before the last one.
 pub fn listed(alloc: Global, items: &[String], last: &'static str) -> Result<String, AllocError>
-    ensures { IfOk result (λ text. string_bytes text ≡ listed last.now (map string_bytes items.now)) }
+    ensures { IfOk result (λ text. string_bytes text
+        ≡ listed last.now (map string_bytes items.now)) }
 {
     let mut text = String::new(alloc);
-    for (place, item) in items.iter().enumerate() {
-        text.push_str(mark_before(place, items.len(), last))?;
-        text.push_str(item.as_str())?;
+    let Some((first, rest)) = items.split_first() else {
+        return Ok(text);
+    };
+    text.push_str(first.as_str())?;
+    for i in 0..rest.len() {
+        text.push_str(mark_before(i + 1 == rest.len(), last))?;
+        text.push_str(rest[i].as_str())?;
     }
     Ok(text)
 }
@@ -37,13 +36,11 @@ pub fn quoted(alloc: Global, words: &[&str], last: &'static str) -> Result<Strin
     ensures { IfOk result (λ text. string_bytes text
         ≡ quoted last.now (map (λ word. word.now) words.now)) }
 {
-    let mut text = String::new(alloc);
-    for (place, word) in words.iter().enumerate() {
-        let mark = mark_before(place, words.len(), last);
-        let quoted = format!(in alloc; "{mark}`{word}`")?;
-        text.push_str(quoted.as_str())?;
+    let mut texts = Vec::new(alloc);
+    for word in words {
+        texts.push(format!(in alloc; "`{word}`")?)?;
     }
-    Ok(text)
+    listed(alloc, &texts, last)
 }
 
 /// Whether a word is one of some others.

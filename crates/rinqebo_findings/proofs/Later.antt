@@ -1,14 +1,12 @@
 -- Findings of what later checks refuse, one after another.
-use Rattle.std.proofs.Common.{◌≡◌, ℕ, List, [], ◌∷◌, ◌++◌, map, Option, None, Some, option_map, refl, sym, ap, ◌∙◌, append_assoc, append-nil}
-use Rattle.nextest_places.specs.Spans.Paths.{PathStep, path_step}
+use Rattle.std.proofs.Common.{◌≡◌, ℕ, List, [], ◌∷◌, ◌++◌, map, Option, refl, sym, ap, ◌∙◌, append_assoc, append-nil}
+use Rattle.nextest_places.specs.Spans.Paths.{path_step}
 use Rattle.nextest_places.specs.declared.step.Step.{Step}
-use Rattle.rinqebo_report.specs.Codes.Codes.{code_word}
 use Rattle.rinqebo_report.specs.declared.codes.code.Code.{Code}
 use Rattle.rinqebo_report.specs.declared.finding.Finding.{Finding}
-use Rattle.rinqebo_report.specs.declared.finding.Level.TheVariants as levels
 use Rattle.rinqebo_request.specs.declared.files.layers.Layer.{Layer}
 use Rattle.rinqebo_request.specs.declared.files.places.SpanPart.{SpanPart}
-use Rattle.rinqebo_findings.specs.Later.{AddsLater, AreLater, at, IsErrorOn, IsLaterFinding, LaterFault, of_file, whole_place}
+use Rattle.rinqebo_findings.specs.Later.{AddsLater, AreLater, at, IsErrorOn, LaterFault}
 use Rattle.rinqebo_findings.specs.Placed.{IsPlacedAt}
 use Rattle.rinqebo_findings.specs.Subjects.{error_at, IsErrorAt, subject}
 

@@ -1,5 +1,5 @@
 -- What does not compile, as findings report it.
-use Rattle.std.specs.Prelude.{ℕ, List, [], ◌∷◌, ◌++◌, codes, flat_map, is_some, Option, None, Some, option_map, string_bytes, if◌then◌else◌}
+use Rattle.std.specs.Prelude.{ℕ, List, [], ◌∷◌, ◌++◌, codes, flat_map, Option, None, Some, option_map, string_bytes}
 use Rattle.std.specs.Option.{option_and_then}
 use Rattle.nextest_engines.specs.declared.refusal.Refusal.{Refusal}
 use Rattle.nextest_places.specs.Path.{item_at}

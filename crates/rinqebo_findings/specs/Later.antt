@@ -1,5 +1,6 @@
 -- What later checks refuse, and the findings that report it.
 use Rattle.std.specs.Prelude.{◌≡◌, ℕ, List, [], ◌∷◌, ◌++◌, codes, flat_map, map, slice_get, Option, None, Some, option_map, string_bytes, if◌then◌else◌}
+use Rattle.std.specs.Borrow.{Bor}
 use Rattle.std.specs.Option.{option_and_then}
 use Rattle.nextest_elements.specs.Experimental.{experimental_text}
 use Rattle.nextest_elements.specs.TestGroup.{custom_group_text}
@@ -13,6 +14,7 @@ use Rattle.nextest_scripts.specs.ScriptId.{script_text}
 use Rattle.nextest_scripts.specs.ScriptType.{profile_script_type_text}
 use Rattle.nextest_scripts.specs.declared.script_id.ScriptId.{ScriptId}
 use Rattle.nextest_tree.specs.Node.{Node}
+use Rattle.nextest_tree.specs.declared.fault.ElementCause.{ElementCause}
 use Rattle.rinqebo_report.specs.Codes.Codes.{code_word}
 use Rattle.rinqebo_report.specs.declared.codes.code.Code.{Code}
 use Rattle.rinqebo_report.specs.declared.codes.code.Code.TheVariants.{ForeignGroup, ForeignScript, DuplicateScript, FeatureOff, DefaultInherits, InheritsItself, UnknownParent, InheritanceCycle, UnknownGroup, UnknownScript, WrongScriptKind, ListWrapperFilter}
@@ -37,7 +39,7 @@ use Rattle.rinqebo_faults.specs.Paths.{profile_path, script_path}
 use Rattle.rinqebo_faults.specs.Repairs.{group_path}
 use Rattle.rinqebo_faults.specs.Positions.{IsExpression}
 use Rattle.rinqebo_findings.specs.Placed.{IsOnLines}
-use Rattle.rinqebo_findings.specs.Subjects.{error_at, IsErrorAt, subject}
+use Rattle.rinqebo_findings.specs.Subjects.{error_at, IsElementFinding, IsErrorAt, subject}
 use Rattle.rinqebo_findings.specs.declared.foreign.ScriptFault.{ScriptFault}
 use Rattle.rinqebo_findings.specs.declared.foreign.ScriptFault.TheVariants as faults
 
@@ -228,3 +230,12 @@ pub record AddsScriptErrors (layers : List Layer) (source : Option ℕ) (left_ou
   pub namings : Namings
   pub are : AreNamingsOf (document_at layers source) (codes "scripts") script_uses namings
   pub adds : AddsLater layers source (script_rule_faults namings left_out errors) old new
+
+-- The finding is added of a value that is refused for a cause, at some path.
+pub record AddsElement (layers : List Layer) (source : Option ℕ) (cause : ElementCause)
+    (old new : List Finding) : Type 0 where
+  pub path : List Step
+  pub stray : Option (Bor (List ℕ))
+  pub finding : Finding
+  pub whole : new ≡ old ++ finding ∷ []
+  pub is : IsElementFinding layers source cause path stray finding

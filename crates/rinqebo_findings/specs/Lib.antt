@@ -2,5 +2,6 @@ pub mod Compile
 pub mod Later
 pub mod Placed
 pub mod Shown
+pub mod Sources
 pub mod Subjects
 pub mod Warnings

@@ -1,5 +1,5 @@
 //! Filters and platforms that are refused, with the part that is wrong.
-ghost use Rattle.std.specs.Prelude.{◌≡◌, ◌∷◌, ◌++◌, [], IfOk, OnOk, codes, map, option_map, string_bytes};
+ghost use Rattle.std.specs.Prelude.{◌≡◌, ◌∷◌, ◌++◌, [], IfOk, OnOk, codes, map, option_map};
 ghost use Rattle.std.specs.Option.{option_copied};
 ghost use Rattle.nextest_places.specs.Spans.Paths.{path_step};
 ghost use Rattle.nextest_places.specs.Spans.Paths as paths;

@@ -12,6 +12,8 @@ ghost use Rattle.nextest_sources.specs.Sources.{source_view};
 ghost use Rattle.nextest_sources.specs.WarningsView.{warning_view, warnings_view};
 ghost use Rattle.rinqebo_faults.specs.Paths.{profile_path};
 ghost use Rattle.rinqebo_findings.specs.Warnings.{AreOfEach, is_other, other_warnings, profile_steps, ReportWarning, ReportWarningAt, ReportWarnings, source_of, WarnsOf, WarnsOfKey};
+ghost use Rattle.std.specs.Option.{option_and_then, option_copied};
+ghost use Rattle.rinqebo_findings.specs.Sources.{layer_at};
 
 use crate::given::value_at;
 use crate::paths::spelled_path;
@@ -44,12 +46,18 @@ impl<'l, 't> SourceAt<'l, 't> {
     }
 
     /// Where the values of the source are written in its text, if it has one.
-    pub fn spans(self) -> Option<&'l PathSpans<'t>> {
+    pub fn spans(self) -> Option<&'l PathSpans<'t>>
+        ensures { option_copied result ≡ option_and_then (λ layer. layer.places)
+            (layer_at self.entry.layers.now self.entry.position) }
+    {
         self.layers.get(self.position?)?.places.as_ref()
     }
 
     /// Why the text of the source is not a document, if it is not one.
-    pub fn fault(self) -> Option<&'l NoDocument> {
+    pub fn fault(self) -> Option<&'l NoDocument>
+        ensures { option_copied result ≡ option_and_then (λ layer. layer.fault)
+            (layer_at self.entry.layers.now self.entry.position) }
+    {
         self.layers.get(self.position?)?.fault.as_ref()
     }
 
