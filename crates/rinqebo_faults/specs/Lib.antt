@@ -1,3 +1,4 @@
+pub mod BadLines
 pub mod Checks
 pub mod Edits
 pub mod ElementRepairs

@@ -54,19 +54,19 @@ end_flaw scan =
     else if nat_lt 0 scan.depth then Some flaws.OpenGroup
     else None
 
-abbrev mutual
-  -- what is wrong in the rest of an expression
-  pub flaw_from : Scan → List ℕ → Option Flaw
-  flaw_from scan [] = end_flaw scan
-  flaw_from scan (c ∷ cs) = flaw_behind (read scan c) cs
+-- what is wrong behind a character: the flaw there, or else in the rest
+abbrev pub flaw_behind : (Scan → Option Flaw) → Result Scan Flaw → Option Flaw
+flaw_behind rest (Ok next) = rest next
+flaw_behind rest (Err flaw) = Some flaw
 
-  pub flaw_behind : Result Scan Flaw → List ℕ → Option Flaw
-  flaw_behind (Ok next) cs = flaw_from next cs
-  flaw_behind (Err flaw) cs = Some flaw
+-- what is wrong in the rest of an expression
+abbrev pub flaw_from : List ℕ → Scan → Option Flaw
+flaw_from [] scan = end_flaw scan
+flaw_from (c ∷ cs) scan = flaw_behind (flaw_from cs) (read scan c)
 
 -- what is wrong with a regular expression, where that is plain
 abbrev pub flaw_of : List ℕ → Option Flaw
-flaw_of pattern = flaw_from start (chars pattern)
+flaw_of pattern = flaw_from (chars pattern) start
 
 -- what is wrong with a regular expression that has a flaw, in words
 abbrev pub flaw_message : List ℕ → Option Flaw → List ℕ

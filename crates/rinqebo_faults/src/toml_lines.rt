@@ -2,6 +2,7 @@
 ghost use Rattle.std.specs.Prelude.{◌≡◌, IfOk, OnOk, option_map, string_bytes};
 ghost use Rattle.std.specs.Option.{option_copied};
 ghost use Rattle.rinqebo_faults.specs.TomlLines.{first_note, from_one, line_at, on_one_line, range_from, start_of, with_line};
+ghost use Rattle.rinqebo_faults.specs.BadLines.{earlier_definition};
 
 use crate::lines::{Mark, indent_of, lines_of};
 use crate::meant::{BadLine, first_definition};
@@ -115,7 +116,10 @@ pub fn first_note(alloc: Global, first: Option<usize>) -> Result<Option<String>,
 }
 
 /// The line, from 0, that first defines what the line of a text at a position defines, if one does.
-pub fn earlier_definition(text: &str, position: TextPosition, bad: BadLine<'_>) -> Option<usize> {
+pub fn earlier_definition(text: &str, position: TextPosition, bad: BadLine<'_>) -> Option<usize>
+    ensures { result ≡ earlier_definition text.now position.line bad.entry.line.now bad.entry.column
+        bad.entry.reason.now }
+{
     if !bad.is_second() {
         return None;
     }

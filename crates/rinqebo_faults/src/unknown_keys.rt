@@ -1,5 +1,5 @@
 //! What to do about keys that their tables do not know.
-ghost use Rattle.std.specs.Prelude.{◌≡◌, ◌++◌, ◌∷◌, [], IfOk, find, option_map, string_bytes};
+ghost use Rattle.std.specs.Prelude.{◌≡◌, IfOk, find, option_map, string_bytes};
 ghost use Rattle.std.specs.Option.{option_copied};
 ghost use Rattle.nextest_shape.specs.View.{shape_view};
 ghost use Rattle.rinqebo_faults.specs.Hints.{name_by_front, texts};
@@ -8,6 +8,7 @@ ghost use Rattle.rinqebo_faults.specs.UnknownKeys.{help_or, in_overrides, in_par
 
 use crate::headers::header_text;
 use crate::hints::{name_by_front, near_name};
+use crate::paths::path_with;
 use crate::shapes::shape_at;
 use crate::spellings::are_tables;
 use crate::tables::{has_key, key_at, keys_at, known_keys, knows};
@@ -51,15 +52,6 @@ fn in_profile(alloc: Global, profile: &str, key: &str) -> Result<Option<String>,
     Ok(Some(help))
 }
 
-/// Returns the path of a key of the table at a path.
-fn below<'p>(alloc: Global, table: &[Step<'p>], key: &'p str) -> Result<Vec<Step<'p>>, AllocError>
-    ensures { IfOk result (λ path. path.items ≡ table.now ++ Step.Key key.entry ∷ []) }
-{
-    let mut path = Vec::from_slice(alloc, table)?;
-    path.push(Step::Key(key))?;
-    Ok(path)
-}
-
 /// Whether the table at a key of the table at a path knows a key, in a file of a shape.
 fn part_knows(
     alloc: Global,
@@ -71,7 +63,7 @@ fn part_knows(
     ensures { IfOk result (λ known. known
         ≡ part_knows (shape_view file.now) table.now key.now part.now) }
 {
-    let keys = keys_at(alloc, file, &below(alloc, table, part)?)?;
+    let keys = keys_at(alloc, file, &path_with(alloc, table, part)?)?;
     Ok(is_among(&keys, key))
 }
 
@@ -103,7 +95,7 @@ fn in_part(alloc: Global, table: &[Step<'_>], key: &str) -> Result<Option<String
     let Some(part) = knowing_part(alloc, &file, table, key, &parts)? else {
         return Ok(None);
     };
-    let header = header_text(alloc, &below(alloc, table, part)?)?;
+    let header = header_text(alloc, &path_with(alloc, table, part)?)?;
     let help = format!(in alloc; "`{key}` is a key of `{part}`: write `{header}.{key}`")?;
     Ok(Some(help))
 }
@@ -178,7 +170,7 @@ fn place_elsewhere(
 fn is_list(alloc: Global, table: &[Step<'_>], key: &str) -> Result<bool, AllocError>
     ensures { IfOk result (λ list. list ≡ is_list table.now key.now) }
 {
-    let path = below(alloc, table, key)?;
+    let path = path_with(alloc, table, key)?;
     let file = file_shape(alloc)?;
     match shape_at(&file, &path) {
         Some(shape) => Ok(are_tables(shape)),
@@ -193,7 +185,7 @@ fn key_hint(alloc: Global, table: &[Step<'_>], key: &str) -> Result<String, Allo
     if !is_list(alloc, table, key)? {
         return format!(in alloc; "did you mean `{key}`?");
     }
-    let header = header_text(alloc, &below(alloc, table, key)?)?;
+    let header = header_text(alloc, &path_with(alloc, table, key)?)?;
     format!(in alloc; "did you mean `[[{header}]]`?")
 }
 

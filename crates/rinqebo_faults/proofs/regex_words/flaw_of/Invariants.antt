@@ -6,4 +6,4 @@ use Rattle.rinqebo_faults.proofs.regex_words.flaw_of.Given as goal
 abbrev pub invariant-loop-c : goal.invariant-loop-c
 invariant-loop-c l =
     IsUtf8 l.c-iterator.rest.now
-    × (flaw_from l.scan (chars l.c-iterator.rest.now) ≡ flaw_of l.pattern)
+    × (flaw_from (chars l.c-iterator.rest.now) l.scan ≡ flaw_of l.pattern)
