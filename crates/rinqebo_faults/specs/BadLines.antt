@@ -7,11 +7,6 @@ use Rattle.std.specs.Str.Lines.{lines}
 use Rattle.rinqebo_faults.specs.Worded.{first_of}
 use Rattle.rinqebo_faults.specs.Words.{backquoted}
 
--- whether a text occurs in another one
-abbrev pub has_text : (part text : List ℕ) → Bool
-has_text part [] = starts_with nat_eq [] part
-has_text part (b ∷ bs) = if starts_with nat_eq (b ∷ bs) part then true else has_text part bs
-
 -- a text up to where another one first occurs, or the whole text
 abbrev pub before_text : (part text : List ℕ) → List ℕ
 before_text part [] = []

@@ -1,8 +1,10 @@
 //! Lines of texts that are not TOML: where they are at fault, and which ones are shown.
-ghost use Rattle.std.specs.Prelude.{◌≡◌, IfOk, OnOk, option_map, string_bytes};
+ghost use Rattle.std.specs.Prelude.{◌≡◌, IfOk, OnOk, map, option_map, string_bytes};
 ghost use Rattle.std.specs.Option.{option_copied};
 ghost use Rattle.rinqebo_faults.specs.TomlLines.{first_note, from_one, line_at, on_one_line, range_from, start_of, with_line};
 ghost use Rattle.rinqebo_faults.specs.BadLines.{earlier_definition};
+ghost use Rattle.rinqebo_faults.specs.FirstLines.{line_range, lines_with_first};
+ghost use Rattle.rinqebo_faults.specs.Lines.{shown_line};
 
 use crate::lines::{Mark, indent_of, lines_of};
 use crate::meant::{BadLine, first_definition};
@@ -69,7 +71,9 @@ pub fn start_of(position: TextPosition) -> Position
 }
 
 /// The range of a line, from 0, without the blanks around it.
-fn line_range(line: &str, place: usize) -> Range {
+fn line_range(line: &str, place: usize) -> Range
+    ensures { result ≡ line_range line.now place }
+{
     let start = Position {
         line: from_one(place),
         column: from_one(indent_of(line)),
@@ -84,7 +88,10 @@ pub fn lines_with_first(
     text: &str,
     fault: Range,
     first: Option<usize>,
-) -> Result<Vec<SourceLine>, AllocError> {
+) -> Result<Vec<SourceLine>, AllocError>
+    ensures { IfOk result (λ shown. map shown_line shown.items
+        ≡ lines_with_first text.now fault first) }
+{
     let Some(first) = first else {
         return Ok(Vec::new(alloc));
     };
