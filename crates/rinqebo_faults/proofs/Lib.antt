@@ -1,2 +1,2 @@
-pub mod Words
-pub mod Edits
+pub mod Listing
+pub mod MarkSets
