@@ -2,7 +2,7 @@
 ghost use Rattle.std.specs.Prelude.{◌∷◌, [], OnOk, map};
 ghost use Rattle.nextest_places.specs.Spans.Paths.{path_step};
 ghost use Rattle.rinqebo_request.specs.declared.files.places.SpanPart.TheVariants as parts;
-ghost use Rattle.rinqebo_findings.specs.Later.{AddsLater, at, document_at, group_faults, script_fault, script_faults};
+ghost use Rattle.rinqebo_findings.specs.Later.{AddsLater, at, document_at, group_fault, group_faults, script_fault, script_faults};
 
 use crate::refused::Refused;
 use nextest_elements::CustomTestGroup;
@@ -92,6 +92,19 @@ fn add_foreign(
     )
 }
 
+/// Adds that a source may not define the group of a name.
+fn add_group(
+    refused: &Refused<'_, '_>,
+    findings: &mut Vec<Finding>,
+    name: &str,
+) -> Result<(), AllocError>
+    ensures { OnOk result (AddsLater refused.now.source.layers.now refused.now.source.position
+        (group_fault name.now ∷ []) findings.old.items findings.new.items) }
+{
+    let path = [Step::Key("test-groups"), Step::Key(name)];
+    add_foreign(refused, findings, Code::ForeignGroup, &path, "group", name)
+}
+
 /// Adds the groups that a source may not define.
 pub fn add_groups(
     refused: &Refused<'_, '_>,
@@ -103,9 +116,7 @@ pub fn add_groups(
 {
     for group in groups.iter() {
         let name = group.to_string(refused.alloc)?;
-        let name = name.as_str();
-        let path = [Step::Key("test-groups"), Step::Key(name)];
-        add_foreign(refused, findings, Code::ForeignGroup, &path, "group", name)?;
+        add_group(refused, findings, name.as_str())?;
     }
     Ok(())
 }

@@ -111,7 +111,8 @@ impl Refused<'_, '_> {
         let mut found = self.part_at(code, path, part, wrong)?;
         found.expected = expected;
         found.help = help;
-        self.add_finding(findings, found)
+        self.add_finding(findings, found)?;
+        Ok(())
     }
 
     /// Adds what is wrong with the value at a path, what is expected there, and what to do.
@@ -175,7 +176,8 @@ impl Refused<'_, '_> {
             × (subject noted ≡ subject found) × (noted.place ≡ found.place)) }
     {
         let noted = with_note(found, Some(note))?;
-        self.add_finding(findings, noted)
+        self.add_finding(findings, noted)?;
+        Ok(())
     }
 
     /// The place of the value at a path, as its findings have it.
@@ -203,7 +205,8 @@ impl Refused<'_, '_> {
             (of_file code ∷ []) findings.old.items findings.new.items) }
     {
         let found = self.finding(code, String::from_str(self.alloc, wrong)?)?;
-        self.add_finding(findings, found)
+        self.add_finding(findings, found)?;
+        Ok(())
     }
 }
 
