@@ -16,6 +16,13 @@ abbrev pub truth_text : Bool → List ℕ
 truth_text true = codes "true"
 truth_text false = codes "false"
 
+-- a value that is neither a table nor an array
+abbrev pub leaf_text : Node → List ℕ
+leaf_text (text s) = quoted s
+leaf_text (int z) = signed_decimal z
+leaf_text (bool b) = truth_text b
+leaf_text node = codes "0.0"
+
 -- a text with more behind a separator, if it has some
 abbrev pub behind : (separator text more : List ℕ) → List ℕ
 behind separator text more = if length text == 0 then more else text ++ (separator ++ more)

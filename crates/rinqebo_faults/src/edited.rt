@@ -2,7 +2,7 @@
 ghost use Rattle.std.specs.Prelude.{◌≡◌, [], IfOk, OnOk, string_bytes};
 ghost use Rattle.nextest_tree.specs.View.{entries_view, nodes_view, tree_view};
 ghost use Rattle.rinqebo_report.specs.TomlText.{quoted};
-ghost use Rattle.rinqebo_faults.specs.Edited.{behind, edited, edited_document, edited_entries, edited_items, entry_text, with_added};
+ghost use Rattle.rinqebo_faults.specs.Edited.{behind, edited, edited_document, edited_entries, edited_items, entry_text, leaf_text, with_added};
 ghost use Rattle.rinqebo_faults.specs.Edits.{edits_view};
 
 use crate::edits::{Edits, mark_below, mark_of_source};
@@ -21,7 +21,9 @@ fn quoted(alloc: Global, text: &str) -> Result<String, AllocError>
 }
 
 /// A value that is neither a table nor an array.
-fn scalar_text(alloc: Global, tree: &Tree) -> Result<String, AllocError> {
+fn scalar_text(alloc: Global, tree: &Tree) -> Result<String, AllocError>
+    ensures { IfOk result (λ text. string_bytes text ≡ leaf_text (tree_view tree.now)) }
+{
     match tree {
         Tree::Text(text) => quoted(alloc, text.as_str()),
         Tree::Int(number) => format!(in alloc; "{number}"),
