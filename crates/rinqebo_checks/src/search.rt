@@ -1,8 +1,7 @@
 //! All that is wrong with files that are refused: the faults of all values, the unknown keys, and
 //! then what each later check finds in files without the faults.
-ghost use Rattle.std.specs.Prelude.{IfOk};
+ghost use Rattle.std.specs.Prelude.{IfOk, ◌≡◌, [], OnOk};
 ghost use Rattle.rinqebo_checks.specs.Faults.{ReportAll};
-ghost use Rattle.std.specs.Prelude.{◌≡◌, [], OnOk};
 ghost use Rattle.rinqebo_checks.specs.Later.{KeepsLater};
 
 use crate::edited_files::Reading;

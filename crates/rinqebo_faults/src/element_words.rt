@@ -2,9 +2,8 @@
 ghost use Rattle.std.specs.Prelude.{◌≡◌, Some, IfOk, map, option_map, string_bytes};
 ghost use Rattle.std.specs.Option.{option_copied};
 ghost use Rattle.nextest_tree.specs.View.{tree_view};
-ghost use Rattle.rinqebo_faults.specs.Elements.{bad_text, element_notes, is_text, lack_text, out_of_range, refused_notes, wanted, wanted_text, wrong_element, wrong_kind};
+ghost use Rattle.rinqebo_faults.specs.Elements.{bad_text, element_notes, is_text, lack_text, out_of_range, refused_notes, wanted, wanted_text, wrong_element, wrong_kind, IsAdvice, IsTextAdvice, spelled};
 ghost use Rattle.rinqebo_report.specs.declared.finding.HelpPlace.{HelpPlace};
-ghost use Rattle.rinqebo_faults.specs.Elements.{IsAdvice, IsTextAdvice, spelled};
 ghost use Rattle.rinqebo_faults.specs.UnknownKeys.{IsUnknownKeyHelp};
 
 use crate::expected::{expected_at, expected_name, expected_text};

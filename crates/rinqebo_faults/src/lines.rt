@@ -1,6 +1,6 @@
 //! The lines of a text that show parts of it.
-ghost use Rattle.std.specs.Prelude.{◌≡◌, IfOk, map};
-ghost use Rattle.rinqebo_faults.specs.Lines.{character_at, indent_of, last_shown, parts_on, shown_line, shown_lines, span_on};
+ghost use Rattle.std.specs.Prelude.{◌≡◌, IfOk, map, ◌≤◌, All};
+ghost use Rattle.rinqebo_faults.specs.Lines.{character_at, indent_of, last_shown, parts_on, shown_line, shown_lines, span_on, with_part};
 
 use rinqebo_report::{CharSpan, LinePart, Range, Sign, SourceLine};
 use std::alloc::{AllocError, Global};
@@ -65,7 +65,10 @@ fn span_on(range: Range, number: u64, line: &str) -> Option<CharSpan>
 
 /// Adds a part of a line, and the blank part before it, unless the parts so far reach behind its
 /// start.
-fn add_part(parts: &mut Vec<LinePart>, end: usize, part: LinePart) -> Result<usize, AllocError> {
+fn add_part(parts: &mut Vec<LinePart>, end: usize, part: LinePart) -> Result<usize, AllocError>
+    ensures { IfOk result (λ reached. record { parts = parts.new.items; end = reached }
+        ≡ with_part (record { parts = parts.old.items; end = end }) part) }
+{
     let span = part.span;
     if span.from < end {
         return Ok(end);
@@ -105,7 +108,9 @@ fn parts_of(
 }
 
 /// Returns the last line that is shown of some parts of a file.
-fn last_line(marks: &[Mark]) -> u64 {
+fn last_line(marks: &[Mark]) -> u64
+    ensures { All (λ mark. last_shown mark.range ≤ result) marks.now }
+{
     let mut last = 0u64;
     for mark in marks {
         last = last.max(last_shown(mark.range));

@@ -2,7 +2,7 @@
 //! is meant, where that is plain.
 ghost use Rattle.std.specs.Prelude.{◌≡◌, IfOk, option_map, string_bytes};
 ghost use Rattle.std.specs.Option.{option_copied};
-ghost use Rattle.rinqebo_faults.specs.BadLines.{defined, defines, expected_of, first_definition, is_second, len_there, line_front, line_rest, there, wanted_in, word_at, wrong};
+ghost use Rattle.rinqebo_faults.specs.BadLines.{defined, defines, expected_of, first_definition, is_second, len_there, line_front, line_rest, there, wanted_in, word_at, wrong, is_end};
 
 use crate::worded::first_of;
 use crate::words::owned;
@@ -103,7 +103,9 @@ fn is_curly(c: char) -> bool {
 }
 
 /// Whether a character ends a word of a line.
-fn is_end(c: char) -> bool {
+fn is_end(c: char) -> bool
+    ensures { result ≡ is_end c }
+{
     c.is_whitespace() || c == ',' || c == ']' || c == '}' || c == '#'
 }
 

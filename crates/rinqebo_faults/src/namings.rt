@@ -1,7 +1,6 @@
 //! Where the rules of profiles name groups and scripts.
-ghost use Rattle.std.specs.Prelude.{◌≡◌, IfOk, string_bytes};
+ghost use Rattle.std.specs.Prelude.{◌≡◌, IfOk, string_bytes, ◌++◌, Some, map, option_map};
 ghost use Rattle.rinqebo_faults.specs.Repairs.{naming_mark};
-ghost use Rattle.std.specs.Prelude.{◌++◌, Some, map, option_map};
 ghost use Rattle.nextest_places.specs.Spans.Paths.{path_step};
 ghost use Rattle.nextest_tree.specs.View.{tree_view};
 ghost use Rattle.rinqebo_faults.specs.Namings.{AreNamingsOf, earlier, first_naming, naming_path, naming_steps};

@@ -1,12 +1,10 @@
 //! Paths into files, as lists of steps, and the texts that spell them.
-ghost use Rattle.std.specs.Prelude.{◌≡◌, ◌++◌, ◌∷◌, [], IfOk, OnOk, string_bytes};
+ghost use Rattle.std.specs.Prelude.{◌≡◌, ◌++◌, ◌∷◌, [], IfOk, OnOk, string_bytes, ◌==◌, codes, map, option_map};
 ghost use Rattle.nextest_shape.specs.Faults.Found.{step_text};
-ghost use Rattle.rinqebo_faults.specs.Paths.{shown_path};
-ghost use Rattle.std.specs.Prelude.{◌==◌, codes, map, option_map};
+ghost use Rattle.rinqebo_faults.specs.Paths.{shown_path, has_script, profile_path, script_kind, script_path, section_path};
 ghost use Rattle.std.specs.Option.{option_copied};
 ghost use Rattle.nextest_places.specs.Spans.Paths.{path_step};
 ghost use Rattle.nextest_tree.specs.View.{tree_view};
-ghost use Rattle.rinqebo_faults.specs.Paths.{has_script, profile_path, script_kind, script_path, section_path};
 ghost use Rattle.std.specs.List.{slice_split};
 ghost use Rattle.nextest_places.specs.Spans.Paths as paths;
 

@@ -6,7 +6,7 @@ ghost use Rattle.nextest_tree.specs.Node.{as_array, as_table, member_of};
 ghost use Rattle.nextest_tree.specs.Schema.{is_one_of};
 ghost use Rattle.nextest_tree.specs.View.{entries_view, nodes_view, tree_view};
 ghost use Rattle.rinqebo_faults.specs.Edits.{edits_view, mark_of, remove, with_edits};
-ghost use Rattle.rinqebo_faults.specs.Repairs.{error_edits, group_of, groups_edits, kind_path, old_scripts_edits, override_edits, parent_edits, parents_edits, profile_edits, script_rules_edits, scripts_edits, sections_edits, unknown_groups_edits, unknown_mark};
+ghost use Rattle.rinqebo_faults.specs.Repairs.{error_edits, group_of, groups_edits, kind_path, old_scripts_edits, override_edits, parent_edits, parents_edits, profile_edits, script_rules_edits, scripts_edits, sections_edits, unknown_groups_edits, unknown_mark, rules_edit};
 
 use crate::edits::Edits;
 use crate::given::profiles_of;
@@ -311,7 +311,10 @@ pub fn leave_out_groups(
 }
 
 /// Leaves out the script rules of a profile.
-fn leave_out_rules(edits: &mut Edits, place: usize, profile: &str) -> Result<(), AllocError> {
+fn leave_out_rules(edits: &mut Edits, place: usize, profile: &str) -> Result<(), AllocError>
+    ensures { OnOk result (edits_view edits.new
+        ≡ with_edits (edits_view edits.old) (rules_edit place profile.now ∷ [])) }
+{
     edits.remove(place, &profile_path(profile, "scripts"))
 }
 

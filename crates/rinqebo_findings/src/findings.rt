@@ -1,16 +1,14 @@
 //! Findings: how they are made, and those of warnings.
-ghost use Rattle.std.specs.Prelude.{◌≡◌, IfOk, Some, None, option_map};
+ghost use Rattle.std.specs.Prelude.{◌≡◌, IfOk, Some, None, option_map, ◌∷◌, [], codes, map, string_bytes};
 ghost use Rattle.rinqebo_report.specs.Codes.Codes.{code_word};
-ghost use Rattle.rinqebo_faults.specs.Paths.{shown_path};
+ghost use Rattle.rinqebo_faults.specs.Paths.{shown_path, profile_path};
 ghost use Rattle.rinqebo_findings.specs.Placed.{IsPlaceIn};
 ghost use Rattle.rinqebo_findings.specs.Subjects.{subject};
 ghost use Rattle.nextest_tree.specs.View.{tree_view};
 ghost use Rattle.rinqebo_findings.specs.Later.{document_at, whole_place};
-ghost use Rattle.std.specs.Prelude.{◌∷◌, [], codes, map, string_bytes};
 ghost use Rattle.nextest_places.specs.Spans.Paths as paths;
 ghost use Rattle.nextest_sources.specs.Sources.{source_view};
 ghost use Rattle.nextest_sources.specs.WarningsView.{warning_view, warnings_view};
-ghost use Rattle.rinqebo_faults.specs.Paths.{profile_path};
 ghost use Rattle.rinqebo_findings.specs.Warnings.{AreOfEach, is_other, other_warnings, profile_steps, ReportWarning, ReportWarningAt, ReportWarnings, source_of, WarnsOf, WarnsOfKey};
 ghost use Rattle.std.specs.Option.{option_and_then, option_copied};
 ghost use Rattle.rinqebo_findings.specs.Sources.{layer_at};

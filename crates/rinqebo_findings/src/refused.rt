@@ -1,9 +1,8 @@
 //! The findings of a refused source.
-ghost use Rattle.std.specs.Prelude.{◌≡◌, ℕ, IfOk, IfSome, Option};
+ghost use Rattle.std.specs.Prelude.{◌≡◌, ℕ, IfOk, IfSome, Option, OnOk, None, ◌++◌, ◌∷◌, [], map, option_map};
 ghost use Rattle.rinqebo_request.specs.Files.Origins.{IsPartPlace};
 ghost use Rattle.rinqebo_findings.specs.Placed.{IsPlaceIn, IsPlacedAt};
 ghost use Rattle.rinqebo_findings.specs.Subjects.{error_at, subject};
-ghost use Rattle.std.specs.Prelude.{OnOk, None, ◌++◌, ◌∷◌, [], map, option_map};
 ghost use Rattle.rinqebo_report.specs.Codes.Codes.{code_word};
 ghost use Rattle.rinqebo_report.specs.declared.finding.Finding.{Finding};
 ghost use Rattle.nextest_places.specs.Spans.Paths.{path_step};
