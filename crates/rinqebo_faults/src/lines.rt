@@ -66,8 +66,9 @@ fn span_on(range: Range, number: u64, line: &str) -> Option<CharSpan>
 /// Adds a part of a line, and the blank part before it, unless the parts so far reach behind its
 /// start.
 fn add_part(parts: &mut Vec<LinePart>, end: usize, part: LinePart) -> Result<usize, AllocError>
-    ensures { IfOk result (λ reached. record { parts = parts.new.items; end = reached }
-        ≡ with_part (record { parts = parts.old.items; end = end }) part) }
+    ensures { IfOk result (λ reached.
+        with_part (record { parts = parts.old.items; end = end }) part
+        ≡ record { parts = parts.new.items; end = reached }) }
 {
     let span = part.span;
     if span.from < end {
