@@ -5,7 +5,7 @@ use Rattle.std.specs.Option.{option_and_then}
 use Rattle.std.specs.Str.{bytes_eq}
 use Rattle.nextest_places.specs.declared.step.Step.{Step}
 use Rattle.nextest_shape.specs.Form.{Form}
-use Rattle.nextest_tree.specs.Node.{Node, table, array, text, int, Nodes, no_nodes, node}
+use Rattle.nextest_tree.specs.Node.{Node, Nodes, no_nodes}
 use Rattle.nextest_tree.specs.declared.fault.ElementCause.{ElementCause}
 use Rattle.nextest_tree.specs.declared.fault.ElementCause.TheVariants as causes
 use Rattle.rinqebo_report.specs.declared.finding.HelpPlace.{HelpPlace}
@@ -27,19 +27,19 @@ wrong_kind name (Some node) = name ++ (codes " is " ++ kind_words node)
 -- an array that is out of its range: it is empty
 abbrev pub wrong_length : List ℕ → Nodes → List ℕ
 wrong_length name no_nodes = name ++ codes " is empty"
-wrong_length name (node n ns) = name ++ codes " is out of range"
+wrong_length name (Nodes.node n ns) = name ++ codes " is out of range"
 
 -- a value that is out of its range: the value
 abbrev pub out_of_range : List ℕ → Option Node → List ℕ
-out_of_range name (Some (int number)) = name ++ (codes " is " ++ signed_decimal number)
-out_of_range name (Some (array items)) = wrong_length name items
-out_of_range name (Some (text given)) = name ++ (codes " is " ++ backquoted given)
-out_of_range name node = name ++ codes " is out of range"
+out_of_range name (Some (Node.int number)) = name ++ (codes " is " ++ signed_decimal number)
+out_of_range name (Some (Node.array items)) = wrong_length name items
+out_of_range name (Some (Node.text given)) = name ++ (codes " is " ++ backquoted given)
+out_of_range name _ = name ++ codes " is out of range"
 
 -- a value is this text
 abbrev pub is_text : Option Node → List ℕ → Bool
-is_text (Some (text own)) given = bytes_eq own given
-is_text node given = false
+is_text (Some (Node.text own)) given = bytes_eq own given
+is_text _ given = false
 
 -- the name of a value, and the text that it is
 abbrev pub text_there : List ℕ → List ℕ → List ℕ

@@ -43,14 +43,14 @@ abbrev pub list_words : (least : ℕ) → Form → List ℕ
 list_words least (a_text form) =
     if nat_lt 0 least then codes "an array of at least one string"
     else codes "an array of strings"
-list_words least (a_table fields) = codes "an array of tables"
+list_words least (a_table fs) = codes "an array of tables"
 list_words least form = codes "an array"
 
 -- the keys that a table has to have
 abbrev pub required_keys : FieldForms → List (List ℕ)
 required_keys no_fields = []
-required_keys (a_field k is_required form fields) =
-    if is_required then key_text k ∷ required_keys fields else required_keys fields
+required_keys (a_field k is_required form fs) =
+    if is_required then key_text k ∷ required_keys fs else required_keys fs
 
 -- a table that has to have some keys, in words
 abbrev pub keyed_words : List (List ℕ) → List ℕ
@@ -64,8 +64,8 @@ form_words a_truth = codes "a boolean"
 form_words (a_number least greatest) = number_words least greatest
 form_words (a_text form) = text_words form
 form_words (an_array least items) = list_words least items
-form_words (a_table fields) = keyed_words (required_keys fields)
-form_words (a_map names fields values) = codes "a table"
+form_words (a_table fs) = keyed_words (required_keys fs)
+form_words (a_map names fs values) = codes "a table"
 form_words (either forms) = codes "any value"
 
 -- words and one more, unless it is among them
@@ -138,7 +138,7 @@ expected_text path = option_and_then all_words (wanted_at path)
 
 -- what a name of a map is, in words
 abbrev pub name_words : Form → Option (List ℕ)
-name_words (a_map names fields values) = Some (text_words names)
+name_words (a_map names fs values) = Some (text_words names)
 name_words form = None
 
 -- what is expected in place of a name below the table at a path

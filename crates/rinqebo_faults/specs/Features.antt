@@ -6,7 +6,7 @@ use Rattle.nextest_elements.specs.Experimental.{experimental_text}
 use Rattle.nextest_elements.specs.declared.experimental.ConfigExperimental.{ConfigExperimental}
 use Rattle.nextest_places.specs.Spans.Paths.{PathStep}
 use Rattle.nextest_places.specs.Spans.Paths as paths
-use Rattle.nextest_tree.specs.Node.{Node, table, array, text, Nodes, no_nodes, node, member_of}
+use Rattle.nextest_tree.specs.Node.{Node, Nodes, no_nodes, member_of}
 
 -- the value at a key of a file, if there is one
 abbrev pub value_at : Option Node → List ℕ → Option Node
@@ -36,12 +36,12 @@ feature_path file feature = path_in (value_at file (codes "scripts")) feature
 -- the texts of some items
 abbrev pub texts_of : Nodes → List (List ℕ)
 texts_of no_nodes = []
-texts_of (node (text s) ns) = s ∷ texts_of ns
-texts_of (node n ns) = texts_of ns
+texts_of (Nodes.node (Node.text s) ns) = s ∷ texts_of ns
+texts_of (Nodes.node n ns) = texts_of ns
 
 -- the features that a file lists
 abbrev pub listed_features : Option Node → List (List ℕ)
-listed_features (Some (array ns)) = texts_of ns
+listed_features (Some (Node.array ns)) = texts_of ns
 listed_features listed = []
 
 -- a list of TOML, and one name more
@@ -64,7 +64,7 @@ or_pass feature = codes "`, or pass `--experimental " ++ (feature ++ codes "`")
 
 -- how to switch on a feature, given what a file has at `experimental`
 abbrev pub help_for : Option Node → List ℕ → List ConfigExperimental → List ℕ
-help_for (Some (table es)) feature missing =
+help_for (Some (Node.table es)) feature missing =
     codes "write `experimental." ++ (feature ++ (codes " = true" ++ or_pass feature))
 help_for listed feature missing =
     codes "write `experimental = [" ++ (feature_list listed missing ++ (codes "]" ++ or_pass feature))

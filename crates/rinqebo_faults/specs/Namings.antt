@@ -5,7 +5,7 @@ use Rattle.std.specs.Option.{option_and_then}
 use Rattle.std.specs.Str.{bytes_eq}
 use Rattle.nextest_places.specs.Spans.Paths.{PathStep}
 use Rattle.nextest_places.specs.Spans.Paths as paths
-use Rattle.nextest_tree.specs.Node.{Node, array, text, Nodes, no_nodes, node, Entries, as_array, get, member_of}
+use Rattle.nextest_tree.specs.Node.{Node, Nodes, no_nodes, Entries, as_array, get, member_of}
 use Rattle.rinqebo_faults.specs.declared.namings.Naming.{Naming}
 use Rattle.rinqebo_faults.specs.declared.namings.Namings.{Namings}
 use Rattle.rinqebo_faults.specs.Given.{profiles_in}
@@ -21,15 +21,15 @@ pub record NamingPlace : Type 0 where
 -- the position of the first text of an array that is a name, from a position on
 abbrev pub position_in : ℕ → Nodes → List ℕ → Option ℕ
 position_in place no_nodes name = None
-position_in place (node (text s) ns) name =
+position_in place (Nodes.node (Node.text s) ns) name =
     if bytes_eq s name then Some place else position_in (suc place) ns name
-position_in place (node n ns) name = position_in (suc place) ns name
+position_in place (Nodes.node n ns) name = position_in (suc place) ns name
 
 -- where a rule has a name at a key: the text there, or one of the array there
 abbrev pub naming_in : ℕ → List ℕ → Option Node → Option NamingPlace
-naming_in rule name (Some (text s)) =
+naming_in rule name (Some (Node.text s)) =
     if bytes_eq s name then Some (record { rule = rule; item = None }) else None
-naming_in rule name (Some (array ns)) =
+naming_in rule name (Some (Node.array ns)) =
     option_map (λ place. record { rule = rule; item = Some place }) (position_in 0 ns name)
 naming_in rule name written = None
 
@@ -41,7 +41,7 @@ first_place None other = other
 -- where the first of some rules, from a position on, has a name at a key
 abbrev pub naming_among : ℕ → Nodes → (key name : List ℕ) → Option NamingPlace
 naming_among rule no_nodes key name = None
-naming_among rule (node n ns) key name =
+naming_among rule (Nodes.node n ns) key name =
     first_place (naming_in rule name (member_of key n)) (naming_among (suc rule) ns key name)
 
 -- the rules of a list of a profile

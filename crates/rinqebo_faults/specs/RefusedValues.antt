@@ -2,7 +2,7 @@
 use Rattle.std.specs.Prelude.{ℕ, ℤ, int_lt, ◌-◌, ◌==◌, Bool, true, false, not, ◌&&◌, ◌||◌, List, is_some, is_none, length, map, take, Option, None, Some, string_bytes}
 use Rattle.nextest_places.specs.declared.step.Step.{Step}
 use Rattle.nextest_shape.specs.Form.{Form, anything, a_truth, a_number, a_text, an_array, a_table, a_map}
-use Rattle.nextest_tree.specs.Node.{Node, table, array, text, int, bool, opaque, Nodes, no_nodes, node, member_of, as_table}
+use Rattle.nextest_tree.specs.Node.{Node, Nodes, no_nodes, member_of, as_table}
 use Rattle.nextest_tree.specs.declared.fault.ElementCause.{ElementCause}
 use Rattle.nextest_tree.specs.declared.fault.ElementCause.TheVariants as causes
 use Rattle.rinqebo_faults.specs.declared.refused_values.Fault.{Fault}
@@ -15,12 +15,12 @@ use Rattle.rinqebo_faults.specs.Spellings.{takes}
 -- one form takes values of the kind of a node
 abbrev pub is_kind : Node → Form → Bool
 is_kind node anything = true
-is_kind (bool b) a_truth = true
-is_kind (int z) (a_number least greatest) = true
-is_kind (text s) (a_text form) = true
-is_kind (array ns) (an_array least items) = true
-is_kind (table es) (a_table fields) = true
-is_kind (table es) (a_map names fields values) = true
+is_kind (Node.bool b) a_truth = true
+is_kind (Node.int z) (a_number least greatest) = true
+is_kind (Node.text s) (a_text form) = true
+is_kind (Node.array ns) (an_array least items) = true
+is_kind (Node.table es) (a_table fs) = true
+is_kind (Node.table es) (a_map names fs values) = true
 is_kind node form = false
 
 -- a number is not below the least one, or above the greatest one, if there is one
@@ -40,16 +40,16 @@ has_number number form = false
 -- an array has no items
 abbrev pub is_empty_array : Nodes → Bool
 is_empty_array no_nodes = true
-is_empty_array (node n ns) = false
+is_empty_array (Nodes.node n ns) = false
 
 -- a value may be out of the range that a form has
 abbrev pub is_out_of_range : Form → Node → Bool
-is_out_of_range form (int number) = not (takes (has_number number) form)
-is_out_of_range form (array ns) = is_empty_array ns
-is_out_of_range form (table es) = true
-is_out_of_range form (text s) = true
-is_out_of_range form (bool b) = false
-is_out_of_range form opaque = false
+is_out_of_range form (Node.int number) = not (takes (has_number number) form)
+is_out_of_range form (Node.array ns) = is_empty_array ns
+is_out_of_range form (Node.table es) = true
+is_out_of_range form (Node.text s) = true
+is_out_of_range form (Node.bool b) = false
+is_out_of_range form Node.opaque = false
 
 -- the last key of a path is none that its table knows
 abbrev pub is_unknown : Form → List Step → Bool

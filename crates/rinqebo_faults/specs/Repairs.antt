@@ -17,7 +17,7 @@ use Rattle.nextest_sources.specs.declared.error.compile.ConfigCompileSection.{Co
 use Rattle.nextest_sources.specs.declared.error.compile.ConfigCompileSection.TheVariants as sections
 use Rattle.nextest_sources.specs.declared.error.groups.UnknownTestGroupError.{UnknownTestGroupError}
 use Rattle.nextest_sources.specs.declared.error.scripts.ProfileScriptErrors.{ProfileScriptErrors}
-use Rattle.nextest_tree.specs.Node.{Node, Nodes, no_nodes, node, Entries, no_entries, entry, as_array, as_table, as_text, keys, member_of}
+use Rattle.nextest_tree.specs.Node.{Node, Nodes, no_nodes, Entries, no_entries, as_array, as_table, as_text, keys, member_of}
 use Rattle.nextest_tree.specs.Schema.{is_one_of}
 use Rattle.rinqebo_faults.specs.Edits.{Edit, add, mark_of, omit_group, omit_script, remove, replace}
 use Rattle.rinqebo_faults.specs.Given.{profiles_in}
@@ -163,7 +163,7 @@ override_edits place marks profile index (Some group) =
 -- the groups that overrides set are left out, from a position on
 abbrev pub overrides_edits : ℕ → (List ℕ → Bool) → List ℕ → ℕ → Nodes → List Edit
 overrides_edits place marks profile index no_nodes = []
-overrides_edits place marks profile index (node rule rules) =
+overrides_edits place marks profile index (Nodes.node rule rules) =
     override_edits place marks profile index (group_of rule)
     ++ overrides_edits place marks profile (suc index) rules
 
@@ -173,15 +173,15 @@ list_edits place marks profile None = []
 list_edits place marks profile (Some rules) = overrides_edits place marks profile 0 rules
 
 abbrev pub profile_edits : ℕ → (List ℕ → Bool) → List ℕ → Node → List Edit
-profile_edits place marks profile table =
+profile_edits place marks profile n =
     list_edits place marks profile
-    (option_and_then as_array (member_of (codes "overrides") table))
+    (option_and_then as_array (member_of (codes "overrides") n))
 
 -- the groups that overrides set are left out in each profile
 abbrev pub profiles_edits : ℕ → (List ℕ → Bool) → Entries → List Edit
 profiles_edits place marks no_entries = []
-profiles_edits place marks (entry profile table profiles) =
-    profile_edits place marks profile table ++ profiles_edits place marks profiles
+profiles_edits place marks (Entries.entry profile n profiles) =
+    profile_edits place marks profile n ++ profiles_edits place marks profiles
 
 -- groups that overrides of a file set and no file defines are left out
 abbrev pub edits_in : ℕ → (List ℕ → Bool) → Option Entries → List Edit

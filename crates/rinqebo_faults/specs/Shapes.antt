@@ -16,19 +16,19 @@ key_of (steps.Position place) = None
 -- what is wanted at the key of a field
 abbrev pub field_at : FieldForms → List ℕ → Option Form
 field_at no_fields key = None
-field_at (a_field k is_required form fields) key =
-    if bytes_eq (key_text k) key then Some form else field_at fields key
+field_at (a_field k is_required form fs) key =
+    if bytes_eq (key_text k) key then Some form else field_at fs key
 
 -- what is wanted at a name of a map: at the key of a field what the field wants
 abbrev pub name_at : FieldForms → Form → List ℕ → Option Form
-name_at fields values key = Some (unwrap_or (field_at fields key) values)
+name_at fs values key = Some (unwrap_or (field_at fs key) values)
 
 -- what one form wants at a key or a name, or at a position, below it; an array wants the same
 -- everywhere
 abbrev pub below_one : Form → Option (List ℕ) → Option Form
 below_one (an_array least items) key = Some items
-below_one (a_table fields) key = option_and_then (field_at fields) key
-below_one (a_map names fields values) key = option_and_then (name_at fields values) key
+below_one (a_table fs) key = option_and_then (field_at fs) key
+below_one (a_map names fs values) key = option_and_then (name_at fs values) key
 below_one _ key = None
 
 -- the first that there is

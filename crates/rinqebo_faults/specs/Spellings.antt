@@ -5,7 +5,7 @@ use Rattle.std.specs.List.{after_first, before_first, ends_with, position_or_len
 use Rattle.std.specs.Str.{bytes_eq}
 use Rattle.std.specs.Str.Parse.{digits_value}
 use Rattle.nextest_shape.specs.Form.{Form, a_truth, a_number, a_text, an_array, a_table, either, Forms, no_forms, or_form}
-use Rattle.nextest_tree.specs.Node.{Node, table, text, int}
+use Rattle.nextest_tree.specs.Node.{Node}
 use Rattle.rinqebo_faults.specs.declared.spellings.Wanted.{Wanted}
 use Rattle.rinqebo_faults.specs.declared.spellings.Wanted.TheVariants as wanted
 use Rattle.rinqebo_faults.specs.Expected.{takes_duration}
@@ -27,7 +27,7 @@ is_string (a_text form) = true
 is_string form = false
 
 abbrev pub has_fields : Form → Bool
-has_fields (a_table fields) = true
+has_fields (a_table fs) = true
 has_fields form = false
 
 -- a form is that of arrays of strings, or of tables
@@ -124,7 +124,7 @@ spelled_table form header =
 
 -- how a value at a header is spelled that a form refuses
 abbrev pub spelling : Form → Node → (header : List ℕ) → Option (List ℕ)
-spelling form (text s) header = spelled_text form s
-spelling form (int number) header = spelled_number form number
-spelling form (table es) header = spelled_table form header
+spelling form (Node.text s) header = spelled_text form s
+spelling form (Node.int number) header = spelled_number form number
+spelling form (Node.table es) header = spelled_table form header
 spelling form node header = None

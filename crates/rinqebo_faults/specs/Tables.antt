@@ -7,7 +7,7 @@ use Rattle.nextest_places.specs.declared.step.Step.{Step}
 use Rattle.nextest_places.specs.declared.step.Step.TheVariants as steps
 use Rattle.nextest_shape.specs.FileForm.{file_form}
 use Rattle.nextest_shape.specs.Keys.{keys_at}
-use Rattle.nextest_tree.specs.Node.{Node, table, Entries, keys}
+use Rattle.nextest_tree.specs.Node.{Node, Entries, keys}
 use Rattle.nextest_tree.specs.Schema.{is_one_of}
 use Rattle.rinqebo_report.specs.Hints.{distance, reach, IsNearest}
 use Rattle.rinqebo_faults.specs.Shapes.{key_of}
@@ -149,8 +149,8 @@ script_line kind (key ∷ keys) =
 
 -- the keys of a table; nothing else has some
 abbrev pub member_keys : Option Node → List (List ℕ)
-member_keys (Some (table members)) = keys members
-member_keys node = []
+member_keys (Some (Node.table members)) = keys members
+member_keys _ = []
 
 -- a path is that of `script.setup` or `script.wrapper`
 abbrev pub is_script_kind : List Step → Bool

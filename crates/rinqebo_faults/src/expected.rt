@@ -49,7 +49,7 @@ fn pattern_words(pattern: Pattern) -> &'static str
 
 /// A string, in words.
 fn text_words(alloc: Global, text: TextShape) -> Result<String, AllocError>
-    ensures { IfOk result (λ words. string_bytes words ≡ text_words (text_view text.entry)) }
+    ensures { IfOk result (λ words. string_bytes words ≡ text_words (text_view text)) }
 {
     match text {
         TextShape::Any => String::from_str(alloc, "a string"),

@@ -28,7 +28,7 @@ impl Naming {
     /// The path of the name in the list at a path.
     fn path_below<'p>(self, alloc: Global, list: &[Step<'p>]) -> Result<Vec<Step<'p>>, AllocError>
         ensures { IfOk result (λ path. map path_step path.items
-            ≡ map path_step list.now ++ naming_steps (Some self.entry)) }
+            ≡ map path_step list.now ++ naming_steps (Some self)) }
     {
         let rule = [Step::Position(self.rule), Step::Key(self.key)];
         let path = longer(alloc, list, &rule)?;
@@ -41,7 +41,7 @@ impl Naming {
 
 /// The naming that comes first: that of the lower rule, or else the earlier one.
 fn earlier(first: Option<Naming>, other: Option<Naming>) -> Option<Naming>
-    ensures { result ≡ earlier first.entry other.entry }
+    ensures { result ≡ earlier first other }
 {
     match (first, other) {
         (Some(first), Some(other)) if other.rule < first.rule => Some(other),
