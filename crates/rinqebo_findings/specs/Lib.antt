@@ -1,4 +1,5 @@
 pub mod Compile
+pub mod Files
 pub mod Later
 pub mod Placed
 pub mod Shown
