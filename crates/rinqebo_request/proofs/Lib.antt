@@ -1,1 +1,4 @@
 mod FeatureNames
+pub mod Adding
+pub mod Choosing
+pub mod NamedKeys
