@@ -2,3 +2,4 @@ mod FeatureNames
 pub mod Adding
 pub mod Choosing
 pub mod NamedKeys
+pub mod Commands

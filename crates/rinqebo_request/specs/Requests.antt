@@ -403,18 +403,24 @@ abbrev pub IsAnswerTo : (Request → Type 0) → Command → Type 0
 IsAnswerTo IsOne (commands.Answer request) = IsOne request
 IsAnswerTo IsOne command = ⊥
 
--- The command of a line, by the name of a command of the program: the name of none of the others
--- is that of `check`.
-pub record IsNamedCommand (environment : Environment) (name : List ℕ) (line : Line)
-    (command : Command) : Type 0 where
-  pub explain : name ≡ codes "explain"
-      → IsAnswerTo (IsExplainRequest environment line) command
-  pub list : name ≡ codes "list" → IsAnswerTo (IsListRequest environment line) command
-  pub show : name ≡ codes "show-config" → IsAnswerTo (IsShowRequest environment line) command
-  pub schema : name ≡ codes "schema" → IsSchemaBy line command
-  pub check : name ≢ codes "explain" → name ≢ codes "list" → name ≢ codes "show-config"
-      → name ≢ codes "schema"
-      → IsCheckBy environment line (value_at (codes "explain") line) command
+-- the command of a line, by whether it is `explain`, `list`, `show-config` or `schema`: if it is
+-- none of them, it is `check`
+abbrev pub IsCommandBy : Bool → Bool → Bool → Bool → Environment → Line → Command → Type 0
+IsCommandBy true is_list is_show is_schema environment line command =
+    IsAnswerTo (IsExplainRequest environment line) command
+IsCommandBy false true is_show is_schema environment line command =
+    IsAnswerTo (IsListRequest environment line) command
+IsCommandBy false false true is_schema environment line command =
+    IsAnswerTo (IsShowRequest environment line) command
+IsCommandBy false false false true environment line command = IsSchemaBy line command
+IsCommandBy false false false false environment line command =
+    IsCheckBy environment line (value_at (codes "explain") line) command
+
+-- the command of a line behind the name of a command
+abbrev pub IsNamedCommand : Environment → List ℕ → Line → Command → Type 0
+IsNamedCommand environment name line command =
+    IsCommandBy (bytes_eq name (codes "explain")) (bytes_eq name (codes "list"))
+    (bytes_eq name (codes "show-config")) (bytes_eq name (codes "schema")) environment line command
 
 -- the command of what was read: a name and a line
 abbrev pub IsCommandOf : Environment → Option (List ℕ × Line) → Command → Type 0

@@ -9,7 +9,7 @@ ghost use Rattle.rinqebo_report.specs.Codes.Codes.{code_word};
 ghost use Rattle.rinqebo_report.specs.declared.codes.code.Code.{Code};
 ghost use Rattle.rinqebo_request.specs.ArgumentTable.{AreProgramChoices, ProgramChoices, program_app};
 ghost use Rattle.rinqebo_request.specs.Lines.{line_of, value_at, values_at};
-ghost use Rattle.rinqebo_request.specs.Requests.{AreEnginesOf, AreFileEngines, AreFilesOf, IsCheckBy, IsCheckRequest, IsCheckedFile, IsCommandOf, IsConfigOf, IsDenialBy, IsListOf, IsListRequest, IsListing, IsSchemaBy, IsShowRequest, IsToolNamed, LacksTarget, mode_by, mode_of, profile_of, source_of};
+ghost use Rattle.rinqebo_request.specs.Requests.{AreEnginesOf, AreFileEngines, AreFilesOf, IsCheckBy, IsCheckRequest, IsCheckedFile, IsCommandOf, IsConfigOf, IsDenialBy, IsListOf, IsListRequest, IsListing, IsNamedCommand, IsSchemaBy, IsShowRequest, IsToolNamed, LacksTarget, mode_by, mode_of, profile_of, source_of};
 ghost use Rattle.rinqebo_request.specs.Stops.{IsRefusedFor, IsStopFor, IsUsage};
 ghost use Rattle.rinqebo_request.specs.declared.words.ParseStop.TheVariants.{Memory};
 
@@ -442,6 +442,28 @@ fn schema_command<'a>(matches: &ArgMatches<'a>) -> Command<'a>
     }
 }
 
+/// The command of a command line behind a name.
+fn named_command<'a>(
+    alloc: Global,
+    name: &str,
+    matches: &ArgMatches<'a>,
+    environment: &'a Environment,
+) -> Result<Command<'a>, ParseStop>
+    ensures { IfOk result (IsNamedCommand environment.now name.now (line_of matches.now)) }
+{
+    match name {
+        "explain" => Ok(Command::Answer(explain_request(
+            alloc,
+            matches,
+            environment,
+        )?)),
+        "list" => Ok(Command::Answer(list_request(alloc, matches, environment)?)),
+        "show-config" => Ok(Command::Answer(show_request(alloc, matches, environment)?)),
+        "schema" => Ok(schema_command(matches)),
+        _ => check_command(alloc, matches, environment),
+    }
+}
+
 /// The command of a command line that clap accepts.
 pub fn command_of<'a>(
     alloc: Global,
@@ -450,15 +472,10 @@ pub fn command_of<'a>(
 ) -> Result<Command<'a>, ParseStop>
     ensures { IfOk result (IsCommandOf environment.now (subcommand_rows_of matches.now)) }
 {
-    let request = match matches.subcommand() {
-        Some(("explain", matches)) => explain_request(alloc, matches, environment)?,
-        Some(("list", matches)) => list_request(alloc, matches, environment)?,
-        Some(("show-config", matches)) => show_request(alloc, matches, environment)?,
-        Some(("schema", matches)) => return Ok(schema_command(matches)),
-        Some((_, matches)) => return check_command(alloc, matches, environment),
-        None => return Err(usage(alloc, "no command", None)?),
-    };
-    Ok(Command::Answer(request))
+    match matches.subcommand() {
+        Some((name, matches)) => named_command(alloc, name, matches, environment),
+        None => Err(usage(alloc, "no command", None)?),
+    }
 }
 
 /// Reads a command line, which begins with the program's name, and the environment.
