@@ -71,8 +71,8 @@ pub conflicting : (rule : Rule) (old new : Arg) (other : Bor (List ℕ)) → IsA
 conflicting rule old new other is adds =
     let some : is_empty new.conflicts.items ≡ false = ap is_empty adds.1 ∙ not_empty old.conflicts.items other in
     let bound : is_free_arg (record old { conflicts = new.conflicts }) ≡ false =
-        ap (λ b. not old.exclusive && (b && (is_empty old.needs.items && (is_empty old.r_ifs.items && (is_empty old.r_ifs_all.items
-        && (is_empty old.r_unless.items && is_empty old.r_unless_all.items)))))) some ∙ and_false (not old.exclusive) in
+    ap (λ b. not old.exclusive && (b && (is_empty old.needs.items && (is_empty old.r_ifs.items && (is_empty old.r_ifs_all.items
+    && (is_empty old.r_unless.items && is_empty old.r_unless_all.items)))))) some ∙ and_false (not old.exclusive) in
     record {
       is = ap rule_of adds.0 ∙ ap (λ free. record (rule_of old) { is_free = free }) bound ∙ ap alone is.is;
       own = ap (λ (a : Arg). a.global) adds.0 ∙ is.own;

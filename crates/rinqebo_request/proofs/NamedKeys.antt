@@ -20,7 +20,7 @@ pub both : (mode : NextestRunMode) (start mid end : Rows) (xs ys a b : List (Lis
     → (end ≡ rows_by mode (a ++ b)) × AreKnownKeys mode (a ++ b)
 both mode start mid end xs ys a b start_is mid_is end_is xs_are ys_are xs_known ys_known = (
   end_is ∙ ap (λ rows. with_all mode rows ys) (mid_is ∙ ap (λ rows. with_all mode rows xs) start_is)
-  ∙ sym (with_all_more mode no_rows xs ys) ∙ ap₂ (λ x y. with_all mode no_rows (x ++ y)) xs_are ys_are,
+      ∙ sym (with_all_more mode no_rows xs ys) ∙ ap₂ (λ x y. with_all mode no_rows (x ++ y)) xs_are ys_are,
   subst (λ x. AreKnownKeys mode (x ++ b)) xs_are (subst (λ y. AreKnownKeys mode (xs ++ y)) ys_are (known_more mode xs ys xs_known ys_known)),
 )
 

@@ -26,11 +26,7 @@ pub fn name_hint(alloc: Global, name: &str, known: &[&str]) -> Result<Option<Str
 }
 
 /// The hint that names the nearest of some known texts, if one is near.
-pub fn text_hint(
-    alloc: Global,
-    name: &str,
-    known: &[String],
-) -> Result<Option<String>, AllocError>
+pub fn text_hint(alloc: Global, name: &str, known: &[String]) -> Result<Option<String>, AllocError>
     ensures { IfOk result (IsTextHint name.now (map string_bytes known.now)) }
 {
     let mut names = Vec::new(alloc);

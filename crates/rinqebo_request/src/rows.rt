@@ -34,11 +34,7 @@ fn no_setting(alloc: Global, key: &str, mode: NextestRunMode) -> Result<ParseSto
 }
 
 /// The settings that a key names: one, or those of a table.
-fn named_settings(
-    alloc: Global,
-    key: &str,
-    mode: NextestRunMode,
-) -> Result<Vec<Setting>, ParseStop>
+fn named_settings(alloc: Global, key: &str, mode: NextestRunMode) -> Result<Vec<Setting>, ParseStop>
     ensures ok { IfOk result (λ named.
         (named.items ≡ filter (is_named_by key.now mode) settings) × (named.items ≢ [])) }
     ensures err { IfErr result (IsRefusedFor

@@ -17,8 +17,10 @@ use crate::environment::{Environment, set};
 use crate::hints::name_hint;
 use crate::line::{has, is_on, value, values};
 use crate::named::ProfileSource;
+pub use crate::named_features::features;
 use crate::options::program;
 use crate::pages::list_format;
+pub use crate::pages::{format, paper};
 use crate::request::{
     Command, ConfigFile, EngineOptions, FileOptions, ListFile, Question, Request, ToolFile,
 };
@@ -29,9 +31,6 @@ use clap::error::ErrorKind;
 use nextest_elements::{InvalidIdentifier, NextestRunMode, ToolName};
 use rinqebo_report::{CODES, Code, find_code};
 use std::alloc::{AllocError, Global};
-
-pub use crate::named_features::features;
-pub use crate::pages::{format, paper};
 
 /// Why a command line is not a request.
 #[derive(Debug, Drop)]
@@ -452,11 +451,7 @@ fn named_command<'a>(
     ensures { IfOk result (IsNamedCommand environment.now name.now (line_of matches.now)) }
 {
     match name {
-        "explain" => Ok(Command::Answer(explain_request(
-            alloc,
-            matches,
-            environment,
-        )?)),
+        "explain" => Ok(Command::Answer(explain_request(alloc, matches, environment)?)),
         "list" => Ok(Command::Answer(list_request(alloc, matches, environment)?)),
         "show-config" => Ok(Command::Answer(show_request(alloc, matches, environment)?)),
         "schema" => Ok(schema_command(matches)),
