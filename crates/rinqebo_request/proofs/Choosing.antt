@@ -1,5 +1,5 @@
 -- The first text of some that there is.
-use Rattle.std.proofs.Common.{◌≡◌, ◌∙◌, Bool, Bor, List, None, Option, Some, ap, ap₂, is_some, option_map, refl, subst, sym, true, false, unwrap_or, ℕ}
+use Rattle.std.proofs.Common.{◌≡◌, ◌∙◌, [], map, Bool, Bor, List, None, Option, Some, ap, ap₂, is_some, option_map, refl, subst, sym, true, false, unwrap_or, ℕ}
 use Rattle.std.specs.Option.{option_or}
 use Rattle.rinqebo_request.specs.Requests.{source_by}
 use Rattle.rinqebo_request.specs.declared.named.ProfileSource.TheVariants as sources
@@ -45,3 +45,12 @@ pub by_none : (a b : Option (List ℕ)) → is_some a ≡ false → is_some b �
 by_none None None none is = refl
 by_none None (Some t) none is = absurd (cc)
 by_none (Some t) b none is = absurd (cc)
+
+-- texts, or none
+pub texts_or : (o : Option (Bor (List (Bor (List ℕ))))) (d result : Bor (List (Bor (List ℕ)))) (a : Option (List (List ℕ))) → d.now ≡ []
+    → result ≡ unwrap_or o d → option_map (λ texts. map (λ t. t.now) texts.now) o ≡ a
+    → map (λ t. t.now) result.now ≡ unwrap_or a []
+texts_or None d result a none is are =
+    ap (λ (texts : Bor (List (Bor (List ℕ)))). map (λ t. t.now) texts.now) is ∙ ap (map (λ t. t.now)) none ∙ ap (λ o. unwrap_or o []) are
+texts_or (Some texts) d result a none is are =
+    ap (λ (texts : Bor (List (Bor (List ℕ)))). map (λ t. t.now) texts.now) is ∙ ap (λ o. unwrap_or o []) are

@@ -3,3 +3,5 @@ pub mod Adding
 pub mod Choosing
 pub mod NamedKeys
 pub mod Commands
+pub mod NamedTools
+pub mod NamedFeatures

@@ -1,6 +1,7 @@
 //! What a command line has for the words and options of its command.
 ghost use Rattle.std.specs.Prelude.{◌≡◌, map, option_map};
-ghost use Rattle.rinqebo_request.specs.Lines.{IsFlag, has, line_of, value_at, values_at};
+ghost use Rattle.clap.specs.Walk.{all_of};
+ghost use Rattle.rinqebo_request.specs.Lines.{IsFlag, has, line_of, value_at};
 
 use clap::ArgMatches;
 
@@ -11,11 +12,12 @@ pub(crate) fn value<'a>(matches: &ArgMatches<'a>, id: &str) -> Option<&'a str>
     matches.get_str(id)
 }
 
-/// All values of a word or an option, in their order.
-pub(crate) fn values<'m, 'a>(matches: &'m ArgMatches<'a>, id: &str) -> &'m [&'a str]
-    ensures { map (λ text. text.now) result.now ≡ values_at id.now (line_of matches.now) }
+/// All values of a word or an option, in their order, if a line has it.
+pub(crate) fn values<'m, 'a>(matches: &'m ArgMatches<'a>, id: &str) -> Option<&'m [&'a str]>
+    ensures { option_map (λ texts. map (λ text. text.now) texts.now) result
+        ≡ all_of id.now (line_of matches.now) }
 {
-    matches.get_strs(id).unwrap_or(&[])
+    matches.get_strs(id)
 }
 
 /// Whether a line has a word or an option.

@@ -87,6 +87,6 @@ pub fn features(
 {
     let mut features = BTreeSet::new(alloc);
     add_switched(&mut features, environment)?;
-    add_named(alloc, &mut features, values(matches, "experimental"))?;
+    add_named(alloc, &mut features, values(matches, "experimental").unwrap_or(&[]))?;
     Ok(features)
 }

@@ -136,8 +136,8 @@ fn named_rows(
         runs: false,
         settings: Vec::new(alloc),
     };
-    named.add_all(alloc, values(matches, "KEY"), mode)?;
-    named.add_all(alloc, values(matches, "key"), mode)?;
+    named.add_all(alloc, values(matches, "KEY").unwrap_or(&[]), mode)?;
+    named.add_all(alloc, values(matches, "key").unwrap_or(&[]), mode)?;
     Ok(named)
 }
 

@@ -150,7 +150,7 @@ pub fn files<'a>(
         root: value(matches, "root"),
         config_file,
         organisation_config_file: value(matches, "organisation-config-file"),
-        tools: tool_files(alloc, values(matches, "tool-config-file"))?,
+        tools: tool_files(alloc, values(matches, "tool-config-file").unwrap_or(&[]))?,
     })
 }
 
@@ -326,7 +326,7 @@ fn leaf_keys<'a>(alloc: Global, matches: &ArgMatches<'a>) -> Result<Vec<&'a str>
     ensures { IfOk result (λ keys. map (λ key. key.now) keys.items
         ≡ values_at (codes "KEY") (line_of matches.now)) }
 {
-    Vec::from_slice(alloc, values(matches, "KEY"))
+    Vec::from_slice(alloc, values(matches, "KEY").unwrap_or(&[]))
 }
 
 /// The request of the command `show-config`.

@@ -1,10 +1,7 @@
-use Rattle.std.proofs.Common.{◌≡◌, ◌∙◌, [], Bor, List, None, Option, Some, ap, map, option_map, refl, unwrap_or, ℕ}
+use Rattle.std.proofs.Common.{◌∙◌}
 use Rattle.clap.specs.Matches.{found_of}
 use Rattle.clap.proofs.WalkLemmas.{raw_values-rows}
 use Rattle.rinqebo_request.proofs.line.values.Goals as goal
 
-texts : Bor (List (Bor (List ℕ))) → List (List ℕ)
-texts values = map (λ text. text.now) values.now
-
 pub returns : goal.returns
-returns c = ?
+returns c = c.get_strs.ensures ∙ raw_values-rows (found_of c.args.matches.now) c.args.id.now

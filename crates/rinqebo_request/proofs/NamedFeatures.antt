@@ -1,0 +1,61 @@
+-- The features that names name, one after another.
+use Rattle.std.proofs.Common.{◌≡◌, ◌∙◌, ◌↔◌, ◌⊎◌, ◌||◌, ◌∷◌, [], Bool, IsTrue, List, ap, false, inl, inr, refl, sym, true, ℕ}
+use Rattle.std.specs.BTreeSet.{BTreeSet}
+use Rattle.std.specs.List.{list_any}
+use Rattle.std.specs.Str.{bytes_eq}
+use Rattle.nextest_elements.specs.Experimental.{experimental_text}
+use Rattle.nextest_elements.specs.declared.experimental.ConfigExperimental.{ConfigExperimental}
+use Rattle.nextest_elements.specs.declared.experimental.ConfigExperimental.TheVariants.{SetupScripts, WrapperScripts}
+use Rattle.nextest_rules.specs.KnownView.{features_view, is_feature}
+use Rattle.rinqebo_forms.specs.Features.{AreAdded}
+use Rattle.rinqebo_request.specs.Requests.{AreFeaturesNamed, HasNamed, is_named}
+use Rattle.rinqebo_request.specs.Variables.{IsSwitchedOn}
+use Rattle.rinqebo_request.specs.declared.environment.Environment.{Environment}
+use Rattle.rinqebo_request.specs.declared.features.TheConstants.{FEATURES}
+
+or_either : (a b : Bool) → IsTrue (a || b) → IsTrue a ⊎ IsTrue b
+or_either true b is = inl refl
+or_either false b is = inr is
+
+or_left : (a b : Bool) → IsTrue a → IsTrue (a || b)
+or_left true b is = refl
+or_left false b is = absurd (cc)
+
+or_right : (a b : Bool) → IsTrue b → IsTrue (a || b)
+or_right true b is = refl
+or_right false b is = is
+
+-- a feature is the one of a name exactly if it has the name
+same_name : (feature named : ConfigExperimental) → is_feature feature named ≡ bytes_eq (experimental_text named) (experimental_text feature)
+same_name SetupScripts SetupScripts = refl
+same_name WrapperScripts WrapperScripts = refl
+same_name SetupScripts WrapperScripts = refl
+same_name WrapperScripts SetupScripts = refl
+
+among_all : (feature : ConfigExperimental) → IsTrue (list_any (is_feature feature) FEATURES)
+among_all SetupScripts = refl
+among_all WrapperScripts = refl
+
+none_before : {P Q : Type 0} → IsTrue false ⊎ (P × Q) → Q
+none_before (inl is) = absurd (cc)
+none_before (inr both) = both.1
+
+-- the features that variables enable, and then those that names name
+pub all_named : (environment : Environment) (names : List (List ℕ)) (start mid end : BTreeSet ConfigExperimental) → start.keys ≡ []
+    → AreAdded (IsSwitchedOn environment) FEATURES start mid → HasNamed names mid end
+    → (feature : ConfigExperimental) → IsTrue (features_view end feature) ↔ (IsSwitchedOn environment feature ⊎ IsTrue (is_named names feature))
+all_named environment names start mid end none added named feature =
+    let start_is : features_view start feature ≡ false = ap (list_any (is_feature feature)) none in
+    let on : IsTrue (features_view mid feature) → IsSwitchedOn environment feature =
+        λ is. none_before (rw (← start_is) ((added feature).0 is)) in
+    let back : IsSwitchedOn environment feature → IsTrue (features_view mid feature) =
+        λ is. (added feature).1 (inr (among_all feature, is)) in
+    let split : IsTrue (features_view mid feature) ⊎ IsTrue (is_named names feature) → IsSwitchedOn environment feature ⊎ IsTrue (is_named names feature) =
+        λ either. elim either [ inl is ↦ inl (on is) | inr is ↦ inr is ] in
+    (
+      (λ is. split (or_either _ _ (sym (named feature) ∙ is))),
+      (λ either. elim either [
+        | inl is ↦ named feature ∙ or_left _ _ (back is)
+        | inr is ↦ named feature ∙ or_right _ _ is
+      ]),
+    )
