@@ -138,10 +138,14 @@ abbrev pub check_formats : List (List ℕ)
 check_formats =
     codes "text" ∷ codes "json" ∷ codes "short" ∷ codes "concise" ∷ codes "github" ∷ []
 
--- what options take are the words of `--format`, and those of `--color` and of `--mode`
+-- What options take are the words of `--format` and those of `--color`.
 pub record AreChoices (formats : List (List ℕ)) (choices : Choices) : Type 0 where
   pub formats_are : IsChoice formats choices.formats
   pub colours_are : IsChoice colour_words choices.colours
+
+-- The same of a command that is about tests, with the words of `--mode`.
+pub record AreTestChoices (formats : List (List ℕ)) (choices : Choices) : Type 0 where
+  pub others_are : AreChoices formats choices
   pub modes_are : IsChoice mode_words choices.modes
 
 -- the command `explain`
@@ -188,9 +192,9 @@ pub record ProgramChoices : Type 0 where
 
 -- what the options of each command take are its words
 pub record AreProgramChoices (choices : ProgramChoices) : Type 0 where
-  pub explain_are : AreChoices result_formats choices.explain
+  pub explain_are : AreTestChoices result_formats choices.explain
   pub check_are : AreChoices check_formats choices.check
-  pub list_are : AreChoices result_formats choices.list
+  pub list_are : AreTestChoices result_formats choices.list
   pub show_are : AreChoices result_formats choices.show
 
 -- the program before its commands: it has a version, and needs one of them

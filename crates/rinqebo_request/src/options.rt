@@ -2,7 +2,7 @@
 ghost use Rattle.std.specs.Prelude.{IfOk, codes};
 ghost use Rattle.clap.specs.declared.builder.value_parser.ValueParser.{ValueParser};
 ghost use Rattle.clap.specs.declared.builder.value_parser.ValueParser.TheVariants as parsers;
-ghost use Rattle.rinqebo_request.specs.ArgumentTable.{Adds, AreChoices, Choices, IsArgument, IsChoice, IsCommand, IsProgram, check_formats, check_rules, choice_rule, colour_words, command_with, explain_rules, file_rules, flag_rule, keys_rule, list_rules, mode_words, option_rule, output_rules, platform_rules, profile_rule, profile_rules, result_formats, schema_rules, show_rules, test_rules, word_rule};
+ghost use Rattle.rinqebo_request.specs.ArgumentTable.{Adds, AreChoices, AreTestChoices, Choices, IsArgument, IsChoice, IsCommand, IsProgram, check_formats, check_rules, choice_rule, colour_words, command_with, explain_rules, file_rules, flag_rule, keys_rule, list_rules, mode_words, option_rule, output_rules, platform_rules, profile_rule, profile_rules, result_formats, schema_rules, show_rules, test_rules, word_rule};
 
 use clap::{Arg, ArgAction, Command};
 use std::alloc::{AllocError, Global};
@@ -359,8 +359,8 @@ fn with_test<'a>(alloc: Global, command: Command<'a>) -> Result<Command<'a>, All
 
 /// The command that explains the settings of a test.
 fn explain_command<'a>(alloc: Global) -> Result<Command<'a>, AllocError>
-    ensures { IfOk result (λ command. (choices : Choices) × AreChoices result_formats choices
-        × IsCommand (command_with (codes "explain") (explain_rules choices)) command) }
+    ensures { IfOk result (λ command. (choices : Choices)
+        × AreTestChoices result_formats choices × IsCommand (command_with (codes "explain") (explain_rules choices)) command) }
 {
     let command = Command::new(alloc, "explain")
         .about("Show the settings of one test, and where each value comes from")
@@ -379,8 +379,8 @@ fn explain_command<'a>(alloc: Global) -> Result<Command<'a>, AllocError>
 
 /// The command that lists the tests of a workspace with their settings.
 fn list_command<'a>(alloc: Global) -> Result<Command<'a>, AllocError>
-    ensures { IfOk result (λ command. (choices : Choices) × AreChoices result_formats choices
-        × IsCommand (command_with (codes "list") (list_rules choices)) command) }
+    ensures { IfOk result (λ command. (choices : Choices)
+        × AreTestChoices result_formats choices × IsCommand (command_with (codes "list") (list_rules choices)) command) }
 {
     let list = word(
         alloc,

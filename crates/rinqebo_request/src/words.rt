@@ -11,7 +11,6 @@ ghost use Rattle.rinqebo_request.specs.ArgumentTable.{AreProgramChoices, Program
 ghost use Rattle.rinqebo_request.specs.Lines.{line_of, value_at, values_at};
 ghost use Rattle.rinqebo_request.specs.Requests.{AreEnginesOf, AreFileEngines, AreFilesOf, IsCheckBy, IsCheckRequest, IsCheckedFile, IsCommandOf, IsConfigOf, IsDenialBy, IsListOf, IsListRequest, IsListing, IsNamedCommand, IsSchemaBy, IsShowRequest, IsToolNamed, LacksTarget, mode_by, mode_of, profile_of, source_of};
 ghost use Rattle.rinqebo_request.specs.Stops.{IsRefusedFor, IsStopFor, IsUsage};
-ghost use Rattle.rinqebo_request.specs.declared.words.ParseStop.TheVariants.{Memory};
 
 use crate::environment::{Environment, set};
 use crate::hints::name_hint;
@@ -44,6 +43,9 @@ pub enum ParseStop {
 }
 
 impl From<AllocError> for ParseStop {
+    ghost use Rattle.std.specs.Prelude.{◌≡◌};
+    ghost use Rattle.rinqebo_request.specs.declared.words.ParseStop.TheVariants.{Memory};
+
     ghost from_gives = { λ _ stop. stop ≡ Memory };
 
     fn from(_error: AllocError) -> ParseStop {
