@@ -360,7 +360,8 @@ fn with_test<'a>(alloc: Global, command: Command<'a>) -> Result<Command<'a>, All
 /// The command that explains the settings of a test.
 fn explain_command<'a>(alloc: Global) -> Result<Command<'a>, AllocError>
     ensures { IfOk result (λ command. (choices : Choices)
-        × AreTestChoices result_formats choices × IsCommand (command_with (codes "explain") (explain_rules choices)) command) }
+        × AreTestChoices result_formats choices
+        × IsCommand (command_with (codes "explain") (explain_rules choices)) command) }
 {
     let command = Command::new(alloc, "explain")
         .about("Show the settings of one test, and where each value comes from")
@@ -380,7 +381,8 @@ fn explain_command<'a>(alloc: Global) -> Result<Command<'a>, AllocError>
 /// The command that lists the tests of a workspace with their settings.
 fn list_command<'a>(alloc: Global) -> Result<Command<'a>, AllocError>
     ensures { IfOk result (λ command. (choices : Choices)
-        × AreTestChoices result_formats choices × IsCommand (command_with (codes "list") (list_rules choices)) command) }
+        × AreTestChoices result_formats choices
+        × IsCommand (command_with (codes "list") (list_rules choices)) command) }
 {
     let list = word(
         alloc,
