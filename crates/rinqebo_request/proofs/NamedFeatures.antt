@@ -1,5 +1,6 @@
 -- The features that names name, one after another.
-use Rattle.std.proofs.Common.{◌≡◌, ◌∙◌, ◌↔◌, ◌⊎◌, ◌||◌, ◌∷◌, [], Bool, IsTrue, List, ap, false, inl, inr, refl, sym, true, ℕ}
+use Rattle.std.proofs.Common.{◌≡◌, ◌∙◌, ◌↔◌, ◌⊎◌, ◌||◌, ◌∷◌, ◌<◌, ◌≤◌, ◌+◌, [], Bool, Bor, IsTrue, List, ap, drop, false, get_or, inl, inr, length, map, refl, sym, true, ℕ}
+use Rattle.std.proofs.lemmas.List.{at_drop_more, drop_all}
 use Rattle.std.specs.BTreeSet.{BTreeSet}
 use Rattle.std.specs.List.{list_any}
 use Rattle.std.specs.Str.{bytes_eq}
@@ -59,3 +60,48 @@ all_named environment names start mid end none added named feature =
         | inr is ↦ named feature ∙ or_right _ _ is
       ]),
     )
+
+either_false : IsTrue false ⊎ (IsTrue false × Unit {0}) → false ≡ true
+either_false (inl is) = is
+either_false (inr both) = both.0
+
+kept_one : (a b : Bool) → (IsTrue a → IsTrue b ⊎ (IsTrue false × Unit {0})) → (IsTrue b → IsTrue a) → a ≡ b
+kept_one true true there back = refl
+kept_one true false there back = sym (either_false (there refl))
+kept_one false true there back = back refl
+kept_one false false there back = refl
+
+-- one feature more
+one_named : (f k : ConfigExperimental) (a b : Bool) → (IsTrue a ↔ (IsTrue b ⊎ (IsTrue (is_feature f k || false) × Unit {0}))) → a ≡ (is_feature f k || b)
+one_named SetupScripts SetupScripts a b holds = holds.1 (inr (refl, tt))
+one_named WrapperScripts WrapperScripts a b holds = holds.1 (inr (refl, tt))
+one_named SetupScripts WrapperScripts a b holds = kept_one a b holds.0 (λ is. holds.1 (inl is))
+one_named WrapperScripts SetupScripts a b holds = kept_one a b holds.0 (λ is. holds.1 (inl is))
+
+moved : (t v r : Bool) → ((t || v) || r) ≡ (v || (t || r))
+moved true true r = refl
+moved true false r = refl
+moved false v r = refl
+
+-- one name more was read
+pub one_more : (names : List (Bor (List ℕ))) (i : ℕ) (d : Bor (List ℕ)) (f k : ConfigExperimental) (b a : Bool) → i < length names
+    → experimental_text k ≡ (get_or names i d).now
+    → (IsTrue a ↔ (IsTrue b ⊎ (IsTrue (is_feature f k || false) × Unit {0})))
+    → (a || is_named (map (λ name. name.now) (drop (i + 1) names)) f) ≡ (b || is_named (map (λ name. name.now) (drop i names)) f)
+one_more names i d f k b a below has holds =
+    let left = is_named (map (λ name. name.now) (drop (i + 1) names)) f in
+    let is : is_feature f k ≡ bytes_eq (get_or names i d).now (experimental_text f) =
+        same_name f k ∙ ap (λ text. bytes_eq text (experimental_text f)) has in
+    let more : is_named (map (λ name. name.now) (drop i names)) f ≡ (bytes_eq (get_or names i d).now (experimental_text f) || left) =
+        at_drop_more (λ (rest : List (Bor (List ℕ))). is_named (map (λ name. name.now) rest) f) names i d below in
+    ap (λ x. x || left) (one_named f k a b holds) ∙ moved (is_feature f k) b left ∙ ap (λ t. b || (t || left)) is
+    ∙ ap (λ x. b || x) (sym more)
+
+or_false : (b : Bool) → (b || false) ≡ b
+or_false true = refl
+or_false false = refl
+
+-- all names were read
+pub no_more : (names : List (Bor (List ℕ))) (i : ℕ) (f : ConfigExperimental) (b : Bool) → length names ≤ i
+    → b ≡ (b || is_named (map (λ name. name.now) (drop i names)) f)
+no_more names i f b above = rw (drop_all i names above) (sym (or_false b))

@@ -1,6 +1,6 @@
 -- The rows that keys name, one key after another.
-use Rattle.std.proofs.Common.{◌≡◌, ◌≢◌, ◌∙◌, ◌++◌, ◌∷◌, ◌⊎◌, ◌&&◌, ◌||◌, ◌==◌, [], Bool, List, None, Option, Some, ap, ap₂, false, inl, inr, length, not, refl, subst, sym, true, ℕ}
-use Rattle.std.proofs.lemmas.List.{append-nil}
+use Rattle.std.proofs.Common.{◌+◌, ◌<◌, Bor, drop, get_or, map, ◌≡◌, ◌≢◌, ◌∙◌, ◌++◌, ◌∷◌, ◌⊎◌, ◌&&◌, ◌||◌, ◌==◌, [], Bool, List, None, Option, Some, ap, ap₂, false, inl, inr, length, not, refl, subst, sym, true, ℕ}
+use Rattle.std.proofs.lemmas.List.{append-nil, at_drop_more, drop_more}
 use Rattle.nextest_elements.specs.declared.run_mode.NextestRunMode.{NextestRunMode}
 use Rattle.nextest_elements.specs.declared.setting.Setting.{Setting}
 use Rattle.rinqebo_request.specs.Rows.{AreKnownKeys, AreRowsBy, IsKnownKey, Rows, is_no_row, is_runs, no_rows, requested, rows_by, rows_or_all, settings_by, with_all, with_key}
@@ -86,3 +86,16 @@ pub listed_some : (mode : NextestRunMode) (keys : List (List ℕ)) (rows : Reque
     → is_no_row (rows_by mode keys) ≡ false → requested rows ≡ Some (rows_by mode keys) → AreRowsBy mode false None keys rows
 listed_some mode [] rows known some are = absurd (cc)
 listed_some mode (key ∷ keys) rows known some are = (known, are)
+
+-- one key more was read
+pub rows_step : (mode : NextestRunMode) (keys : List (Bor (List ℕ))) (i : ℕ) (d : Bor (List ℕ)) (before after : Rows) → i < length keys
+    → after ≡ with_key mode before (get_or keys i d).now
+    → with_all mode after (map (λ key. key.now) (drop (i + 1) keys)) ≡ with_all mode before (map (λ key. key.now) (drop i keys))
+rows_step mode keys i d before after below is =
+    ap (λ rows. with_all mode rows (map (λ key. key.now) (drop (i + 1) keys))) is
+    ∙ sym (at_drop_more (λ (rest : List (Bor (List ℕ))). with_all mode before (map (λ key. key.now) rest)) keys i d below)
+
+pub known_step : (mode : NextestRunMode) (keys : List (Bor (List ℕ))) (i : ℕ) (d : Bor (List ℕ)) → i < length keys → IsKnownKey mode (get_or keys i d).now
+    → AreKnownKeys mode (map (λ key. key.now) (drop (i + 1) keys)) → AreKnownKeys mode (map (λ key. key.now) (drop i keys))
+known_step mode keys i d below is rest =
+    subst (λ left. AreKnownKeys mode (map (λ key. key.now) left)) (sym (drop_more keys i d below)) (is, rest)

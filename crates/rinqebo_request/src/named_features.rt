@@ -61,6 +61,17 @@ fn named_feature(alloc: Global, name: &str) -> Result<ConfigExperimental, ParseS
     }
 }
 
+/// Adds a feature.
+fn add_feature(
+    features: &mut BTreeSet<ConfigExperimental>,
+    feature: ConfigExperimental,
+) -> Result<(), AllocError>
+    ensures { OnOk result (AreAdded (λ _. Unit {0}) (feature ∷ []) features.old features.new) }
+{
+    features.insert(feature)?;
+    Ok(())
+}
+
 /// Adds the features of some names.
 fn add_named(
     alloc: Global,
@@ -72,7 +83,7 @@ fn add_named(
 {
     for name in names {
         let feature = named_feature(alloc, *name)?;
-        features.insert(feature).map_err(AllocError::from)?;
+        add_feature(features, feature)?;
     }
     Ok(())
 }
