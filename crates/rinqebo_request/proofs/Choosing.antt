@@ -54,3 +54,7 @@ texts_or None d result a none is are =
     ap (λ (texts : Bor (List (Bor (List ℕ)))). map (λ t. t.now) texts.now) is ∙ ap (map (λ t. t.now)) none ∙ ap (λ o. unwrap_or o []) are
 texts_or (Some texts) d result a none is are =
     ap (λ (texts : Bor (List (Bor (List ℕ)))). map (λ t. t.now) texts.now) is ∙ ap (λ o. unwrap_or o []) are
+
+pub none_of : {A : Type 0} (o : Option A) → is_some o ≡ false → o ≡ None
+none_of None is = refl
+none_of (Some x) is = absurd (cc)

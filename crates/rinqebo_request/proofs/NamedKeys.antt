@@ -1,5 +1,5 @@
 -- The rows that keys name, one key after another.
-use Rattle.std.proofs.Common.{◌+◌, ◌<◌, Bor, drop, get_or, map, ◌≡◌, ◌≢◌, ◌∙◌, ◌++◌, ◌∷◌, ◌⊎◌, ◌&&◌, ◌||◌, ◌==◌, [], Bool, List, None, Option, Some, ap, ap₂, false, inl, inr, length, not, refl, subst, sym, true, ℕ}
+use Rattle.std.proofs.Common.{◌+◌, ◌<◌, Bor, drop, get_or, map, ◌≡◌, ◌≢◌, ◌∙◌, ◌++◌, ◌∷◌, ◌⊎◌, ◌&&◌, ◌||◌, ◌==◌, [], Bool, List, None, Option, Some, ap, ap₂, false, if◌then◌else◌, inl, inr, length, not, refl, subst, sym, true, ℕ}
 use Rattle.std.proofs.lemmas.List.{append-nil, at_drop_more, drop_more}
 use Rattle.nextest_elements.specs.declared.run_mode.NextestRunMode.{NextestRunMode}
 use Rattle.nextest_elements.specs.declared.setting.Setting.{Setting}
@@ -81,11 +81,14 @@ some_keys mode (key ∷ keys) some = refl
 pub all_of_none : (mode : NextestRunMode) (keys : List (List ℕ)) → keys ≡ [] → rows_or_all mode [] ≡ rows_or_all mode keys
 all_of_none mode keys none = ap (rows_or_all mode) (sym none)
 
--- the KEYs of a list, if there are some
-pub listed_some : (mode : NextestRunMode) (keys : List (List ℕ)) (rows : RequestedSettings) → AreKnownKeys mode keys
-    → is_no_row (rows_by mode keys) ≡ false → requested rows ≡ Some (rows_by mode keys) → AreRowsBy mode false None keys rows
-listed_some mode [] rows known some are = absurd (cc)
-listed_some mode (key ∷ keys) rows known some are = (known, are)
+-- the KEYs of a list, or none
+pub listed_keys : (mode : NextestRunMode) (keys : List (List ℕ)) (rows : RequestedSettings) → AreKnownKeys mode keys
+    → requested rows ≡ (if is_no_row (rows_by mode keys) then None else Some (rows_by mode keys)) → AreRowsBy mode false None keys rows
+listed_keys mode [] rows known are = are
+listed_keys mode (key ∷ keys) rows known are =
+    let some : is_no_row (with_all mode (with_key mode no_rows key) keys) ≡ false =
+        stays mode (with_key mode no_rows key) keys (known_row mode key known.0) in
+    (known, are ∙ ap (λ b. if b then None else Some (rows_by mode (key ∷ keys))) some)
 
 -- one key more was read
 pub rows_step : (mode : NextestRunMode) (keys : List (Bor (List ℕ))) (i : ℕ) (d : Bor (List ℕ)) (before after : Rows) → i < length keys

@@ -1,6 +1,6 @@
 //! The rows of a test that a command line names: whether the test runs, and settings.
 ghost use Rattle.std.specs.List.{filter};
-ghost use Rattle.std.specs.Prelude.{◌≡◌, ◌≢◌, [], true, IfErr, IfOk, OnOk, None, Some, map};
+ghost use Rattle.std.specs.Prelude.{◌≡◌, ◌≢◌, [], true, IfErr, IfOk, OnOk, None, Some, if◌then◌else◌, map};
 ghost use Rattle.nextest_elements.specs.Settings.{settings};
 ghost use Rattle.nextest_elements.specs.declared.setting.Setting.{Setting};
 ghost use Rattle.rinqebo_keys.specs.Keys.{is_named_by, key_text};
@@ -222,6 +222,18 @@ fn grouping_row(
     one_row(alloc, "--by", key, mode)
 }
 
+/// The rows that the user names, or if there are none, the settings that rules decide.
+fn named_or_decided(named: NamedRows) -> RequestedSettings
+    ensures { requested result
+        ≡ (if is_no_row (named_view named) then None else Some (named_view named)) }
+{
+    if named.is_empty() {
+        RequestedSettings::Decided
+    } else {
+        named.requested()
+    }
+}
+
 /// The requested rows of each test: if the user names none, the settings that rules decide.
 pub fn listed_rows(
     alloc: Global,
@@ -235,11 +247,8 @@ pub fn listed_rows(
     if is_on(matches, "all") {
         return all_listed(alloc, &named, by);
     }
-    if let Some(key) = by {
-        return grouping_row(alloc, &named, key, mode);
+    match by {
+        Some(key) => grouping_row(alloc, &named, key, mode),
+        None => Ok(named_or_decided(named)),
     }
-    if named.is_empty() {
-        return Ok(RequestedSettings::Decided);
-    }
-    Ok(named.requested())
 }
