@@ -5,3 +5,4 @@ pub mod NamedKeys
 pub mod Commands
 pub mod NamedTools
 pub mod NamedFeatures
+pub mod Hinting
