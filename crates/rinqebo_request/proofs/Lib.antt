@@ -6,3 +6,4 @@ pub mod Commands
 pub mod NamedTools
 pub mod NamedFeatures
 pub mod Hinting
+pub mod Counting
