@@ -3,20 +3,20 @@ use Rattle.rinqebo_results.proofs.Writing.{stop_quiet, stop_silent, stop_status,
 use Rattle.rinqebo_run.proofs.run.answer_list.Goals as goal
 
 pub returns-in-Err-clause-status : goal.returns-in-Err-clause-status
-returns-in-Err-clause-status g c = stop_status c.args.request.now.question c.in-Err.fault _ c.refuse_list.ensures
+returns-in-Err-clause-status g c = stop_status c.args.request.now.question c.in-Err.fault _ c.refuse_list.ensures.status
 
 pub returns-in-Err-clause-quiet : goal.returns-in-Err-clause-quiet
 returns-in-Err-clause-quiet g c =
-    stop_quiet c.args.request.now c.args.gathered.now _ _ c.in-Err.fault _ c.in-Err.ensures.err c.refuse_list.ensures
+    stop_quiet c.args.request.now c.args.gathered.now _ _ c.in-Err.fault _ c.in-Err.ensures.err c.refuse_list.ensures.status
 
 pub returns-in-Err-clause-page : goal.returns-in-Err-clause-page
 returns-in-Err-clause-page g c answered =
     stop_silent c.args.request.now c.args.gathered.now _ _ c.in-Err.fault _ c.in-Err.ensures.err
-    c.refuse_list.ensures answered
+    c.refuse_list.ensures.status answered
 
 pub returns-in-Err-clause-cause : goal.returns-in-Err-clause-cause
 returns-in-Err-clause-cause g c =
-    stop_reported c.args.request.now c.args.gathered.now _ _ c.in-Err.fault _ c.in-Err.ensures.err c.refuse_list.ensures
+    stop_reported c.args.request.now c.args.gathered.now _ _ c.in-Err.fault _ c.in-Err.ensures.err c.refuse_list.ensures.status
 
 pub returns-in-Ok-clause-begun : goal.returns-in-Ok-clause-begun
 returns-in-Ok-clause-begun g c = list_received c.args.request.now c.args.gathered.now _ _ c.in-Ok.ensures.ok

@@ -1,0 +1,101 @@
+-- What standard error gets of a run.
+use Rattle.std.proofs.Common.{[], Bool, append-nil, append_assoc, false, true, ◌≡◌, ◌∙◌, ◌⊎◌, ◌++◌, inl, inr, ℕ, List, Option, Result, Ok, Err, IfOk, MatchOption, MatchResult, None, Some, ap, refl, string_bytes, subst, sym}
+use Rattle.std.specs.Prelude.{AllocError, String}
+use Rattle.std.specs.Io.KnownBytes.{Appends}
+use Rattle.std.proofs.KnownBytes.{Appends-trans}
+use Rattle.rinqebo_load.specs.declared.failure.Failure.{Failure}
+use Rattle.rinqebo_request.specs.declared.files.gathering.Gathered.{Gathered}
+use Rattle.rinqebo_results.specs.Answered.{IsAnswer}
+use Rattle.rinqebo_results.specs.declared.list_stop.ListStop.{ListStop}
+use Rattle.rinqebo_results.specs.declared.list_stop.ListStop.TheVariants as stops
+use Rattle.rinqebo_report.specs.declared.format.Format.TheVariants as formats
+use Rattle.rinqebo_report.specs.declared.report.Report.{Report}
+use Rattle.rinqebo_request.specs.declared.request.Request.{Request}
+use Rattle.rinqebo_results.specs.Refused.{Fails, IsReportOfFailure}
+use Rattle.rinqebo_results.specs.StandardError.{AddsNotes, AreNotes, GetsBefore, GetsErrors, GetsNotes, GetsReason, GetsStop, GetsWarnings, GetsWarningsFor, HasNotes, IsReason, memory_message, no_note, of_document, of_failure, of_list, of_memory, of_reason, of_result, one_more}
+use Rattle.rinqebo_results.specs.Statuses.{failure_status}
+
+-- a message that is the reason
+pub by_message : (failure : Failure) (request : Request) (status n : ℕ) (old new : Option (List ℕ)) (message : Result String AllocError)
+    → n ≡ failure_status failure → IfOk message (λ text. IsReason failure request (string_bytes text))
+    → (status ≡ 6) ⊎ MatchResult message (λ text. (status ≡ n) × Appends old new (string_bytes text)) (λ _. (status ≡ 5) × Appends old new memory_message)
+    → (status ≡ 6) ⊎ GetsReason failure request status old new
+by_message failure request status n old new message is reason (inl six) = inl six
+by_message failure request status n old new (Ok text) is reason (inr told) =
+    inr (of_reason (string_bytes text) (told.0 ∙ is) reason told.1)
+by_message failure request status n old new (Err e) is reason (inr told) = inr (of_memory told.0 told.1)
+
+-- a page that is the reason
+pub by_page : (failure : Failure) (request : Request) (status n : ℕ) (old new : Option (List ℕ)) (page : List ℕ) → n ≡ failure_status failure
+    → IsReason failure request page
+    → (status ≡ 6) ⊎ ((status ≡ n) × Appends old new page) ⊎ ((status ≡ 5) × Appends old new memory_message)
+    → (status ≡ 6) ⊎ GetsReason failure request status old new
+by_page failure request status n old new page is reason (inl (inl six)) = inl six
+by_page failure request status n old new page is reason (inl (inr told)) = inr (of_reason page (told.0 ∙ is) reason told.1)
+by_page failure request status n old new page is reason (inr memory) = inr (of_memory memory.0 memory.1)
+
+-- that memory ran out
+pub by_memory : (failure : Failure) (request : Request) (status : ℕ) (old new : Option (List ℕ)) → (status ≡ 5) ⊎ (status ≡ 6)
+    → (status ≡ 6) ⊎ Appends old new memory_message → (status ≡ 6) ⊎ GetsReason failure request status old new
+by_memory failure request status old new ends (inl six) = inl six
+by_memory failure request status old new (inl five) (inr told) = inr (of_memory five told)
+by_memory failure request status old new (inr six) (inr told) = inl six
+
+-- a document that is the reason
+pub by_document : (failure : Failure) (request : Request) (report : Report) (status n : ℕ) (old new : Option (List ℕ))
+    → request.format ≡ formats.Json → IsReportOfFailure failure report → n ≡ failure_status failure
+    → (status ≡ 6) ⊎ ((status ≡ n) × (new ≡ old)) ⊎ ((status ≡ 5) × Appends old new memory_message)
+    → (status ≡ 6) ⊎ GetsReason failure request status old new
+by_document failure request report status n old new json reported is (inl (inl six)) = inl six
+by_document failure request report status n old new json reported is (inl (inr told)) =
+    inr (of_document report json (told.0 ∙ is) reported told.1)
+by_document failure request report status n old new json reported is (inr memory) = inr (of_memory memory.0 memory.1)
+
+-- no note
+pub no_more : (json : Bool) (text : List ℕ) → AddsNotes json text text
+no_more true text = refl
+no_more false text = ([], no_note, sym (append-nil text))
+
+-- notes behind notes
+joined : (first : List ℕ) {second : List ℕ} → AreNotes first → AreNotes second → AreNotes (first ++ second)
+joined first before no_note = subst AreNotes (sym (append-nil first)) before
+joined first before (one_more {notes} after body) =
+    subst AreNotes (append_assoc first notes _) (one_more (joined first before after) body)
+
+pub more : (json : Bool) (old mid new : List ℕ) → AddsNotes json old mid → AddsNotes json mid new → AddsNotes json old new
+more true old mid new first second = second ∙ first
+more false old mid new (a, are_a, is_a) (b, are_b, is_b) =
+    (a ++ b, joined a are_a are_b, is_b ∙ ap (λ t. t ++ b) is_a ∙ append_assoc old a b)
+
+-- notes where the request is not for JSON
+pub unless_json : (json : Bool) (old new : List ℕ) → json ≡ false → AddsNotes false old new → AddsNotes json old new
+unless_json true old new is adds = absurd (cc)
+unless_json false old new is adds = adds
+
+-- the notes on a result, or that memory ran out
+pub of_answer : (request : Request) (gathered : Gathered) (report : Report) (answered status : ℕ) (old mid new : Option (List ℕ)) → mid ≡ old
+    → IsAnswer request gathered report answered → (status ≡ 6) ⊎ GetsNotes request report answered status mid new
+    → (status ≡ 6) ⊎ GetsErrors request gathered status old new
+of_answer request gathered report answered status old mid new same is (inl six) = inl six
+of_answer request gathered report answered status old mid new same is (inr (inl (text, ends, notes, adds))) =
+    inr (of_result report text (subst (IsAnswer request gathered report) (sym ends) is) notes (subst (λ o. Appends o new text) same adds))
+of_answer request gathered report answered status old mid new same is (inr (inr (five, adds))) =
+    inr (of_memory [] five (subst (λ o. Appends o new memory_message) same adds))
+
+pub of_reasons : (request : Request) (gathered : Gathered) (failure : Failure) (status : ℕ) (old mid new : Option (List ℕ)) → mid ≡ old
+    → Fails request gathered failure → (status ≡ 6) ⊎ GetsReason failure request status mid new
+    → (status ≡ 6) ⊎ GetsErrors request gathered status old new
+of_reasons request gathered failure status old mid new same fails (inl six) = inl six
+of_reasons request gathered failure status old mid new same fails (inr reason) =
+    inr (of_failure failure fails (subst (λ o. GetsReason failure request status o new) same reason))
+
+-- a list that was not written whole
+pub of_stop : (request : Request) (gathered : Gathered) (stop : ListStop) (status : ℕ) (old mid new : Option (List ℕ))
+    → ((failure : Failure) → stop ≡ stops.Refused failure → Fails request gathered failure) → GetsBefore stop old mid
+    → (status ≡ 6) ⊎ GetsStop request stop status mid new → (status ≡ 6) ⊎ GetsErrors request gathered status old new
+of_stop request gathered stop status old mid new fails before (inl six) = inl six
+of_stop request gathered (stops.Refused failure) status old mid new fails before (inr reason) =
+    inr (of_failure failure (fails failure refl) (subst (λ o. GetsReason failure request status o new) before reason))
+of_stop request gathered stops.Memory status old mid new fails before (inr told) =
+    inr (of_memory before.0 told.0 (Appends-trans old mid new before.0 memory_message before.1 told.1))
+of_stop request gathered stops.Write status old mid new fails before (inr none) = absurd none
