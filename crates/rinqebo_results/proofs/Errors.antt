@@ -6,6 +6,7 @@ use Rattle.std.proofs.KnownBytes.{Appends-trans}
 use Rattle.rinqebo_load.specs.declared.failure.Failure.{Failure}
 use Rattle.rinqebo_request.specs.declared.files.gathering.Gathered.{Gathered}
 use Rattle.rinqebo_results.specs.Answered.{IsAnswer}
+use Rattle.rinqebo_results.specs.Written.{StopsList}
 use Rattle.rinqebo_results.specs.declared.list_stop.ListStop.{ListStop}
 use Rattle.rinqebo_results.specs.declared.list_stop.ListStop.TheVariants as stops
 use Rattle.rinqebo_report.specs.declared.format.Format.TheVariants as formats
@@ -99,3 +100,14 @@ of_stop request gathered (stops.Refused failure) status old mid new fails before
 of_stop request gathered stops.Memory status old mid new fails before (inr told) =
     inr (of_memory before.0 told.0 (Appends-trans old mid new before.0 memory_message before.1 told.1))
 of_stop request gathered stops.Write status old mid new fails before (inr none) = absurd none
+
+-- notes behind the first text
+pub start_notes : (json : Bool) (old start mid : List ℕ) → start ≡ old → AddsNotes json start mid → AddsNotes json old mid
+start_notes json old start mid same adds = subst (λ t. AddsNotes json t mid) same adds
+
+-- why a list is refused
+pub fails_by : (request : Request) (gathered : Gathered) (begins ends : Option (List ℕ) → Type 0) (old new : Option (List ℕ)) (stop : ListStop)
+    → StopsList (Fails request gathered) begins ends old new stop
+    → (failure : Failure) → stop ≡ stops.Refused failure → Fails request gathered failure
+fails_by request gathered begins ends old new stop stopped failure is =
+    (subst (StopsList (Fails request gathered) begins ends old new) is stopped).0

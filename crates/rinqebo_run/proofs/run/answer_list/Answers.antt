@@ -1,3 +1,6 @@
+use Rattle.std.proofs.Common.{◌≡◌, inr, refl, subst}
+use Rattle.rinqebo_results.proofs.Errors.{fails_by, of_stop}
+use Rattle.rinqebo_results.specs.StandardError.{of_list}
 use Rattle.rinqebo_results.proofs.Received.{list_received, stop_begun}
 use Rattle.rinqebo_results.proofs.Writing.{stop_quiet, stop_silent, stop_status, stop_reported}
 use Rattle.rinqebo_run.proofs.run.answer_list.Goals as goal
@@ -24,3 +27,12 @@ returns-in-Ok-clause-begun g c = list_received c.args.request.now c.args.gathere
 pub returns-in-Err-clause-begun : goal.returns-in-Err-clause-begun
 returns-in-Err-clause-begun g c =
     stop_begun c.args.request.now c.args.gathered.now _ _ c.in-Err.fault c.in-Err.ensures.err
+
+pub returns-in-Ok-clause-errors : goal.returns-in-Ok-clause-errors
+returns-in-Ok-clause-errors g c quiet = inr (of_list refl (c.in-Ok.ensures.errors quiet))
+
+pub returns-in-Err-clause-errors : goal.returns-in-Err-clause-errors
+returns-in-Err-clause-errors g c quiet =
+    of_stop c.args.request.now c.args.gathered.now c.in-Err.fault _ _ _ _
+    (fails_by c.args.request.now c.args.gathered.now _ _ _ _ c.in-Err.fault c.in-Err.ensures.err) (c.in-Err.ensures.errors quiet)
+    c.refuse_list.ensures.errors
