@@ -13,7 +13,7 @@ use Rattle.rinqebo_report.specs.declared.format.Format.TheVariants as formats
 use Rattle.rinqebo_report.specs.declared.report.Report.{Report}
 use Rattle.rinqebo_request.specs.declared.request.Request.{Request}
 use Rattle.rinqebo_results.specs.Refused.{Fails, IsReportOfFailure}
-use Rattle.rinqebo_results.specs.StandardError.{AddsNotes, AreNotes, GetsBefore, GetsErrors, GetsNotes, GetsReason, GetsStop, GetsWarnings, GetsWarningsFor, HasNotes, IsReason, memory_message, no_note, of_document, of_failure, of_list, of_memory, of_reason, of_result, one_more}
+use Rattle.rinqebo_results.specs.StandardError.{AddsNotes, AreNotes, GetsBefore, GetsErrors, GetsNotes, GetsReason, GetsStop, GetsWarnings, GetsWarningsFor, HasNotes, IsReason, document_given, memory_given, memory_message, no_note, of_failure, of_list, of_memory, of_result, one_more, reason_given}
 use Rattle.rinqebo_results.specs.Statuses.{failure_status}
 
 -- a message that is the reason
@@ -23,8 +23,8 @@ pub by_message : (failure : Failure) (request : Request) (status n : ℕ) (old n
     → (status ≡ 6) ⊎ GetsReason failure request status old new
 by_message failure request status n old new message is reason (inl six) = inl six
 by_message failure request status n old new (Ok text) is reason (inr told) =
-    inr (of_reason (string_bytes text) (told.0 ∙ is) reason told.1)
-by_message failure request status n old new (Err e) is reason (inr told) = inr (of_memory told.0 told.1)
+    inr (reason_given (string_bytes text) (told.0 ∙ is) reason told.1)
+by_message failure request status n old new (Err e) is reason (inr told) = inr (memory_given told.0 told.1)
 
 -- a page that is the reason
 pub by_page : (failure : Failure) (request : Request) (status n : ℕ) (old new : Option (List ℕ)) (page : List ℕ) → n ≡ failure_status failure
@@ -32,14 +32,14 @@ pub by_page : (failure : Failure) (request : Request) (status n : ℕ) (old new 
     → (status ≡ 6) ⊎ ((status ≡ n) × Appends old new page) ⊎ ((status ≡ 5) × Appends old new memory_message)
     → (status ≡ 6) ⊎ GetsReason failure request status old new
 by_page failure request status n old new page is reason (inl (inl six)) = inl six
-by_page failure request status n old new page is reason (inl (inr told)) = inr (of_reason page (told.0 ∙ is) reason told.1)
-by_page failure request status n old new page is reason (inr memory) = inr (of_memory memory.0 memory.1)
+by_page failure request status n old new page is reason (inl (inr told)) = inr (reason_given page (told.0 ∙ is) reason told.1)
+by_page failure request status n old new page is reason (inr memory) = inr (memory_given memory.0 memory.1)
 
 -- that memory ran out
 pub by_memory : (failure : Failure) (request : Request) (status : ℕ) (old new : Option (List ℕ)) → (status ≡ 5) ⊎ (status ≡ 6)
     → (status ≡ 6) ⊎ Appends old new memory_message → (status ≡ 6) ⊎ GetsReason failure request status old new
 by_memory failure request status old new ends (inl six) = inl six
-by_memory failure request status old new (inl five) (inr told) = inr (of_memory five told)
+by_memory failure request status old new (inl five) (inr told) = inr (memory_given five told)
 by_memory failure request status old new (inr six) (inr told) = inl six
 
 -- a document that is the reason
@@ -49,8 +49,8 @@ pub by_document : (failure : Failure) (request : Request) (report : Report) (sta
     → (status ≡ 6) ⊎ GetsReason failure request status old new
 by_document failure request report status n old new json reported is (inl (inl six)) = inl six
 by_document failure request report status n old new json reported is (inl (inr told)) =
-    inr (of_document report json (told.0 ∙ is) reported told.1)
-by_document failure request report status n old new json reported is (inr memory) = inr (of_memory memory.0 memory.1)
+    inr (document_given report json (told.0 ∙ is) reported told.1)
+by_document failure request report status n old new json reported is (inr memory) = inr (memory_given memory.0 memory.1)
 
 -- no note
 pub no_more : (json : Bool) (text : List ℕ) → AddsNotes json text text

@@ -59,12 +59,12 @@ IsReason failures.Memory request text = text ≡ memory_message
 -- nothing, if standard output gets the reason as a document; or that memory ran out.
 pub data GetsReason (failure : Failure) (request : Request) (status : ℕ)
     (old new : Option (List ℕ)) : Type 0 where
-  of_reason : (text : List ℕ) → status ≡ failure_status failure → IsReason failure request text
+  reason_given : (text : List ℕ) → status ≡ failure_status failure → IsReason failure request text
       → Appends old new text → GetsReason failure request status old new
-  of_document : (report : Report) → request.format ≡ formats.Json
+  document_given : (report : Report) → request.format ≡ formats.Json
       → status ≡ failure_status failure → IsReportOfFailure failure report → new ≡ old
       → GetsReason failure request status old new
-  of_memory : status ≡ 5 → Appends old new memory_message
+  memory_given : status ≡ 5 → Appends old new memory_message
       → GetsReason failure request status old new
 
 -- lines of notes, each of which begins with `note: `
