@@ -2,7 +2,15 @@
 use Rattle.std.proofs.Common.{[], Bool, append-nil, append_assoc, false, true, ◌≡◌, ◌∙◌, ◌⊎◌, ◌++◌, inl, inr, ℕ, List, Option, Result, Ok, Err, IfOk, MatchOption, MatchResult, None, Some, ap, refl, string_bytes, subst, sym}
 use Rattle.std.specs.Prelude.{AllocError, String}
 use Rattle.std.specs.Io.KnownBytes.{Appends}
-use Rattle.std.proofs.KnownBytes.{Appends-trans}
+use Rattle.std.proofs.KnownBytes.{Appends-nil, Appends-trans}
+use Rattle.std.specs.Prelude.{IfErr, IsErrAnd}
+use Rattle.rinqebo_checks.specs.Reports.{IsReportOf}
+use Rattle.rinqebo_load.specs.SessionOf.{IsSessionOf}
+use Rattle.rinqebo_load.specs.declared.session.Session.{Session}
+use Rattle.rinqebo_report.specs.Pages.{findings_runs}
+use Rattle.rinqebo_report.specs.Pieces.{page_text}
+use Rattle.rinqebo_report.specs.declared.piece.Colour.{Colour}
+use Rattle.rinqebo_results.specs.Prefixes.{Grows}
 use Rattle.rinqebo_load.specs.declared.failure.Failure.{Failure}
 use Rattle.rinqebo_request.specs.declared.files.gathering.Gathered.{Gathered}
 use Rattle.rinqebo_results.specs.Answered.{IsAnswer}
@@ -111,3 +119,47 @@ pub fails_by : (request : Request) (gathered : Gathered) (begins ends : Option (
     → (failure : Failure) → stop ≡ stops.Refused failure → Fails request gathered failure
 fails_by request gathered begins ends old new stop stopped failure is =
     (subst (StopsList (Fails request gathered) begins ends old new) is stopped).0
+
+-- a writer that got nothing
+pub grows_none : (known : Option (List ℕ)) → Grows known known
+grows_none known = ([], Appends-nil known)
+
+-- a reason that is passed on
+pub stopped : {A : Type 0} (P : A → Type 0) (Q : ListStop → Type 0) (r : Result A ListStop) (stop : ListStop) → IsErrAnd r (λ told. told ≡ stop) → Q stop
+    → MatchResult r P Q
+stopped P Q (Ok x) stop same is = absurd same
+stopped P Q (Err told) stop same is = subst Q (sym same) is
+
+-- what is got before a list that is not written whole for a reason which is no refusal
+before_stop : (begins ends : Option (List ℕ) → Type 0) (out_old out_new old new : Option (List ℕ)) (page : List ℕ) (stop : ListStop) → Appends old new page
+    → StopsList (λ _. ⊥) begins ends out_old out_new stop → GetsBefore stop old new
+before_stop begins ends out_old out_new old new page (stops.Refused failure) adds stopped_so = absurd (stopped_so.0)
+before_stop begins ends out_old out_new old new page stops.Memory adds stopped_so = (page, adds)
+before_stop begins ends out_old out_new old new page stops.Write adds stopped_so = tt
+
+-- the warnings, and then the page of a list, which standard error gets nothing of
+pub warned : {A : Type 0} (session : Session) (colour : Colour) (begins ends : Option (List ℕ) → Type 0) (out_old : Option (List ℕ)) (head : Report)
+    (out_new old mid new : Option (List ℕ)) → IsReportOf session head → Appends old mid (page_text colour (findings_runs head)) → new ≡ mid
+    → (r : Result A ListStop) → IfErr r (StopsList (λ _. ⊥) begins ends out_old out_new)
+    → MatchResult r (λ _. GetsWarnings session colour old new) (λ stop. GetsBefore stop old new)
+warned session colour begins ends out_old head out_new old mid new about adds same (Ok x) stops_so =
+    record {
+      head = head;
+      about = about;
+      page = rw same adds;
+    }
+warned session colour begins ends out_old head out_new old mid new about adds same (Err stop) stops_so =
+    before_stop begins ends out_old out_new old new _ stop (rw same adds) stops_so
+
+-- the same of the session of a request
+pub for_request : {A : Type 0} (request : Request) (gathered : Gathered) (session : Session) (old new : Option (List ℕ))
+    → IsSessionOf request gathered session → (r : Result A ListStop)
+    → MatchResult r (λ _. GetsWarnings session request.paper.colour old new) (λ stop. GetsBefore stop old new)
+    → MatchResult r (λ _. GetsWarningsFor request gathered old new) (λ stop. GetsBefore stop old new)
+for_request request gathered session old new begun (Ok x) got =
+    record {
+      session = session;
+      begun = begun;
+      warnings = got;
+    }
+for_request request gathered session old new begun (Err stop) got = got

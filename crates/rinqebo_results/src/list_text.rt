@@ -9,7 +9,7 @@ ghost use Rattle.rinqebo_results.specs.Refused.{Fails};
 ghost use Rattle.rinqebo_results.specs.LookedUp.{IsFailureOn};
 ghost use Rattle.rinqebo_results.specs.Begun.{BeginsList, IsBegun};
 ghost use Rattle.rinqebo_results.specs.StandardError.{GetsBefore, GetsWarnings, GetsWarningsFor};
-ghost use Rattle.rinqebo_results.specs.Written.{AreFirstBy, AsksList, HasPage, StopsList, WritesList};
+ghost use Rattle.rinqebo_results.specs.Written.{AreFirstBy, AsksList, HasPage, StopsList, WritesList, WritesPage};
 ghost use Rattle.rinqebo_results.specs.declared.list_stop.ListStop.TheVariants as faults;
 ghost use Rattle.rinqebo_checks.specs.Reports.{IsReportOf};
 ghost use Rattle.rinqebo_report.specs.declared.format.Format.TheVariants as formats;
@@ -51,6 +51,35 @@ fn begin<E: Write>(
     Ok(head)
 }
 
+/// Writes the page of a list. If the request says so, standard error shows how far the list is.
+fn write_shown<O: Write, E: Write>(
+    alloc: Global,
+    page: &ListPage<'_, '_>,
+    shows_progress: bool,
+    out: &mut O,
+    err: &mut E,
+) -> Result<(), ListStop>
+    requires { IsIn (names_in page.now.config.now.config.profiles) page.now.list.profile.now }
+    ensures ok { OnOk result (WritesPage page.now.session.now page.now.config.now
+        page.now.list.profile.now page.now.list.mode page.now.list.settings.now
+        page.now.head.now page.now.paper (O.contents out.old) (O.contents out.new)) }
+    ensures err { IfErr result (StopsList (λ _. ⊥) (AreFirstBy page.now.session.now
+        page.now.config.now page.now.list.profile.now page.now.list.mode
+        page.now.list.settings.now page.now.paper (O.contents out.old))
+        (WritesPage page.now.session.now page.now.config.now page.now.list.profile.now
+        page.now.list.mode page.now.list.settings.now page.now.head.now page.now.paper
+        (O.contents out.old)) (O.contents out.old) (O.contents out.new)) }
+    ensures errors { shows_progress ≡ false → E.contents err.new ≡ E.contents err.old }
+{
+    if !shows_progress {
+        return page.write(alloc, &mut NoProgress, out);
+    }
+    let mut progress = ProgressLine::new(&mut *err, true);
+    let written = page.write(alloc, &mut progress, out);
+    progress.clear();
+    written
+}
+
 /// Writes a list of a session by a configuration that was loaded with warnings. These go to
 /// standard error, and then, where it is shown, how far the list is.
 fn write_by<O: Write, E: Write>(
@@ -84,13 +113,7 @@ fn write_by<O: Write, E: Write>(
         head: &head,
         paper,
     };
-    if !shows_progress {
-        return page.write(alloc, &mut NoProgress, out);
-    }
-    let mut progress = ProgressLine::new(&mut *err, true);
-    let written = page.write(alloc, &mut progress, out);
-    progress.clear();
-    written
+    write_shown(alloc, &page, shows_progress, out, err)
 }
 
 /// Writes a list of a session.
