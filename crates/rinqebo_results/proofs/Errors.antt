@@ -163,3 +163,21 @@ for_request request gathered session old new begun (Ok x) got =
       warnings = got;
     }
 for_request request gathered session old new begun (Err stop) got = got
+
+-- the notes were written, and then the page
+pub notes_written : (request : Request) (report : Report) (answered status told : ℕ) (old new : Option (List ℕ)) (shown text : List ℕ) → told ≡ 0
+    → (told ≡ 6) ⊎ Appends old new shown → shown ≡ text → HasNotes request report text → (status ≡ answered) ⊎ (status ≡ 6)
+    → (status ≡ 6) ⊎ GetsNotes request report answered status old new
+notes_written request report answered status told old new shown text none (inl six) same notes ends =
+    let zero : 0 ≡ 6 = sym none ∙ six in
+    absurd (cc)
+notes_written request report answered status told old new shown text none (inr adds) same notes (inl is) =
+    inr (inl (text, is, notes, subst (Appends old new) same adds))
+notes_written request report answered status told old new shown text none (inr adds) same notes (inr six) = inl six
+
+-- memory ran out before the notes were written
+pub notes_lost : (request : Request) (report : Report) (answered status : ℕ) (old new : Option (List ℕ)) → (status ≡ 5) ⊎ (status ≡ 6)
+    → (status ≡ 6) ⊎ Appends old new memory_message → (status ≡ 6) ⊎ GetsNotes request report answered status old new
+notes_lost request report answered status old new ends (inl six) = inl six
+notes_lost request report answered status old new (inl five) (inr told) = inr (inr (five, told))
+notes_lost request report answered status old new (inr six) (inr told) = inl six
