@@ -9,7 +9,6 @@ pub mod ConditionTexts
 pub mod Reasons
 pub mod ReportsReasons
 pub mod RunsReasons
-pub mod ObjectOrigins
 pub mod Listed
 pub mod ListedBy
 pub mod InForce
@@ -18,3 +17,4 @@ pub mod Begun
 pub mod Written
 pub mod Received
 pub mod LookedUp
+pub mod StandardError

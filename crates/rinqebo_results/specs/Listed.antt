@@ -41,7 +41,7 @@ use Rattle.rinqebo_origins.specs.Origins.{IsOriginOf}
 use Rattle.rinqebo_origins.specs.RulePlaces.{Place, id_place, script_place}
 use Rattle.rinqebo_origins.specs.TestOrigins.{Basis}
 use Rattle.rinqebo_load.specs.Sessions.{files_view, readings}
-use Rattle.rinqebo_results.specs.ObjectOrigins.{AreObjectOrigins}
+use Rattle.rinqebo_object_origins.specs.ObjectOrigins.{AreObjectOrigins}
 use Rattle.rinqebo_results.specs.Requested.{IsRequestedIn}
 use Rattle.rinqebo_results.specs.ReportsReasons.{configured_by}
 use Rattle.rinqebo_load.specs.declared.session.Session.{Session}

@@ -14,10 +14,10 @@ ghost use Rattle.rinqebo_results.specs.ListedBy.{basis_of};
 ghost use Rattle.rinqebo_results.specs.Listed.{AreObjectsListed, FindsWarnings, directories_for};
 
 use crate::list_report::Profile;
-use crate::object_origins::object_origins;
 use filter_engine::NextestTally;
 use nextest_config::{DefaultConfigWarnings, MergedProfile};
 use rinqebo_load::{Config, Session};
+use rinqebo_object_origins::object_origins;
 use rinqebo_objects::{Directories, Listed, ObjectOrigins, Surroundings, objects_json};
 use rinqebo_report::ExactValue;
 use std::alloc::{AllocError, Global};

@@ -15,7 +15,7 @@ use Rattle.rinqebo_objects.specs.Used.{Used, used_in}
 use Rattle.rinqebo_objects.specs.WarningObjects.{warnings_data}
 use Rattle.rinqebo_results.proofs.Listing.{basis_here}
 use Rattle.rinqebo_results.specs.Listed.{directories_for}
-use Rattle.rinqebo_results.specs.ObjectOrigins.{AreObjectOrigins}
+use Rattle.rinqebo_object_origins.specs.ObjectOrigins.{AreObjectOrigins}
 use Rattle.serde_json.specs.Find.{get}
 use Rattle.serde_json.specs.View.{view}
 use Rattle.rinqebo_results.proofs.list_objects.objects_of_list.Goals as goal

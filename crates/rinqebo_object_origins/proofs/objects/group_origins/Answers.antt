@@ -1,6 +1,6 @@
 use Rattle.std.proofs.Common.{◌∙◌, subst}
-use Rattle.rinqebo_results.specs.ObjectOrigins.{AreOriginsBeside, group_path}
-use Rattle.rinqebo_results.proofs.object_origins.group_origins.Goals as goal
+use Rattle.rinqebo_object_origins.specs.ObjectOrigins.{AreOriginsBeside, group_path}
+use Rattle.rinqebo_object_origins.proofs.objects.group_origins.Goals as goal
 
 pub returns : goal.returns
 returns c = record {

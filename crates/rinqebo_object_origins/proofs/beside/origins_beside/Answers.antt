@@ -1,6 +1,6 @@
 use Rattle.std.proofs.lemmas.Result.{IfOk-weaker}
-use Rattle.rinqebo_results.specs.ObjectOrigins.{written}
-use Rattle.rinqebo_results.proofs.object_origins.origins_beside.Goals as goal
+use Rattle.rinqebo_object_origins.specs.ObjectOrigins.{written}
+use Rattle.rinqebo_object_origins.proofs.beside.origins_beside.Goals as goal
 
 pub returns-in-Some : goal.returns-in-Some
 returns-in-Some c =

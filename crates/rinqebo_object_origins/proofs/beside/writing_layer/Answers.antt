@@ -1,6 +1,6 @@
 use Rattle.std.proofs.Common.{◌∙◌, MatchOption, ap, subst}
 use Rattle.nextest_documents.specs.Layers.{IsHighest, Stands, keys_view, layers_view}
-use Rattle.rinqebo_results.proofs.object_origins.writing_layer.Goals as goal
+use Rattle.rinqebo_object_origins.proofs.beside.writing_layer.Goals as goal
 
 pub returns : goal.returns
 returns c =

@@ -7,8 +7,8 @@ use Rattle.nextest_load.specs.ConfigView.{groups_view}
 use Rattle.nextest_tables.specs.Written.{Name}
 use Rattle.rinqebo_objects.specs.declared.origins.GroupOrigins.{GroupOrigins}
 use Rattle.rinqebo_request.specs.declared.files.layers.Layer.{Layer}
-use Rattle.rinqebo_results.specs.ObjectOrigins.{AreGroupOrigins}
-use Rattle.rinqebo_results.proofs.object_origins.all_group_origins.Goals as goal
+use Rattle.rinqebo_object_origins.specs.ObjectOrigins.{AreGroupOrigins}
+use Rattle.rinqebo_object_origins.proofs.objects.all_group_origins.Goals as goal
 
 -- the origins of one group more, with those of the groups that are left
 one_more : (layers : List Layer) (all : List (Name × Option TestGroupConfig))

@@ -1,35 +1,36 @@
 //! Where the values of a run and the groups of a profile come from.
-ghost use Rattle.std.specs.Prelude.{◌≡◌, ◌∷◌, [], IfOk, MatchOption, None, codes, map, option_map};
+ghost use Rattle.std.specs.Prelude.{◌∷◌, [], IfOk, None, codes, option_map};
 ghost use Rattle.std.specs.List.{AllZip};
 ghost use Rattle.filter_language.specs.Filtersets.{marks_view};
 ghost use Rattle.filter_engine.specs.Compiling.{names_of};
-ghost use Rattle.nextest_documents.specs.Layers.{IsHighest, Stands, keys_view};
 ghost use Rattle.nextest_elements.specs.TestGroup.{custom_group_text};
 ghost use Rattle.nextest_inheritance.specs.View.{borrowed_view};
 ghost use Rattle.nextest_load.specs.ConfigView.{groups_view};
 ghost use Rattle.nextest_settings.specs.Profiles.Meaning.{profile_meaning};
 ghost use Rattle.rinqebo_origins.specs.KnownOrigins.{AreOriginsAt};
-ghost use Rattle.rinqebo_origins.specs.Origins.{key, step_view};
 ghost use Rattle.rinqebo_origins.specs.ProfileOrigins.{AreProfileOrigins};
 ghost use Rattle.rinqebo_origins.specs.RulePlaces.{place_view};
 ghost use Rattle.rinqebo_rules.specs.Runs.{filtering_place};
-ghost use Rattle.rinqebo_origins.specs.Trees.{trees_of};
-ghost use Rattle.rinqebo_results.specs.ObjectOrigins.{AreBoundOrigins, AreGroupOrigins, AreNameOrigins, AreObjectOrigins, AreOriginsBeside, AreOutputOrigins, AreRunOrigins, IsOriginBeside};
+ghost use Rattle.rinqebo_object_origins.specs.ObjectOrigins.{AreBoundOrigins, AreGroupOrigins, AreNameOrigins, AreObjectOrigins, AreOutputOrigins, AreRunOrigins};
 
-use crate::list_report::Profile;
-use nextest_documents::layer_of;
+use crate::beside::origins_beside;
+use filter_engine::NextestFilters;
 use nextest_elements::{CustomTestGroup, TestGroupConfig};
-use nextest_places::Step;
+use nextest_settings::EvaluatableProfile;
+use platform_language::TargetSpecs;
 use rinqebo_keys::SettingKey;
 use rinqebo_objects::{
     BoundOrigins, GroupOrigins, NameOrigins, ObjectOrigins, OutputOrigins, RunOrigins,
 };
-use rinqebo_origins::{RulePlace, built_in, profile_grounds, trees_of};
+use rinqebo_origins::{RulePlace, profile_grounds};
 use rinqebo_report::Origin;
-use rinqebo_request::{Layer, path_place};
+use rinqebo_request::Layer;
 use rinqebo_rules::filtering_place;
 use std::alloc::{AllocError, Global};
 use std::collections::BTreeMap;
+
+/// A profile on the platforms of a build.
+type Profile<'c> = EvaluatableProfile<'c, NextestFilters, TargetSpecs>;
 
 /// Where the value at a key comes from that the nearest profile of a chain writes.
 fn of_chain(
@@ -60,76 +61,6 @@ fn bound_origins(
         global_timeout: of_chain(alloc, layers, chain, None, "global-timeout")?,
         benchmark_timeout: of_chain(alloc, layers, chain, Some("bench"), "global-timeout")?,
     })
-}
-
-/// The path of keys.
-fn steps_to<'k>(alloc: Global, path: &[&'k str]) -> Result<Vec<Step<'k>>, AllocError>
-    ensures { IfOk result (λ steps. map step_view steps.items ≡ map key (keys_view path.now)) }
-{
-    let mut steps = Vec::new(alloc);
-    for name in path {
-        steps.push(Step::Key(*name))?;
-    }
-    Ok(steps)
-}
-
-/// What the layer at a position writes at a path beside all profiles. The lowest layer is the
-/// default table.
-fn origin_beside(
-    alloc: Global,
-    layers: &[Layer],
-    position: usize,
-    path: &[&str],
-) -> Result<Origin, AllocError>
-    ensures { IfOk result (IsOriginBeside layers.now (keys_view path.now) position) }
-{
-    if position == 0 {
-        return Ok(Origin::DefaultTable);
-    }
-    let steps = steps_to(alloc, path)?;
-    Ok(Origin::File(path_place(layers, position, &steps)))
-}
-
-/// What the layer at a position writes at a path beside all profiles, alone.
-fn written_beside(
-    alloc: Global,
-    layers: &[Layer],
-    position: usize,
-    path: &[&str],
-) -> Result<Vec<Origin>, AllocError>
-    ensures { IfOk result (λ origins. AllZip (IsOriginBeside layers.now (keys_view path.now))
-        (position ∷ []) origins.items) }
-{
-    let mut origins = Vec::new(alloc);
-    origins.push(origin_beside(alloc, layers, position, path)?)?;
-    Ok(origins)
-}
-
-/// The position of the highest layer that writes something at a path.
-fn writing_layer(
-    alloc: Global,
-    layers: &[Layer],
-    path: &[&str],
-) -> Result<Option<usize>, AllocError>
-    ensures { let trees = trees_of layers.now in
-        IfOk result (λ found. MatchOption found (¬ Stands trees (keys_view path.now))
-        (IsHighest trees (keys_view path.now))) }
-{
-    let trees = trees_of(alloc, layers)?;
-    let found = layer_of(&trees, path);
-    Ok(found)
-}
-
-/// Where what files write at a path beside all profiles comes from: the highest layer that writes
-/// something there.
-fn origins_beside(alloc: Global, layers: &[Layer], path: &[&str]) -> Result<Vec<Origin>, AllocError>
-    ensures { IfOk result (λ origins.
-        AreOriginsBeside layers.now (keys_view path.now) origins.items) }
-{
-    match writing_layer(alloc, layers, path)? {
-        Some(position) => written_beside(alloc, layers, position, path),
-        None => built_in(alloc),
-    }
 }
 
 /// Where what a run shows and stores comes from.

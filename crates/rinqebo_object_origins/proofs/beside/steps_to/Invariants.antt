@@ -1,7 +1,7 @@
 use Rattle.std.proofs.Common.{◌≡◌, map, take}
 use Rattle.nextest_documents.specs.Layers.{keys_view}
 use Rattle.rinqebo_origins.specs.Origins.{key, step_view}
-use Rattle.rinqebo_results.proofs.object_origins.steps_to.Given as goal
+use Rattle.rinqebo_object_origins.proofs.beside.steps_to.Given as goal
 
 -- the steps so far
 abbrev pub invariant-loop-name : goal.invariant-loop-name
