@@ -1,6 +1,6 @@
 -- What standard error gets of a run whose progress is not shown: the notes on a result, or the
 -- reason why there is none.
-use Rattle.std.specs.Prelude.{◌≡◌, ◌++◌, ◌∷◌, ◌⊎◌, ◌||◌, ℕ, Bool, false, true, List, [], Option, codes, if◌then◌else◌}
+use Rattle.std.specs.Prelude.{◌≡◌, ◌++◌, ◌∷◌, ◌⊎◌, ◌||◌, ◌==◌, None, Some, decimal, ℕ, Bool, false, true, List, [], Option, codes, if◌then◌else◌}
 use Rattle.std.specs.Io.KnownBytes.{Appends}
 use Rattle.rinqebo_checks.specs.Reports.{IsReportOf}
 use Rattle.rinqebo_load.specs.SessionOf.{IsSessionOf}
@@ -96,6 +96,15 @@ abbrev pub findings_beside : Report → Format → Colour → List ℕ
 findings_beside report format colour =
     if is_check report.content || is_json format then []
     else page_text colour (findings_runs report)
+
+-- what the note of a check says of how many filters were not looked up, if there are any
+abbrev pub open_filters_text : ℕ → Option (List ℕ)
+open_filters_text count =
+    if count == 0 then None
+    else if count == 1
+    then Some (codes "1 filter uses `deps()` or `rdeps()`, and was not looked up; give `--metadata FILE`")
+    else Some (decimal count
+    ++ codes " filters use `deps()` or `rdeps()`, and were not looked up; give `--metadata FILE`")
 
 -- What standard error gets of a result: the page of its findings, and then lines of notes.
 abbrev pub HasNotes : Request → Report → List ℕ → Type 0

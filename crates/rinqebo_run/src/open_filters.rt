@@ -1,4 +1,7 @@
 //! The note of `check` about filters that were not looked up.
+ghost use Rattle.std.specs.Prelude.{◌≡◌, ℕ, IfOk, option_map, string_bytes};
+ghost use Rattle.rinqebo_results.specs.StandardError.{open_filters_text};
+
 use filter_engine::NextestFilters;
 use nextest_config::Filters;
 use nextest_rules::{CompiledOverride, CompiledProfile, CompiledProfileScripts};
@@ -80,7 +83,10 @@ pub fn open_filters_note(
     alloc: Global,
     session: &Session<'_>,
     config: &Config,
-) -> Result<Option<String>, AllocError> {
+) -> Result<Option<String>, AllocError>
+    ensures { IfOk result (λ said. (count : ℕ) × (option_map string_bytes said
+        ≡ open_filters_text count)) }
+{
     let count = count_open_filters(alloc, session, config)?;
     match count {
         0 => Ok(None),
