@@ -1,5 +1,6 @@
 -- Notes on the variables that override all files.
 use Rattle.std.specs.Prelude.{◌++◌, ◌∷◌, ◌&&◌, ◌||◌, ◌==◌, ℕ, Bool, false, true, List, [], Option, String, codes, if◌then◌else◌, is_some, length}
+use Rattle.std.specs.declared.alloc.Global.{Global}
 use Rattle.std.specs.Borrow.{Bor}
 use Rattle.std.specs.List.{list_any}
 use Rattle.std.specs.Str.{bytes_eq}
@@ -45,7 +46,7 @@ note_text name setting =
     ++ (codes "` from it, whatever the files say" ++ 10 ∷ [])
 
 -- the note on a variable, if it is set, and if the user requests its setting
-abbrev pub note_on : Question → List ℕ → Option String → Setting → List ℕ
+abbrev pub note_on : Question → List ℕ → Option (String Global) → Setting → List ℕ
 note_on question name variable setting =
     if is_some (text_set variable) && requests question setting then note_text name setting else []
 

@@ -1,5 +1,6 @@
 -- The variables that the program reads from its process.
 use Rattle.std.specs.Prelude.{◌≡◌, ◌==◌, ℕ, List, None, Option, Some, String, codes, if◌then◌else◌, length, option_and_then, option_map, string_bytes}
+use Rattle.std.specs.declared.alloc.Global.{Global}
 use Rattle.nextest_elements.specs.declared.experimental.ConfigExperimental.{ConfigExperimental}
 use Rattle.nextest_elements.specs.declared.experimental.ConfigExperimental.TheVariants as features
 use Rattle.rinqebo_request.specs.declared.environment.Environment.{Environment}
@@ -9,11 +10,11 @@ abbrev pub some_text : List ℕ → Option (List ℕ)
 some_text text = if length text == 0 then None else Some text
 
 -- the text of a variable, if it is set and not empty
-abbrev pub text_set : Option String → Option (List ℕ)
+abbrev pub text_set : Option (String Global) → Option (List ℕ)
 text_set variable = option_and_then some_text (option_map string_bytes variable)
 
 -- the variable that enables a feature
-abbrev pub feature_variable : ConfigExperimental → Environment → Option String
+abbrev pub feature_variable : ConfigExperimental → Environment → Option (String Global)
 feature_variable features.SetupScripts environment = environment.setup_scripts
 feature_variable features.WrapperScripts environment = environment.wrapper_scripts
 

@@ -1,5 +1,6 @@
 -- What standard error gets of a run.
 use Rattle.std.proofs.Common.{[], Bool, append-nil, append_assoc, false, true, ◌≡◌, ◌∙◌, ◌⊎◌, ◌++◌, inl, inr, ℕ, List, Option, Result, Ok, Err, IfOk, MatchOption, MatchResult, None, Some, ap, refl, string_bytes, subst, sym}
+use Rattle.std.specs.declared.alloc.Global.{Global}
 use Rattle.std.specs.Prelude.{AllocError, String}
 use Rattle.std.specs.Io.KnownBytes.{Appends}
 use Rattle.std.proofs.KnownBytes.{Appends-nil, Appends-trans}
@@ -25,7 +26,7 @@ use Rattle.rinqebo_results.specs.StandardError.{AddsNotes, AreNotes, GetsBefore,
 use Rattle.rinqebo_results.specs.Statuses.{failure_status}
 
 -- a message that is the reason
-pub by_message : (failure : Failure) (request : Request) (status n : ℕ) (old new : Option (List ℕ)) (message : Result String AllocError)
+pub by_message : (failure : Failure) (request : Request) (status n : ℕ) (old new : Option (List ℕ)) (message : Result (String Global) AllocError)
     → n ≡ failure_status failure → IfOk message (λ text. IsReason failure request (string_bytes text))
     → (status ≡ 6) ⊎ MatchResult message (λ text. (status ≡ n) × Appends old new (string_bytes text)) (λ _. (status ≡ 5) × Appends old new memory_message)
     → (status ≡ 6) ⊎ GetsReason failure request status old new
