@@ -1,7 +1,8 @@
 -- What standard error gets of a run.
 use Rattle.std.proofs.Common.{[], Bool, append-nil, append_assoc, false, true, ◌≡◌, ◌∙◌, ◌⊎◌, ◌++◌, inl, inr, ℕ, List, Option, Result, Ok, Err, IfOk, MatchOption, MatchResult, None, Some, ap, refl, string_bytes, subst, sym}
 use Rattle.std.specs.declared.alloc.Global.{Global}
-use Rattle.std.specs.Prelude.{AllocError, String}
+use Rattle.std.specs.Prelude.{String}
+use Rattle.std.specs.declared.alloc.AllocError.{AllocError}
 use Rattle.std.specs.Io.KnownBytes.{Appends}
 use Rattle.std.proofs.KnownBytes.{Appends-nil, Appends-trans}
 use Rattle.std.specs.Prelude.{IfErr, IsErrAnd}
