@@ -48,12 +48,11 @@ pub all_named : (environment : Environment) (names : List (List ℕ)) (start mid
 all_named environment names start mid end none added named feature =
     let start_is : features_view start feature ≡ false = ap (list_any (is_feature feature)) none in
     let on : IsTrue (features_view mid feature) → IsSwitchedOn environment feature =
-        λ is. none_before (rw (← start_is) ((added feature).0 is)) in
+    λ is. none_before (rw (← start_is) ((added feature).0 is)) in
     let back : IsSwitchedOn environment feature → IsTrue (features_view mid feature) =
-        λ is. (added feature).1 (inr (among_all feature, is)) in
+    λ is. (added feature).1 (inr (among_all feature, is)) in
     let split : IsTrue (features_view mid feature) ⊎ IsTrue (is_named names feature) → IsSwitchedOn environment feature ⊎ IsTrue (is_named names feature) =
-        λ either. elim either [ inl is ↦ inl (on is) | inr is ↦ inr is ] in
-    (
+    λ either. elim either [ inl is ↦ inl (on is) | inr is ↦ inr is ] in (
       (λ is. split (or_either _ _ (sym (named feature) ∙ is))),
       (λ either. elim either [
         | inl is ↦ named feature ∙ or_left _ _ (back is)
@@ -91,9 +90,9 @@ pub one_more : (names : List (Bor (List ℕ))) (i : ℕ) (d : Bor (List ℕ)) (f
 one_more names i d f k b a below has holds =
     let left = is_named (map (λ name. name.now) (drop (i + 1) names)) f in
     let is : is_feature f k ≡ bytes_eq (get_or names i d).now (experimental_text f) =
-        same_name f k ∙ ap (λ text. bytes_eq text (experimental_text f)) has in
+    same_name f k ∙ ap (λ text. bytes_eq text (experimental_text f)) has in
     let more : is_named (map (λ name. name.now) (drop i names)) f ≡ (bytes_eq (get_or names i d).now (experimental_text f) || left) =
-        at_drop_more (λ (rest : List (Bor (List ℕ))). is_named (map (λ name. name.now) rest) f) names i d below in
+    at_drop_more (λ (rest : List (Bor (List ℕ))). is_named (map (λ name. name.now) rest) f) names i d below in
     ap (λ x. x || left) (one_named f k a b holds) ∙ moved (is_feature f k) b left ∙ ap (λ t. b || (t || left)) is
     ∙ ap (λ x. b || x) (sym more)
 

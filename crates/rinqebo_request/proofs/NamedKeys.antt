@@ -87,7 +87,7 @@ pub listed_keys : (mode : NextestRunMode) (keys : List (List ℕ)) (rows : Reque
 listed_keys mode [] rows known are = are
 listed_keys mode (key ∷ keys) rows known are =
     let some : is_no_row (with_all mode (with_key mode no_rows key) keys) ≡ false =
-        stays mode (with_key mode no_rows key) keys (known_row mode key known.0) in
+    stays mode (with_key mode no_rows key) keys (known_row mode key known.0) in
     (known, are ∙ ap (λ b. if b then None else Some (rows_by mode (key ∷ keys))) some)
 
 -- one key more was read

@@ -22,7 +22,8 @@ fn add_switched(
     features: &mut BTreeSet<ConfigExperimental>,
     environment: &Environment,
 ) -> Result<(), AllocError>
-    ensures { OnOk result (AreAdded (IsSwitchedOn environment.now) FEATURES features.old features.new) }
+    ensures { OnOk result (AreAdded (IsSwitchedOn environment.now) FEATURES features.old
+        features.new) }
 {
     for feature in FEATURES.iter() {
         add_if_switched(features, environment, *feature)?;
@@ -98,6 +99,10 @@ pub fn features(
 {
     let mut features = BTreeSet::new(alloc);
     add_switched(&mut features, environment)?;
-    add_named(alloc, &mut features, values(matches, "experimental").unwrap_or(&[]))?;
+    add_named(
+        alloc,
+        &mut features,
+        values(matches, "experimental").unwrap_or(&[]),
+    )?;
     Ok(features)
 }

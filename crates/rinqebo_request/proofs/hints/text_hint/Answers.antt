@@ -12,6 +12,10 @@ loop-known-preserved c =
 pub returns : goal.returns
 returns c =
     IfOk-weaker c.name_hint.result _ _
-    (λ hint is. (c.deref.result.now, ap (map (λ name. name.now)) c.deref.ensures.value ∙ c.loop-known.invariant
-    ∙ ap (map string_bytes) (take_all c.loop-known.known-index c.args.known.now c.loop-known-test.false), is))
+    (λ hint is. (
+      c.deref.result.now,
+      ap (map (λ name. name.now)) c.deref.ensures.value ∙ c.loop-known.invariant
+          ∙ ap (map string_bytes) (take_all c.loop-known.known-index c.args.known.now c.loop-known-test.false),
+      is,
+    ))
     c.name_hint.ensures

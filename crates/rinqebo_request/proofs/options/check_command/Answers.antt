@@ -8,10 +8,10 @@ use Rattle.rinqebo_request.proofs.options.check_command.Goals as goal
 pub returns : goal.returns
 returns c =
     let start : IsCommand (new_app (codes "check")) c.after_help.result =
-        record {
-          is = ap app_of_fields c.after_help.ensures ∙ ap app_of_fields c.about.ensures ∙ c.new.ensures.app;
-          own = ap (λ f. f.has_globals) c.after_help.ensures ∙ ap (λ f. f.has_globals) c.about.ensures ∙ c.new.ensures.local;
-        } in
+    record {
+      is = ap app_of_fields c.after_help.ensures ∙ ap app_of_fields c.about.ensures ∙ c.new.ensures.app;
+      own = ap (λ f. f.has_globals) c.after_help.ensures ∙ ap (λ f. f.has_globals) c.about.ensures ∙ c.new.ensures.local;
+    } in
     let file = after _ _ _ _ _ _ (none c.after_help.result) c.word.ensures c.in_ok-arg.ensures in
     let path = after _ _ _ _ _ _ file c.option.ensures c.in_ok-arg-2.ensures in
     let deny = after _ _ _ _ _ _ path c.option-2.ensures c.in_ok-arg-3.ensures in

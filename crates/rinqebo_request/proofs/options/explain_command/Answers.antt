@@ -8,10 +8,10 @@ use Rattle.rinqebo_request.proofs.options.explain_command.Goals as goal
 pub returns : goal.returns
 returns c =
     let start : IsCommand (new_app (codes "explain")) c.override_usage-command.result =
-        record {
-          is = ap app_of_fields c.override_usage-command.ensures ∙ ap app_of_fields c.after_help.ensures ∙ ap app_of_fields c.about.ensures ∙ c.new.ensures.app;
-          own = ap (λ f. f.has_globals) c.override_usage-command.ensures ∙ ap (λ f. f.has_globals) c.after_help.ensures ∙ ap (λ f. f.has_globals) c.about.ensures ∙ c.new.ensures.local;
-        } in
+    record {
+      is = ap app_of_fields c.override_usage-command.ensures ∙ ap app_of_fields c.after_help.ensures ∙ ap app_of_fields c.about.ensures ∙ c.new.ensures.app;
+      own = ap (λ f. f.has_globals) c.override_usage-command.ensures ∙ ap (λ f. f.has_globals) c.after_help.ensures ∙ ap (λ f. f.has_globals) c.about.ensures ∙ c.new.ensures.local;
+    } in
     let profile = c.in_ok-command-2.ensures in
     let tests = then _ _ _ _ _ c.in_ok-command.ensures profile.2 in
     let files = then _ _ _ _ _ tests c.in_ok-command-3.ensures in

@@ -8,10 +8,10 @@ use Rattle.rinqebo_request.proofs.options.list_command.Goals as goal
 pub returns : goal.returns
 returns c =
     let start : IsCommand (new_app (codes "list")) c.after_help.result =
-        record {
-          is = ap app_of_fields c.after_help.ensures ∙ ap app_of_fields c.about.ensures ∙ c.new.ensures.app;
-          own = ap (λ f. f.has_globals) c.after_help.ensures ∙ ap (λ f. f.has_globals) c.about.ensures ∙ c.new.ensures.local;
-        } in
+    record {
+      is = ap app_of_fields c.after_help.ensures ∙ ap app_of_fields c.about.ensures ∙ c.new.ensures.app;
+      own = ap (λ f. f.has_globals) c.after_help.ensures ∙ ap (λ f. f.has_globals) c.about.ensures ∙ c.new.ensures.local;
+    } in
     let list = after _ _ _ _ _ _ (none c.after_help.result) (record { is = search rules; own = search rules }) c.in_ok-arg.ensures in
     let keys = after _ _ _ _ _ _ list c.keys.ensures c.in_ok-arg-2.ensures in
     let all = after _ _ _ _ _ _ keys c.flag.ensures c.in_ok-arg-3.ensures in

@@ -8,16 +8,16 @@ use Rattle.rinqebo_request.proofs.options.program.Goals as goal
 pub returns : goal.returns
 returns c =
     let start : IsCommand bare_program c.subcommand_required.result =
-        record {
-          is = ap app_of_fields c.subcommand_required.ensures
-              ∙ ap (on_top (λ (top : Shape). record top { subcommand_required = true }))
-              (ap app_of_fields c.after_help.ensures ∙ ap app_of_fields c.version.ensures
-              ∙ ap (on_top (λ (top : Shape). record top { has_version = true }))
-              (ap app_of_fields c.about.ensures ∙ ap app_of_fields c.in_ok-bin_name.ensures.0 ∙ c.new.ensures.app));
-          own = ap (λ f. f.has_globals) c.subcommand_required.ensures ∙ ap (λ f. f.has_globals) c.after_help.ensures
-              ∙ ap (λ f. f.has_globals) c.version.ensures ∙ ap (λ f. f.has_globals) c.about.ensures
-              ∙ ap (λ f. f.has_globals) c.in_ok-bin_name.ensures.0 ∙ c.new.ensures.local;
-        } in
+    record {
+      is = ap app_of_fields c.subcommand_required.ensures
+          ∙ ap (on_top (λ (top : Shape). record top { subcommand_required = true }))
+          (ap app_of_fields c.after_help.ensures ∙ ap app_of_fields c.version.ensures
+          ∙ ap (on_top (λ (top : Shape). record top { has_version = true }))
+          (ap app_of_fields c.about.ensures ∙ ap app_of_fields c.in_ok-bin_name.ensures.0 ∙ c.new.ensures.app));
+      own = ap (λ f. f.has_globals) c.subcommand_required.ensures ∙ ap (λ f. f.has_globals) c.after_help.ensures
+          ∙ ap (λ f. f.has_globals) c.version.ensures ∙ ap (λ f. f.has_globals) c.about.ensures
+          ∙ ap (λ f. f.has_globals) c.in_ok-bin_name.ensures.0 ∙ c.new.ensures.local;
+    } in
     let explain = c.in_ok-explain_command.ensures in
     let check = c.in_ok-check_command.ensures in
     let list = c.in_ok-list_command.ensures in

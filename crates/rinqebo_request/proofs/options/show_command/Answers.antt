@@ -8,10 +8,10 @@ use Rattle.rinqebo_request.proofs.options.show_command.Goals as goal
 pub returns : goal.returns
 returns c =
     let start : IsCommand (new_app (codes "show-config")) c.after_help.result =
-        record {
-          is = ap app_of_fields c.after_help.ensures ∙ ap app_of_fields c.about.ensures ∙ c.new.ensures.app;
-          own = ap (λ f. f.has_globals) c.after_help.ensures ∙ ap (λ f. f.has_globals) c.about.ensures ∙ c.new.ensures.local;
-        } in
+    record {
+      is = ap app_of_fields c.after_help.ensures ∙ ap app_of_fields c.about.ensures ∙ c.new.ensures.app;
+      own = ap (λ f. f.has_globals) c.after_help.ensures ∙ ap (λ f. f.has_globals) c.about.ensures ∙ c.new.ensures.local;
+    } in
     let keys = after _ _ _ _ _ _ (none c.after_help.result) c.keys.ensures c.in_ok-arg.ensures in
     let hidden = after _ _ _ _ _ _ keys c.flag-hidden.ensures c.in_ok-arg-2.ensures in
     let profile = after _ _ _ _ _ _ hidden c.profile.ensures c.in_ok-command.ensures in

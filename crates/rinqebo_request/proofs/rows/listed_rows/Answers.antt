@@ -24,7 +24,7 @@ returns-in-Some c =
     let line = line_of c.args.matches.now in
     let named = c.in_ok-named.ensures in
     let by : Some c.in-Some.key.now ≡ value_at (codes "by") line =
-        sym (ap (option_map (λ text. text.now)) c.in-Some.is) ∙ c.value-by.ensures in
+    sym (ap (option_map (λ text. text.now)) c.in-Some.is) ∙ c.value-by.ensures in
     IfOk-weaker c.grouping_row.result _ _
     (λ rows is. (
       false,
@@ -39,8 +39,7 @@ returns-in-None c =
     let line = line_of c.args.matches.now in
     let named = c.in_ok-named.ensures in
     let by : None ≡ value_at (codes "by") line =
-        sym (ap (option_map (λ text. text.now)) c.in-None.is) ∙ c.value-by.ensures in
-    (
+    sym (ap (option_map (λ text. text.now)) c.in-None.is) ∙ c.value-by.ensures in (
       false,
       subst (IsFlag (codes "all") line) c.if-is_on.false c.is_on.ensures,
       subst (λ by. AreRowsBy c.args.mode false by (keys_of line) c.named_or_decided.result) by
