@@ -68,7 +68,7 @@ fn defined_row(alloc: Global, row: &str) -> Result<Option<TargetRow<'_>>, AllocE
     }
 }
 
-/// Prints a row, and the result of reading its text, or its value on the platform that the row names.
+/// Prints a row, and the reading of its text, or its value on the platform that the row names.
 fn print_result(out: &mut Output, defined: &[TargetRow<'_>], row: &str) {
     let Some((text, platform)) = row.split_once('\t') else {
         return out.refuse();

@@ -1,7 +1,8 @@
 //! Reports in each of their forms, and the pages of codes.
 //!
-//! A row has words with tabs between them, in which `\n`, `\r`, `\t`, `\e` and `\\` are the end of a
-//! line, a carriage return, a tab, an escape and a backslash; `-` means nothing. It is one of these:
+//! A row has words with tabs between them, in which `\n`, `\r`, `\t`, `\e` and `\\` are the end of
+//! a line, a carriage return, a tab, an escape and a backslash; `-` means nothing. It is one of
+//! these:
 //!
 //! | Line | Meaning |
 //! |---|---|
@@ -59,7 +60,7 @@ pub use builder::Builder;
 use line::Line;
 use print::print_line;
 
-/// Prints what a row asks for: of most, nothing.
+/// Prints the result of a row. Most rows have none.
 pub fn answer_to(out: &mut Output, builder: &mut Builder, row: &str) {
     let words = words_of(out, row);
     let mut line = Line {

@@ -18,7 +18,7 @@ use crate::row::Output;
 use paths::print_place;
 use shown::{print_cuts, print_items, print_nodes, print_tokens};
 
-/// Prints what a row asks for.
+/// Prints the result of a row.
 pub fn answer_to(out: &mut Output, row: &str) {
     let Some((word, row)) = row.split_once('\t') else {
         return out.refuse();

@@ -6,7 +6,7 @@ use crate::row::{Output, RowError, found};
 use rinqebo_report::{Colour, Format, Paper, Report, nearest_name, render, render_findings};
 use std::alloc::AllocError;
 
-/// Prints what a line asks for: of most, nothing.
+/// Prints the result of a line. Most lines have none.
 pub fn print_line(out: &mut Output, builder: &mut Builder, line: &mut Line<'_>) {
     match line.word(0) {
         "print" => print_report(out, builder, line),

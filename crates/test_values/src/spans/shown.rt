@@ -190,8 +190,8 @@ fn token_word(kind: &TokenKind) -> &'static str {
     }
 }
 
-/// Prints of each item of a document `+` or `-`: whether a part of a key leads to a node, and whether
-/// a value reads as its node. A text that is not a document prints `none`.
+/// Prints of each item of a document `+` or `-`: whether a part of a key leads to a node, and
+/// whether a value reads as its node. A text that is not a document prints `none`.
 pub fn print_nodes(out: &mut Output, text: &str) {
     match toml::table_from_str(out.alloc, text) {
         Ok(table) => print_nodes_of(out, text, &Value::Table(table)),

@@ -46,8 +46,8 @@ pub fn read_groups(out: &mut Output, tree: &Tree, walk: &mut Walk) {
     }
 }
 
-/// Prints how many tests run at a time by the `threads` of a table, on a machine with its `cpus`, or
-/// the fault.
+/// Prints how many tests run at a time by the `threads` of a table, on a machine with its `cpus`,
+/// or the fault.
 pub fn test_thread_count(out: &mut Output, table: &Tree, walk: &mut Walk) {
     let (Some(threads), Some(cpus)) = (table.get("threads"), count(table, "cpus")) else {
         return out.refuse();
