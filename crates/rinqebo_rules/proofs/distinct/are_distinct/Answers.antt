@@ -14,12 +14,12 @@ loop-place-preserved c =
     let firsts = c.loop-place.firsts.items in
     elim c.if-not-is_behind.branch [
       | then-not-is_behind+else-is_of_some+in_ok-push w ↦
-          first_more places n firsts _ _ c.loop-place-test.true refl c.loop-place.last w.deref.result.now
+          first_more places n firsts _ _ c.loop-place-test.true c.place-item.is c.loop-place.last w.deref.result.now
           c.if-not-is_behind.firsts.items (ap items w.firsts-is ∙ w.in_ok-push.ensures.items) w.deref.ensures.value
           (w.is_of_some.ensures w.if-is_of_some.false) c.loop-place.invariant
       | else-not-is_behind w ↦
           let holds : c.is_behind.result ≡ true = search rules in
-          behind_more places n firsts _ _ c.loop-place-test.true refl c.loop-place.last c.if-not-is_behind.firsts.items
+          behind_more places n firsts _ _ c.loop-place-test.true c.place-item.is c.loop-place.last c.if-not-is_behind.firsts.items
           (ap items w.firsts-is) (c.is_behind.ensures holds) c.loop-place.invariant
     ]
 
