@@ -125,28 +125,26 @@ has_test from test pair has =
 pub pairs_none : (from : List ListTest) → ArePairs from [] []
 pairs_none from = record { rights = refl; each = All-nil (IsPairOf from) }
 
--- a test that the left list does not have adds no pair
-pub pairs_kept : (from done more : List ListTest) (test : ListTest) (pairs : List TestPair) → more ≡ done ++ test ∷ []
-    → is_in from test ≡ false → ArePairs from done pairs → ArePairs from more pairs
-pairs_kept from done more test pairs is none are = record {
-  rights = are.rights ∙ sym (append-nil (filter (is_in from) done))
-      ∙ ap (λ b. filter (is_in from) done ++ cond b (test ∷ []) []) (sym none)
-      ∙ sym (filter-append (is_in from) done (test ∷ [])) ∙ ap (filter (is_in from)) (sym is);
-  each = are.each;
+-- a test that the left list does not have has no pair
+pub pair_lacking : (from : List ListTest) (test : ListTest) → is_in from test ≡ false → ArePairs from (test ∷ []) []
+pair_lacking from test none = record {
+  rights = ap (λ b. cond b (test ∷ []) []) (sym none);
+  each = All-nil (IsPairOf from);
 }
 
--- the pair of one more test is added
-pub pairs_more : (from done more : List ListTest) (test : ListTest) (pairs : List TestPair) (pair : TestPair)
-    → more ≡ done ++ test ∷ [] → HasPair from test pair → ArePairs from done pairs
-    → ArePairs from more (pairs ++ pair ∷ [])
-pairs_more from done more test pairs pair is has are =
-    let right : TestPair → ListTest = λ p. p.to in
-    let kept = filter (is_in from) done in
-    record {
-      rights = map-append right pairs (pair ∷ [])
-          ∙ (λ j. are.rights j ++ has.right j ∷ [])
-          ∙ ap (λ b. kept ++ cond b (test ∷ []) []) (sym (has_test from test pair has))
-          ∙ sym (filter-append (is_in from) done (test ∷ [])) ∙ ap (filter (is_in from)) (sym is);
-      each = All-append (IsPairOf from) pairs (pair ∷ []) are.each
-          (All-cons (IsPairOf from) pair [] has.is_pair (All-nil (IsPairOf from)));
-    }
+-- the pair of a test
+pub pair_one : (from : List ListTest) (test : ListTest) (pair : TestPair) → HasPair from test pair
+    → ArePairs from (test ∷ []) (pair ∷ [])
+pair_one from test pair has = record {
+  rights = (λ i. has.right i ∷ []) ∙ ap (λ b. cond b (test ∷ []) []) (sym (has_test from test pair has));
+  each = All-cons (IsPairOf from) pair [] has.is_pair (All-nil (IsPairOf from));
+}
+
+-- the pairs of tests behind others
+pub pairs_behind : (from xs ys : List ListTest) (ps qs : List TestPair) → ArePairs from xs ps → ArePairs from ys qs
+    → ArePairs from (xs ++ ys) (ps ++ qs)
+pairs_behind from xs ys ps qs one two = record {
+  rights = map-append (λ (p : TestPair). p.to) ps qs ∙ (λ i. one.rights i ++ two.rights i)
+      ∙ sym (filter-append (is_in from) xs ys);
+  each = All-append (IsPairOf from) ps qs one.each two.each;
+}
