@@ -5,7 +5,7 @@ use Rattle.std.specs.Str.Iter.{HasSubslice}
 use Rattle.regex_syntax.specs.Grammar.{read}
 use Rattle.regex_syntax.specs.Verdict.{default_config}
 use Rattle.std.proofs.lemmas.Bool.Decides.{Decides-at}
-use Rattle.nextest_engines.specs.Engines.{Test}
+use Rattle.nextest_engines.specs.Engines.{Test, RefusalText}
 use Rattle.nextest_engines.specs.declared.queries.FiltersetKind.{FiltersetKind}
 use Rattle.filter_language.specs.declared.fault.FaultKind.{FaultKind}
 use Rattle.filter_language.specs.declared.fault.FiltersetFault.{FiltersetFault}
@@ -21,7 +21,6 @@ use Rattle.filter_language.specs.Filters.{filter_in}
 use Rattle.filter_language.specs.Filtersets.{says_true}
 use Rattle.filter_language.specs.Formula.{Pattern, Question, Always, Never, TheDefault, OfPlatform, OfName, Formula, Asks, Negated, Both, Either, Without, Grouped}
 use Rattle.filter_language.specs.Grammar.{Mark, Asked, NotMark, OpenMark, CloseMark, AndMark, OrMark, MinusMark, written}
-use Rattle.filter_language.specs.Messages.{message}
 use Rattle.filter_language.specs.Predicates.{Compiler}
 use Rattle.filter_language.specs.Truth.{NameHas, Answers, Holds}
 use Rattle.filter_language.specs.Values.{package_name, field_answer, answer, of_test}
@@ -41,6 +40,7 @@ use Rattle.filter_engine.specs.declared.engine.Packages.{Packages}
 use Rattle.filter_engine.specs.declared.engine.Packages.TheVariants.{Known, Unknown, Open}
 use Rattle.filter_engine.specs.Compiling.{sought, reads_packages, compiled_in}
 use Rattle.filter_engine.specs.Engine.{Filter, read_filter, is_among, filter_holds}
+use Rattle.filter_engine.specs.Refusals.{fault_refusal}
 use Rattle.filter_engine.specs.Names.{nests_within, if_small, question_in, asks}
 use Rattle.filter_engine.specs.Truth.{NameMeets, FieldMeets, PatternMeets, QuestionMeets, IsTrueOf, FiltersTellTheTruth, IsReadAs, IsInDepsBy, IsInRdepsBy}
 use Rattle.filter_engine.proofs.Asks.{regex_found, asks_decides, regex_asked, glob_asked}
@@ -251,8 +251,8 @@ module _ (engine : NextestFilters) where
 
   -- What is read is written.
   read_itself : (found : Result Filter FiltersetFault) (filter : Filter)
-      → result_map_both (λ (m : Filter). m) message found ≡ Ok filter → found ≡ Ok filter
-  read_itself (Ok marks) filter e = ap Ok (ok_value {E = List ℕ} marks filter e)
+      → result_map_both (λ (m : Filter). m) fault_refusal found ≡ Ok filter → found ≡ Ok filter
+  read_itself (Ok marks) filter e = ap Ok (ok_value {E = RefusalText} marks filter e)
   read_itself (Err fault) filter e = absurd (cc)
 
   is_filter : (kind : FiltersetKind) (text : List ℕ) (filter : Filter) → read_filter engine kind text ≡ Ok filter

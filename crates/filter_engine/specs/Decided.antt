@@ -10,14 +10,14 @@ use Rattle.filter_language.specs.Decided.{default_filters_answer}
 use Rattle.filter_language.specs.Filters.{filter_in}
 use Rattle.filter_language.specs.Filtersets.{says_true}
 use Rattle.filter_language.specs.Leaves.{leaves}
-use Rattle.filter_language.specs.Messages.{message}
 use Rattle.filter_engine.specs.declared.engine.NextestFilters.{NextestFilters}
 use Rattle.filter_engine.specs.Compiling.{reads_packages, compiled_in}
 use Rattle.filter_engine.specs.Engine.{Filter, read_filter, is_among, filter_holds, filter_holds_binary}
+use Rattle.filter_engine.specs.Refusals.{fault_refusal}
 
--- What is read without a message is read.
+-- What is read without a refusal is read.
 read_itself : (found : Result Filter FiltersetFault) (m : Filter)
-    → result_map_both (λ marks. marks) message found ≡ Ok m → found ≡ Ok m
+    → result_map_both (λ marks. marks) fault_refusal found ≡ Ok m → found ≡ Ok m
 read_itself (Ok marks) m e = cc
 read_itself (Err fault) m e = absurd (cc)
 

@@ -2,13 +2,13 @@
 ghost use Rattle.std.specs.Prelude.{◌≡◌, ◌+◌, ◌<◌, ◌^◌, [], Ok, Err, IfOk, IfErr, refl};
 ghost use Rattle.filter_language.specs.Filtersets.{marks_view};
 ghost use Rattle.filter_language.specs.Leaves.{leaves};
-ghost use Rattle.nextest_engines.specs.Engines.{refusal_message, IfFilterRefused, PointsInto};
+ghost use Rattle.nextest_engines.specs.Engines.{span_view, refusal_view, IfFilterRefused, PointsInto};
 ghost use Rattle.filter_engine.specs.Compiling.{names_of};
 ghost use Rattle.filter_engine.specs.Open.{asks_for_packages, is_open, leaves_open};
 ghost use Rattle.filter_engine.specs.declared.engine.Packages.TheVariants.{Known, Unknown, Open};
 ghost use Rattle.filter_engine.specs.Decided.{default_filter_answers, filters_speak};
 ghost use Rattle.filter_engine.specs.Engine.{Filter, read_filter, everything, filter_holds, filter_holds_binary};
-ghost use Rattle.filter_engine.specs.Refusals.{IsSpanOf, Says, SaysFirstFault};
+ghost use Rattle.filter_engine.specs.Refusals.{fault_span, fault_refusal};
 
 use crate::compiling::FieldMatcher;
 use crate::machine::SearchTable;
@@ -132,7 +132,7 @@ fn asks_for_packages(filter: &Filterset<FieldMatcher>) -> bool
 /// The bytes of a fault, and what is wrong with them.
 fn span_of(alloc: Global, fault: FiltersetFault) -> Result<LabeledSpan, AllocError>
     requires { fault.span.start + fault.span.length < 2 ^ 64 }
-    ensures { IfOk result (IsSpanOf fault) }
+    ensures { IfOk result (λ span. span_view span ≡ fault_span fault) }
 {
     let start = fault.span.start;
     Ok(LabeledSpan {
@@ -144,7 +144,7 @@ fn span_of(alloc: Global, fault: FiltersetFault) -> Result<LabeledSpan, AllocErr
 /// The refusal that says what a fault is, and where.
 fn refusal_of(alloc: Global, fault: FiltersetFault) -> Result<Refusal, AllocError>
     requires { fault.span.start + fault.span.length < 2 ^ 64 }
-    ensures { IfOk result (Says fault) }
+    ensures { IfOk result (λ refusal. refusal_view refusal ≡ fault_refusal fault) }
 {
     let message = format!(in alloc; "{fault}")?;
     Ok(Refusal {
@@ -156,7 +156,7 @@ fn refusal_of(alloc: Global, fault: FiltersetFault) -> Result<Refusal, AllocErro
 /// The refusal of a text that has a fault.
 fn refused(alloc: Global, fault: FiltersetFault) -> FilterFault
     requires { fault.span.start + fault.span.length < 2 ^ 64 }
-    ensures { IfFilterRefused result (Says fault) }
+    ensures { IfFilterRefused result (λ refusal. refusal ≡ fault_refusal fault) }
 {
     match refusal_of(alloc, fault) {
         Ok(refusal) => FilterFault::Refused(refusal),
@@ -183,7 +183,7 @@ impl Filters for NextestFilters {
 
     ghost leaves = { leaves };
 
-    #[tactic(auto, using(crate::proofs::Readings::read_ok, crate::proofs::Readings::read_err, crate::proofs::Readings::points_into, crate::proofs::Readings::first_fault))]
+    #[tactic(auto, using(crate::proofs::Readings::read_ok, crate::proofs::Readings::read_err, crate::proofs::Readings::points_into))]
     fn parse(
         &self,
         alloc: Global,
@@ -193,10 +193,8 @@ impl Filters for NextestFilters {
         ensures ok { IfOk result
             (λ filter. read_filter self.now kind text.now ≡ Ok (marks_view names_of filter)) }
         ensures err { IfErr result (λ fault. IfFilterRefused fault
-            (λ refusal. read_filter self.now kind text.now ≡ Err (refusal_message refusal))) }
+            (λ refusal. read_filter self.now kind text.now ≡ Err refusal)) }
         ensures span { IfErr result (λ fault. IfFilterRefused fault (PointsInto text.now)) }
-        ensures first { IfErr result (λ fault. IfFilterRefused fault
-            (SaysFirstFault self.now kind text.now)) }
     {
         match Filterset::parse(self, alloc, text, kind) {
             Ok(filter) => Ok(filter),

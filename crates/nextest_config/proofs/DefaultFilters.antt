@@ -4,6 +4,7 @@ use Rattle.std.specs.List.{cons_option, enumerate_from, filter_map}
 use Rattle.std.specs.Map.{lookup}
 use Rattle.std.specs.Option.{option_or}
 use Rattle.std.specs.Result.{result_ok}
+use Rattle.nextest_engines.specs.Engines.{RefusalText}
 use Rattle.nextest_engines.specs.Readings.{Readings}
 use Rattle.nextest_engines.specs.declared.queries.BuildPlatforms.{BuildPlatforms}
 use Rattle.nextest_engines.specs.declared.queries.FiltersetKind.TheVariants.{DefaultFilter}
@@ -54,7 +55,7 @@ counts P (Some x) b other h k = inl h
 counts P None (Some y) other h k = inl k
 counts P None None other h k = inr refl
 
-text_read : {M : Type 0} (read : List ℕ → Result M (List ℕ)) (t : List ℕ) (r : Result M (List ℕ)) → read t ≡ r
+text_read : {M : Type 0} (read : List ℕ → Result M RefusalText) (t : List ℕ) (r : Result M RefusalText) → read t ≡ r
     → let here : M → WrittenFilter M = λ m. record { means = m; text = t } in
     IfSome (option_map here (result_ok r)) (λ w. read w.text ≡ Ok w.means)
 text_read read t (Ok m) is = is

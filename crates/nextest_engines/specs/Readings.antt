@@ -1,6 +1,6 @@
 -- What engines make of texts: all that a statement about a configuration knows of them.
 use Rattle.std.specs.Prelude.{ℕ, List, Bool, Option, Result}
-use Rattle.nextest_engines.specs.Engines.{Test, Binary}
+use Rattle.nextest_engines.specs.Engines.{Test, Binary, RefusalText}
 use Rattle.nextest_engines.specs.declared.filters.Filters as filters
 use Rattle.nextest_engines.specs.declared.parse_context.ParseContext.{ParseContext}
 use Rattle.nextest_engines.specs.declared.platforms.Specs as platforms
@@ -13,10 +13,10 @@ Text = List ℕ
 -- What two engines make of texts: M is what filters mean, K what platform specs mean, P the
 -- platforms.
 pub record Readings (M K P : Type 0) : Type 0 where
-  -- what the text of a filter means that is written for something, or the message of its refusal
-  pub read_filter : FiltersetKind → Text → Result M Text
-  -- what the text of a platform spec means, or the message of its refusal
-  pub read_spec : Text → Result K Text
+  -- what the text of a filter means that is written for something, or its refusal
+  pub read_filter : FiltersetKind → Text → Result M RefusalText
+  -- what the text of a platform spec means, or its refusal
+  pub read_spec : Text → Result K RefusalText
   -- the meaning of the filter that matches everything
   pub match_all : M
   -- whether a filter matches a test, where the default filter has the second meaning

@@ -3,7 +3,7 @@
 //! The library never looks into an expression. It speaks of what the text of a rule means to the
 //! engine that reads it.
 ghost use Rattle.std.specs.Prelude.{◌≡◌, ◌++◌, ◌∷◌, [], List, ℕ, Bool, true, Option, Some, Result, Ok, Err, IfOk, IfErr, IsSome, map, string_bytes};
-ghost use Rattle.nextest_engines.specs.Engines.{Test, Binary, test_view, binary_view, refusal_message, IfFilterRefused, PointsInto};
+ghost use Rattle.nextest_engines.specs.Engines.{Test, Binary, RefusalText, test_view, binary_view, IfFilterRefused, PointsInto};
 ghost use Rattle.nextest_engines.specs.declared.queries.FiltersetKind.{FiltersetKind};
 ghost use Rattle.nextest_engines.specs.declared.queries.FiltersetKind.TheVariants.{DefaultFilter};
 
@@ -46,8 +46,9 @@ pub trait Filters {
     /// What an expression means.
     ghost meaning: { Self.Expr → Meaning };
 
-    /// What a text means that is read for a kind, or the message with which it is refused.
-    ghost read: { Self → FiltersetKind → List ℕ → Result Meaning (List ℕ) };
+    /// What a text means that is read for a kind, or its refusal: the message, and the part of the
+    /// text that is at fault, if the engine has one.
+    ghost read: { Self → FiltersetKind → List ℕ → Result Meaning RefusalText };
 
     /// The meaning of the filter that matches everything.
     ghost match_all: { Meaning };
@@ -71,7 +72,7 @@ pub trait Filters {
         ensures ok { IfOk result (λ expr. read self.now kind text.now ≡ Ok (meaning expr)) }
         ensures err { IfErr result
             (λ fault. IfFilterRefused fault
-            (λ refusal. read self.now kind text.now ≡ Err (refusal_message refusal))) }
+            (λ refusal. read self.now kind text.now ≡ Err refusal)) }
         ensures span { IfErr result (λ fault. IfFilterRefused fault (PointsInto text.now)) };
 
     /// The filter that matches everything. It takes no memory.

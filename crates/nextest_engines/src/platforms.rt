@@ -1,6 +1,6 @@
 //! The language of platforms.
 ghost use Rattle.std.specs.Prelude.{◌≡◌, List, ℕ, Bool, Option, Result, Ok, Err, IfOk, IfErr};
-ghost use Rattle.nextest_engines.specs.Engines.{refusal_message, IfSpecRefused, PointsInto};
+ghost use Rattle.nextest_engines.specs.Engines.{RefusalText, IfSpecRefused, PointsInto};
 
 use crate::refusal::Refusal;
 use std::alloc::Global;
@@ -30,8 +30,9 @@ pub trait Specs {
     /// What a spec means.
     ghost spec_meaning: { Self.Spec → SpecMeaning };
 
-    /// What a text means, or the message with which it is refused.
-    ghost read_spec: { Self → List ℕ → Result SpecMeaning (List ℕ) };
+    /// What a text means, or its refusal: the message, and the part of the text that is at fault, if
+    /// the engine has one.
+    ghost read_spec: { Self → List ℕ → Result SpecMeaning RefusalText };
 
     /// Whether a platform meets a spec, or none where that is unknown.
     ghost holds_on: { SpecMeaning → Self.Platform → Option Bool };
@@ -41,7 +42,7 @@ pub trait Specs {
         ensures ok { IfOk result (λ spec. read_spec self.now text.now ≡ Ok (spec_meaning spec)) }
         ensures err { IfErr result
             (λ fault. IfSpecRefused fault
-            (λ refusal. read_spec self.now text.now ≡ Err (refusal_message refusal))) }
+            (λ refusal. read_spec self.now text.now ≡ Err refusal)) }
         ensures span { IfErr result (λ fault. IfSpecRefused fault (PointsInto text.now)) };
 
     /// Whether a platform meets a spec, or `None` where that is unknown.

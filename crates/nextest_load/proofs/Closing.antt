@@ -10,7 +10,7 @@ use Rattle.std.proofs.lemmas.List.{map-append, reverse-append}
 use Rattle.nextest_elements.specs.TestGroup.{custom_group_text}
 use Rattle.nextest_elements.specs.declared.test_group.TestGroup.{TestGroup}
 use Rattle.nextest_elements.specs.declared.test_group.TestGroup.TheVariants as groups
-use Rattle.nextest_engines.specs.Engines.{Binary}
+use Rattle.nextest_engines.specs.Engines.{Binary, RefusalText}
 use Rattle.nextest_engines.specs.Readings.{Readings}
 use Rattle.nextest_engines.specs.declared.queries.FiltersetKind.TheVariants.{DefaultFilter}
 use Rattle.nextest_inheritance.specs.Faults.{is_known}
@@ -282,13 +282,13 @@ module _ {M K P : Type 0} (engines : Readings M K P) where
   fine_lists known [] h = tt
   fine_lists known (p ∷ ps) h = (h.0.lists, fine_lists known ps h.1)
 
-  answers_at : (law : AnswerDefaultFilters engines) (t : List ℕ) (read : Result M (List ℕ))
+  answers_at : (law : AnswerDefaultFilters engines) (t : List ℕ) (read : Result M RefusalText)
       → engines.read_filter DefaultFilter t ≡ read
       → ((m : M) → engines.read_filter DefaultFilter t ≡ Ok m → engines.leaves m ≡ [])
       → IfWritten (result_ok read)
       (λ m. (binary : Binary) (default : M) → IsSome (engines.matches_binary m binary default))
   answers_at law t (Ok m) is none = law t m is (none m is)
-  answers_at law t (Err message) is none = tt
+  answers_at law t (Err refusal) is none = tt
 
   answers_with : (law : AnswerDefaultFilters engines) (filter : Option (List ℕ))
       → ((t : List ℕ) (m : M) → filter ≡ Some t → engines.read_filter DefaultFilter t ≡ Ok m → engines.leaves m ≡ [])

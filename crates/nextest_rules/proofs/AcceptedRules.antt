@@ -1,5 +1,5 @@
 -- The rules of a source have no fault exactly if they are accepted.
-use Rattle.std.proofs.Common.{◌≡◌, ◌↔◌, ⊎_elim, ℕ, List, [], ◌∷◌, ◌++◌, length, map, filter, flat_map, Bool, true, false, not, ◌&&◌, ◌||◌, cond, is_some, Option, Some, None, option_to_list, Result, Ok, Err, nat_cmp, refl, ap, subst, inl, inr}
+use Rattle.std.proofs.Common.{◌≡◌, ◌↔◌, ⊎_elim, ℕ, List, [], ◌∷◌, ◌++◌, length, map, filter, flat_map, Bool, true, false, not, ◌&&◌, ◌||◌, cond, is_some, Option, Some, None, Result, Ok, Err, nat_cmp, refl, ap, subst, inl, inr}
 use Rattle.std.specs.Cmp.Lexicographic.{slice_cmp}
 use Rattle.std.specs.List.{enumerate_from}
 use Rattle.std.specs.List.Sorted.{IsStrictlySortedBy}
@@ -11,6 +11,7 @@ use Rattle.nextest_tree.specs.Schema.{is_one_of}
 use Rattle.nextest_elements.specs.TestGroup.{custom_group_text}
 use Rattle.nextest_elements.specs.declared.test_group.TestGroup.{TestGroup}
 use Rattle.nextest_elements.specs.declared.test_group.TestGroup.TheVariants as groups
+use Rattle.nextest_engines.specs.Engines.{RefusalText}
 use Rattle.nextest_engines.specs.Readings.{Readings}
 use Rattle.nextest_engines.specs.declared.queries.FiltersetKind.TheVariants.{OverrideFilter, DefaultFilter}
 use Rattle.nextest_inheritance.specs.Faults.{is_known, AreSoundParents}
@@ -31,36 +32,35 @@ use Rattle.nextest_rules.specs.RuleFaults.{group_fault, unknown_groups_of, group
 use Rattle.nextest_rules.specs.Rules.{LayerProfile, override_rule, layer_profile, layer_of}
 use Rattle.nextest_rules.specs.Steps.{rule_steps, written_parents, parent_cause, compile_cause, group_cause_in, script_cause_in, empty_steps_of, empty_steps_in}
 use Rattle.nextest_rules.proofs.Passing.{iff_trans, iff_both, both_pass, check_passes, warnings_pass, if_some_none, none_of_both, each_same, each_both, each_map, flat_none}
-use Rattle.nextest_rules.proofs.EachPart.{each_in_order, each_numbered, filter_map_none, listed_none, either}
+use Rattle.nextest_rules.proofs.EachPart.{each_in_order, each_numbered, filter_map_none, either}
 use Rattle.nextest_rules.proofs.AcceptedScripts.{RuleNames, all_scripts}
 
 -- ---- compilation
 
-refused_at : {M : Type 0} (r : Result M (List ℕ)) → (result_err r ≡ None) ↔ ((m : M) × (r ≡ Ok m))
+refused_at : {M : Type 0} (r : Result M RefusalText) → (result_err r ≡ None) ↔ ((m : M) × (r ≡ Ok m))
 refused_at (Ok m) = (λ h. (m, refl), λ h. refl)
 refused_at (Err e) = (λ h. cc, λ h. absurd (err_is_ok e h.0 h.1))
   where
-    err_is_ok : {M : Type 0} (e : List ℕ) (m : M) → Err e ≡ Ok m → ⊥
+    err_is_ok : {M : Type 0} (e : RefusalText) (m : M) → Err e ≡ Ok m → ⊥
     err_is_ok e m h = cc
 
 -- a text is not refused exactly if it is read, if there is one
-read_or_none : {M : Type 0} (read : List ℕ → Result M (List ℕ)) (t : Option (List ℕ))
+read_or_none : {M : Type 0} (read : List ℕ → Result M RefusalText) (t : Option (List ℕ))
     → (refusal_of read t ≡ None) ↔ IsReadIfWritten read t
 read_or_none read None = (λ h. tt, λ h. refl)
 read_or_none read (Some t) = refused_at (read t)
 
-no_refusal : (host target : Option (List ℕ)) (filters : List (List ℕ))
-    → (parse_cause host target filters ≡ None) ↔ ((host ≡ None) × ((target ≡ None) × (filters ≡ [])))
-no_refusal None None [] = (λ h. (refl, (refl, refl)), λ h. refl)
-no_refusal None None (x ∷ xs) = (λ h. cc, λ h. cc)
-no_refusal None (Some t) filters = (λ h. cc, λ h. absurd (not_none t h.1.0))
-  where
-    not_none : {X : Type 0} (x : X) → Some x ≡ None → ⊥
-    not_none x h = cc
-no_refusal (Some h) target filters = (λ e. cc, λ e. absurd (not_none h e.0))
-  where
-    not_none : {X : Type 0} (x : X) → Some x ≡ None → ⊥
-    not_none x h = cc
+not_none : {X : Type 0} (x : X) → Some x ≡ None → ⊥
+not_none x h = cc
+
+no_refusal : (host target filter default : Option RefusalText)
+    → (parse_cause host target filter default ≡ None)
+    ↔ ((host ≡ None) × ((target ≡ None) × ((filter ≡ None) × (default ≡ None))))
+no_refusal None None None None = (λ h. (refl, (refl, (refl, refl))), λ h. refl)
+no_refusal None None None (Some d) = (λ h. cc, λ h. absurd (not_none d h.1.1.1))
+no_refusal None None (Some f) default = (λ h. cc, λ h. absurd (not_none f h.1.1.0))
+no_refusal None (Some t) filter default = (λ h. cc, λ h. absurd (not_none t h.1.0))
+no_refusal (Some h) target filter default = (λ e. cc, λ e. absurd (not_none h e.0))
 
 is_constrained : (platform : PlatformText) (filter : Option (List ℕ))
     → (has_constraint platform filter ≡ true) ↔ HasConstraint platform filter
@@ -94,18 +94,16 @@ override_compiles engines o =
     (option_or (refusal_cause texts) (cause_if two_filters (is_some o.filter && is_some o.default_filter))) in
     let inner = either_cause (refusal_cause texts)
     (cause_if two_filters (is_some o.filter && is_some o.default_filter)) in
-    let read = no_refusal texts.host texts.target texts.filters in
-    let filters = none_of_both (option_to_list (refusal_of (engines.read_filter OverrideFilter) o.filter))
-    (option_to_list (refusal_of (engines.read_filter DefaultFilter) o.default_filter)) in
+    let read = no_refusal texts.host texts.target texts.filter texts.default_filter in
     let one = not_both two_filters (is_some o.filter) (is_some o.default_filter) in (
       λ h. record {
         constraint = (is_constrained o.platform o.filter).0 (outer.0 h).0;
         host = (read_or_none engines.read_spec o.platform.host).0 (read.0 (inner.0 (outer.0 h).1).0).0;
         target = (read_or_none engines.read_spec o.platform.target).0 (read.0 (inner.0 (outer.0 h).1).0).1.0;
         filter = (read_or_none (engines.read_filter OverrideFilter) o.filter).0
-            ((listed_none _).0 (filters.0 (read.0 (inner.0 (outer.0 h).1).0).1.1).0);
+            (read.0 (inner.0 (outer.0 h).1).0).1.1.0;
         default_filter = (read_or_none (engines.read_filter DefaultFilter) o.default_filter).0
-            ((listed_none _).0 (filters.0 (read.0 (inner.0 (outer.0 h).1).0).1.1).1);
+            (read.0 (inner.0 (outer.0 h).1).0).1.1.1;
         one_filter = one.0 (inner.0 (outer.0 h).1).1;
       },
       λ c. outer.1 (
@@ -115,11 +113,9 @@ override_compiles engines o =
             (read_or_none engines.read_spec o.platform.host).1 c.host,
             (
               (read_or_none engines.read_spec o.platform.target).1 c.target,
-              filters.1 (
-                (listed_none _).1
-                    ((read_or_none (engines.read_filter OverrideFilter) o.filter).1 c.filter),
-                (listed_none _).1
-                    ((read_or_none (engines.read_filter DefaultFilter) o.default_filter).1 c.default_filter),
+              (
+                (read_or_none (engines.read_filter OverrideFilter) o.filter).1 c.filter,
+                (read_or_none (engines.read_filter DefaultFilter) o.default_filter).1 c.default_filter,
               ),
             ),
           ),
@@ -133,13 +129,13 @@ script_rule_compiles : {M K P : Type 0} (engines : Readings M K P) (r : ScriptRu
 script_rule_compiles engines r =
     let texts = script_rule_refusals engines r in
     let outer = guarded (has_constraint r.platform r.filter) (no_constraint false) (refusal_cause texts) in
-    let read = no_refusal texts.host texts.target texts.filters in (
+    let read = no_refusal texts.host texts.target texts.filter texts.default_filter in (
       λ h. record {
         constraint = (is_constrained r.platform r.filter).0 (outer.0 h).0;
         host = (read_or_none engines.read_spec r.platform.host).0 (read.0 (outer.0 h).1).0;
         target = (read_or_none engines.read_spec r.platform.target).0 (read.0 (outer.0 h).1).1.0;
         filter = (read_or_none (engines.read_filter DefaultFilter) r.filter).0
-            ((listed_none _).0 (read.0 (outer.0 h).1).1.1);
+            (read.0 (outer.0 h).1).1.1.0;
       },
       λ c. outer.1 (
         (is_constrained r.platform r.filter).1 c.constraint,
@@ -147,7 +143,7 @@ script_rule_compiles engines r =
           (read_or_none engines.read_spec r.platform.host).1 c.host,
           (
             (read_or_none engines.read_spec r.platform.target).1 c.target,
-            (listed_none _).1 ((read_or_none (engines.read_filter DefaultFilter) r.filter).1 c.filter),
+            ((read_or_none (engines.read_filter DefaultFilter) r.filter).1 c.filter, refl),
           ),
         ),
       ),
@@ -156,9 +152,9 @@ script_rule_compiles engines r =
 default_filter_compiles : {M K P : Type 0} (engines : Readings M K P) (t : Option (List ℕ))
     → (default_filter_cause engines t ≡ None) ↔ IsReadIfWritten (engines.read_filter DefaultFilter) t
 default_filter_compiles engines t =
-    let read = no_refusal None None (option_to_list (refusal_of (engines.read_filter DefaultFilter) t)) in (
-      λ h. (read_or_none (engines.read_filter DefaultFilter) t).0 ((listed_none _).0 (read.0 h).1.1),
-      λ c. read.1 (refl, (refl, (listed_none _).1 ((read_or_none (engines.read_filter DefaultFilter) t).1 c))),
+    let read = no_refusal None None None (refusal_of (engines.read_filter DefaultFilter) t) in (
+      λ h. (read_or_none (engines.read_filter DefaultFilter) t).0 (read.0 h).1.1.1,
+      λ c. read.1 (refl, (refl, (refl, (read_or_none (engines.read_filter DefaultFilter) t).1 c))),
     )
 
 no_fault_in : (name : Name) (section : RuleSection) (o : Option CompileCause)

@@ -4,6 +4,7 @@ use Rattle.std.specs.List.{enumerate_from}
 use Rattle.std.specs.Result.{result_ok}
 use Rattle.std.proofs.lemmas.Bool.{false≢true}
 use Rattle.nextest_tree.specs.Schema.{is_one_of}
+use Rattle.nextest_engines.specs.Engines.{RefusalText}
 use Rattle.nextest_engines.specs.Readings.{Readings}
 use Rattle.nextest_engines.specs.declared.queries.FiltersetKind.TheVariants.{DefaultFilter}
 use Rattle.nextest_inheritance.specs.Names.{default_first}
@@ -94,8 +95,8 @@ none_is_some h = cc
 pub err_is_ok : {X Y Z : Type 0} {x : X} {y : Y} (r : Result X Y) → r ≡ Err y → r ≡ Ok x → Z
 err_is_ok r a b = cc
 
-pub parts_at : {M : Type 0} (leaves : M → List (List ℕ)) (read : List ℕ → Result M (List ℕ)) (t : List ℕ)
-    (r : Result M (List ℕ)) → read t ≡ r
+pub parts_at : {M : Type 0} (leaves : M → List (List ℕ)) (read : List ℕ → Result M RefusalText) (t : List ℕ)
+    (r : Result M RefusalText) → read t ≡ r
     → (test_parts leaves (result_ok r) ≡ []) ↔ ((u : List ℕ) (m : M) → Some t ≡ Some u → read u ≡ Ok m → leaves m ≡ [])
 parts_at leaves read t (Ok m) is = (
   λ h u n same reads. ap leaves (sym (ok_same (read t) is (ap read (some_same same) ∙ reads)))
@@ -105,7 +106,7 @@ parts_at leaves read t (Ok m) is = (
 parts_at leaves read t (Err e) is =
     (λ h u n same reads. err_is_ok (read t) is (ap read (some_same same) ∙ reads), λ all. refl)
 
-pub parts_none : {M : Type 0} (leaves : M → List (List ℕ)) (read : List ℕ → Result M (List ℕ)) (f : Option (List ℕ))
+pub parts_none : {M : Type 0} (leaves : M → List (List ℕ)) (read : List ℕ → Result M RefusalText) (f : Option (List ℕ))
     → (test_parts leaves (meaning_of read f) ≡ []) ↔ ((t : List ℕ) (m : M) → f ≡ Some t → read t ≡ Ok m → leaves m ≡ [])
 parts_none leaves read None = (λ h t m e. none_is_some e, λ h. refl)
 parts_none leaves read (Some t) = parts_at leaves read t (read t) refl
@@ -114,7 +115,7 @@ pub with_none : (profile id : Name) (parts : List (List ℕ)) → (list_filter_w
 with_none profile id [] = (λ h. refl, λ h. refl)
 with_none profile id (x ∷ xs) = (λ h. cc, λ h. cc)
 
-pub list_filter_none : {M : Type 0} (leaves : M → List (List ℕ)) (read : List ℕ → Result M (List ℕ))
+pub list_filter_none : {M : Type 0} (leaves : M → List (List ℕ)) (read : List ℕ → Result M RefusalText)
     (known : KnownNames) (profile : Name) (f : Option (List ℕ)) (wrapper : Option Name)
     → IfWritten wrapper (IsIn known.wrapper_scripts)
     → (list_filter leaves (sets_of known) profile (meaning_of read f) wrapper ≡ None)

@@ -5,6 +5,7 @@ use Rattle.nextest_elements.specs.TestGroup.{custom_group_text}
 use Rattle.nextest_elements.specs.declared.experimental.ConfigExperimental.{ConfigExperimental}
 use Rattle.nextest_elements.specs.declared.test_group.TestGroup.{TestGroup}
 use Rattle.nextest_elements.specs.declared.test_group.TestGroup.TheVariants as groups
+use Rattle.nextest_engines.specs.Engines.{RefusalText}
 use Rattle.nextest_engines.specs.Readings.{Readings}
 use Rattle.nextest_engines.specs.declared.queries.FiltersetKind.TheVariants.{OverrideFilter, DefaultFilter}
 use Rattle.nextest_inheritance.specs.Faults.{is_known, AreSoundParents}
@@ -24,11 +25,11 @@ IfWritten None P = Unit {0}
 IfWritten (Some x) P = P x
 
 -- the engine reads a text
-abbrev pub IsRead : {M : Type 0} → (List ℕ → Result M (List ℕ)) → List ℕ → Type 0
+abbrev pub IsRead : {M : Type 0} → (List ℕ → Result M RefusalText) → List ℕ → Type 0
 IsRead {M} read t = (m : M) × (read t ≡ Ok m)
 
 -- a text is read, if there is one
-abbrev pub IsReadIfWritten : {M : Type 0} → (List ℕ → Result M (List ℕ)) → Option (List ℕ)
+abbrev pub IsReadIfWritten : {M : Type 0} → (List ℕ → Result M RefusalText) → Option (List ℕ)
     → Type 0
 IsReadIfWritten read t = IfWritten t (IsRead read)
 

@@ -1,8 +1,9 @@
 -- What does not compile: which rules have no constraint, and which texts the engines refuse.
-use Rattle.std.specs.Prelude.{ℕ, List, [], ◌++◌, Bool, false, not, ◌&&◌, ◌||◌, Option, None, Some, option_map, option_and_then, option_to_list, is_some, flat_map, Result, if◌then◌else◌}
+use Rattle.std.specs.Prelude.{ℕ, List, ◌++◌, Bool, false, not, ◌&&◌, ◌||◌, Option, None, Some, option_map, option_and_then, option_to_list, is_some, flat_map, Result, if◌then◌else◌}
 use Rattle.std.specs.List.{enumerate_from}
 use Rattle.std.specs.Option.{option_or}
 use Rattle.std.specs.Result.{result_err}
+use Rattle.nextest_engines.specs.Engines.{RefusalText}
 use Rattle.nextest_engines.specs.Readings.{Readings}
 use Rattle.nextest_engines.specs.declared.queries.FiltersetKind.{FiltersetKind}
 use Rattle.nextest_engines.specs.declared.queries.FiltersetKind.TheVariants.{OverrideFilter, DefaultFilter}
@@ -11,53 +12,50 @@ use Rattle.nextest_tables.specs.Written.{Name}
 use Rattle.nextest_sources.specs.Causes.{CompileCause, no_constraint, two_filters, parse_refusals, RuleSection, in_default_filter, in_override, in_script_rule, CompileFault}
 use Rattle.nextest_inheritance.specs.Names.{default_first}
 
--- the message with which a text is refused, if there is a text and it is
-abbrev pub refusal_of : {M : Type 0} → (List ℕ → Result M (List ℕ)) → Option (List ℕ)
-    → Option (List ℕ)
+-- the refusal of a text, if there is a text and it is refused
+abbrev pub refusal_of : {M : Type 0} → (List ℕ → Result M RefusalText) → Option (List ℕ)
+    → Option RefusalText
 refusal_of read o = option_and_then (λ t. result_err (read t)) o
 
--- the message with which the text of a filter is refused
+-- the refusal of the text of a filter
 abbrev pub filter_refusal : {M K P : Type 0} → Readings M K P → FiltersetKind → Option (List ℕ)
-    → Option (List ℕ)
+    → Option RefusalText
 filter_refusal engines kind = refusal_of (engines.read_filter kind)
 
--- the message with which a platform spec is refused
-abbrev pub spec_refusal : {M K P : Type 0} → Readings M K P → Option (List ℕ) → Option (List ℕ)
+-- the refusal of a platform spec
+abbrev pub spec_refusal : {M K P : Type 0} → Readings M K P → Option (List ℕ) → Option RefusalText
 spec_refusal engines = refusal_of engines.read_spec
 
--- the messages with which texts of a rule are refused: its host, its target, and its filters in
--- order
+-- the refusals of texts of a rule: of its host, its target, its filter and its default filter
 pub record TextRefusals : Type 0 where
-  pub host : Option (List ℕ)
-  pub target : Option (List ℕ)
-  pub filters : List (List ℕ)
+  pub host : Option RefusalText
+  pub target : Option RefusalText
+  pub filter : Option RefusalText
+  pub default_filter : Option RefusalText
 
 -- all refusals of the texts of a rule, as one cause
-abbrev pub parse_cause : Option (List ℕ) → Option (List ℕ) → List (List ℕ) → Option CompileCause
-parse_cause None None [] = None
-parse_cause host target filters = Some (parse_refusals host target filters)
+abbrev pub parse_cause : (host target filter default_filter : Option RefusalText)
+    → Option CompileCause
+parse_cause None None None None = None
+parse_cause host target filter default_filter =
+    Some (parse_refusals host target filter default_filter)
 
 -- the cause that refusals are, if there is one
 abbrev pub refusal_cause : TextRefusals → Option CompileCause
-refusal_cause r = parse_cause r.host r.target r.filters
+refusal_cause r = parse_cause r.host r.target r.filter r.default_filter
 
 -- whether a rule has a constraint: a host, a target or a filter
 abbrev pub has_constraint : PlatformText → Option (List ℕ) → Bool
 has_constraint platform filter =
     is_some platform.host || (is_some platform.target || is_some filter)
 
--- the filters of an override that are refused: its filter's message, and then its default filter's
-abbrev pub filter_refusals : {M K P : Type 0} → Readings M K P → OverrideText → List (List ℕ)
-filter_refusals engines o =
-    option_to_list (filter_refusal engines OverrideFilter o.filter)
-    ++ option_to_list (filter_refusal engines DefaultFilter o.default_filter)
-
 -- the texts of an override that are refused
 abbrev pub override_refusals : {M K P : Type 0} → Readings M K P → OverrideText → TextRefusals
 override_refusals engines o = record {
   host = spec_refusal engines o.platform.host;
   target = spec_refusal engines o.platform.target;
-  filters = filter_refusals engines o;
+  filter = filter_refusal engines OverrideFilter o.filter;
+  default_filter = filter_refusal engines DefaultFilter o.default_filter;
 }
 
 -- the texts of a script rule that are refused
@@ -65,7 +63,8 @@ abbrev pub script_rule_refusals : {M K P : Type 0} → Readings M K P → Script
 script_rule_refusals engines r = record {
   host = spec_refusal engines r.platform.host;
   target = spec_refusal engines r.platform.target;
-  filters = option_to_list (filter_refusal engines DefaultFilter r.filter);
+  filter = filter_refusal engines DefaultFilter r.filter;
+  default_filter = None;
 }
 
 -- a cause where a test passes
@@ -101,7 +100,7 @@ script_rule_cause engines r = script_rule_cause_at r (script_rule_refusals engin
 abbrev pub default_filter_cause : {M K P : Type 0} → Readings M K P → Option (List ℕ)
     → Option CompileCause
 default_filter_cause engines text =
-    parse_cause None None (option_to_list (filter_refusal engines DefaultFilter text))
+    parse_cause None None None (filter_refusal engines DefaultFilter text)
 
 -- a fault in a section of a profile, if there is a cause
 abbrev pub fault_in : Name → RuleSection → Option CompileCause → List CompileFault

@@ -6,6 +6,7 @@ use Rattle.std.specs.Map.{lookup}
 use Rattle.std.specs.BTreeMap.{is_at}
 use Rattle.std.specs.Ordering.{nat_cmp}
 use Rattle.std.specs.Cmp.Lexicographic.{slice_cmp}
+use Rattle.nextest_engines.specs.Engines.{RefusalText}
 use Rattle.nextest_engines.specs.Readings.{Readings}
 use Rattle.nextest_engines.specs.declared.queries.FiltersetKind.{FiltersetKind}
 use Rattle.nextest_engines.specs.declared.queries.FiltersetKind.TheVariants.{OverrideFilter, DefaultFilter}
@@ -58,7 +59,7 @@ abbrev pub at_name : {X : Type 0} → Name → List (Name × X) → Option X
 at_name name es = lookup (is_at (slice_cmp nat_cmp name)) es
 
 -- what a text means, if there is a text and it is read
-abbrev pub meaning_of : {M : Type 0} → (List ℕ → Result M (List ℕ)) → Option (List ℕ) → Option M
+abbrev pub meaning_of : {M : Type 0} → (List ℕ → Result M RefusalText) → Option (List ℕ) → Option M
 meaning_of read o = option_and_then (λ t. result_ok (read t)) o
 
 -- what the text of a filter means that is written for something

@@ -1,5 +1,6 @@
 -- Why sources are refused: all that a refusal carries.
 use Rattle.std.specs.Prelude.{ℕ, List, Bool, Option}
+use Rattle.nextest_engines.specs.Engines.{RefusalText}
 use Rattle.nextest_tree.specs.Schema.{Fault}
 use Rattle.nextest_elements.specs.declared.experimental.ConfigExperimental.{ConfigExperimental}
 use Rattle.nextest_inheritance.specs.Faults.{ParentFault}
@@ -24,8 +25,8 @@ pub data CompileCause : Type 0 where
   no_constraint : (default_filter : Bool) → CompileCause
   -- an override with a filter and a default filter
   two_filters : CompileCause
-  -- all that the engines refuse, with their messages
-  parse_refusals : (host target : Option (List ℕ)) → (filters : List (List ℕ)) → CompileCause
+  -- all that the engines refuse: each text's message, and its span, if the engine has one
+  parse_refusals : (host target filter default_filter : Option RefusalText) → CompileCause
 
 -- a fault of compilation: the profile, the section, and why
 pub record CompileFault : Type 0 where

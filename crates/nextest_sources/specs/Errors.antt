@@ -1,7 +1,7 @@
 -- What contracts see of refusals: their source and their cause.
-use Rattle.std.specs.Prelude.{◌++◌, Bool, false, map, Option, Some, None, option_map, option_to_list, string_bytes}
+use Rattle.std.specs.Prelude.{Bool, false, map, Option, Some, None, option_map, string_bytes}
 use Rattle.std.specs.BTreeSet.{BTreeSet, contains_text}
-use Rattle.nextest_engines.specs.Engines.{refusal_message}
+use Rattle.nextest_engines.specs.Engines.{refusal_view}
 use Rattle.nextest_tree.specs.Reads.{fault_view}
 use Rattle.nextest_tree.specs.Schema.{is_one_of}
 use Rattle.nextest_elements.specs.TestGroup.{custom_group_text}
@@ -38,9 +38,8 @@ abbrev pub compile_cause_view : ConfigCompileErrorKind → CompileCause
 compile_cause_view (causes.ConstraintsNotSpecified default_filter) = no_constraint default_filter
 compile_cause_view causes.FilterAndDefaultFilterSpecified = two_filters
 compile_cause_view (causes.Parse host target filter default_filter) =
-    parse_refusals (option_map refusal_message host) (option_map refusal_message target)
-    (option_to_list (option_map refusal_message filter)
-    ++ option_to_list (option_map refusal_message default_filter))
+    parse_refusals (option_map refusal_view host) (option_map refusal_view target)
+    (option_map refusal_view filter) (option_map refusal_view default_filter)
 
 -- what does not compile
 abbrev pub compile_error_view : ConfigCompileError → CompileFault

@@ -1,13 +1,10 @@
 -- The messages for faults.
-use Rattle.std.specs.Prelude.{ℕ, List, ◌++◌, Option, Some, Result, codes, decimal}
-use Rattle.std.specs.Result.{result_map_both}
+use Rattle.std.specs.Prelude.{ℕ, List, ◌++◌, Option, Some, codes, decimal}
 use Rattle.platform_language.specs.declared.fault.FaultKind.{FaultKind}
 use Rattle.platform_language.specs.declared.fault.FaultKind.TheVariants as kind
 use Rattle.platform_language.specs.declared.fault.Expected.{Expected}
 use Rattle.platform_language.specs.declared.fault.Expected.TheVariants as wanted
 use Rattle.platform_language.specs.declared.fault.TargetSpecFault.{TargetSpecFault}
-use Rattle.platform_language.specs.Expressions.{Spec}
-use Rattle.platform_language.specs.Texts.{spec_in}
 
 -- what may be there, with blanks between
 abbrev pub words : Expected → List ℕ
@@ -69,7 +66,3 @@ label_of kind _ = kind_label kind
 abbrev pub message : TargetSpecFault → List ℕ
 message fault = subject fault.kind ++ codes ": " ++ label_of fault.kind fault.expected
     ++ codes " at bytes " ++ decimal fault.span.start ++ codes ".." ++ decimal fault.span.end
-
--- what a text says, or the message with which it is refused
-abbrev pub spec_read : List ℕ → Result Spec (List ℕ)
-spec_read text = result_map_both (λ spec. spec) message (spec_in text)

@@ -1,25 +1,24 @@
 -- How a text that is not a spec is refused: by its first fault.
-use Rattle.std.specs.Prelude.{◌≡◌, List, ℕ, Err, MatchOption, string_bytes}
-use Rattle.nextest_engines.specs.Engines.{refusal_message}
-use Rattle.nextest_engines.specs.declared.refusal.LabeledSpan.{LabeledSpan}
-use Rattle.nextest_engines.specs.declared.refusal.Refusal.{Refusal}
+use Rattle.std.specs.Prelude.{List, ℕ, Some, Result}
+use Rattle.std.specs.Result.{result_map_both}
+use Rattle.nextest_engines.specs.Engines.{SpanText, RefusalText}
 use Rattle.platform_language.specs.declared.fault.TargetSpecFault.{TargetSpecFault}
+use Rattle.platform_language.specs.Expressions.{Spec}
 use Rattle.platform_language.specs.Messages.{label_of, message}
 use Rattle.platform_language.specs.Texts.{spec_in}
 
--- A span has the bytes of a fault, and says what is wrong with them.
-abbrev pub IsSpanOf : TargetSpecFault → LabeledSpan → Type 0
-IsSpanOf fault span =
-    (span.bytes.start ≡ fault.span.start)
-    × (span.bytes.end ≡ fault.span.end)
-    × (string_bytes span.label ≡ label_of fault.kind fault.expected)
+-- The bytes of a fault, and what is wrong with them.
+abbrev pub fault_span : TargetSpecFault → SpanText
+fault_span fault = record {
+  start = fault.span.start;
+  end = fault.span.end;
+  label = label_of fault.kind fault.expected;
+}
 
--- A refusal says what a fault is, and where.
-abbrev pub Says : TargetSpecFault → Refusal → Type 0
-Says fault refusal =
-    (refusal_message refusal ≡ message fault) × MatchOption refusal.span ⊥ (IsSpanOf fault)
+-- The refusal that says what a fault is, and where.
+abbrev pub fault_refusal : TargetSpecFault → RefusalText
+fault_refusal fault = record { message = message fault; span = Some (fault_span fault) }
 
--- A refusal says what the first fault of a text is.
-abbrev pub SaysFirstFault : List ℕ → Refusal → Type 0
-SaysFirstFault text refusal =
-    (fault : TargetSpecFault) → spec_in text ≡ Err fault → Says fault refusal
+-- What a text says, or the refusal for its first fault.
+abbrev pub spec_read : List ℕ → Result Spec RefusalText
+spec_read text = result_map_both (λ spec. spec) fault_refusal (spec_in text)

@@ -1,10 +1,9 @@
 //! The engine of platforms.
 ghost use Rattle.platform_language.specs.Platforms.Platforms.{platform_view};
 ghost use Rattle.platform_language.specs.Expressions.{Spec, spec_view};
-ghost use Rattle.platform_language.specs.Messages.{spec_read};
-ghost use Rattle.platform_language.specs.Refusals.{IsSpanOf, Says, SaysFirstFault};
+ghost use Rattle.platform_language.specs.Refusals.{fault_span, fault_refusal, spec_read};
 ghost use Rattle.platform_language.specs.Values.{spec_value};
-ghost use Rattle.nextest_engines.specs.Engines.{refusal_message, IfSpecRefused, PointsInto};
+ghost use Rattle.nextest_engines.specs.Engines.{span_view, refusal_view, IfSpecRefused, PointsInto};
 ghost use Rattle.std.specs.Prelude.{◌≡◌, Ok, Err, IfOk, IfErr};
 
 use crate::expression::TargetSpec;
@@ -20,7 +19,7 @@ pub struct TargetSpecs;
 
 /// The bytes of a fault, and what is wrong with them.
 fn span_of(alloc: Global, fault: TargetSpecFault) -> Result<LabeledSpan, AllocError>
-    ensures { IfOk result (IsSpanOf fault) }
+    ensures { IfOk result (λ span. span_view span ≡ fault_span fault) }
 {
     Ok(LabeledSpan {
         bytes: fault.span.start..fault.span.end,
@@ -30,7 +29,7 @@ fn span_of(alloc: Global, fault: TargetSpecFault) -> Result<LabeledSpan, AllocEr
 
 /// The refusal that says what a fault is, and where.
 fn refusal_of(alloc: Global, fault: TargetSpecFault) -> Result<Refusal, AllocError>
-    ensures { IfOk result (Says fault) }
+    ensures { IfOk result (λ refusal. refusal_view refusal ≡ fault_refusal fault) }
 {
     let message = format!(in alloc; "{fault}")?;
     Ok(Refusal {
@@ -41,7 +40,7 @@ fn refusal_of(alloc: Global, fault: TargetSpecFault) -> Result<Refusal, AllocErr
 
 /// The refusal of a text that has a fault.
 fn refused(alloc: Global, fault: TargetSpecFault) -> SpecFault
-    ensures { IfSpecRefused result (Says fault) }
+    ensures { IfSpecRefused result (λ refusal. refusal ≡ fault_refusal fault) }
 {
     match refusal_of(alloc, fault) {
         Ok(refusal) => SpecFault::Refused(refusal),
@@ -62,13 +61,12 @@ impl Specs for TargetSpecs {
 
     ghost holds_on = { λ spec platform. spec_value (platform_view platform) spec };
 
-    #[tactic(auto, using(crate::proofs::Refusals::read_err, crate::proofs::Refusals::points_into, crate::proofs::Refusals::first_fault))]
+    #[tactic(auto, using(crate::proofs::Refusals::read_err, crate::proofs::Refusals::points_into))]
     fn parse(&self, alloc: Global, text: &str) -> Result<TargetSpec, SpecFault>
         ensures ok { IfOk result (λ spec. spec_read text.now ≡ Ok (spec_view spec)) }
         ensures err { IfErr result (λ fault. IfSpecRefused fault
-            (λ refusal. spec_read text.now ≡ Err (refusal_message refusal))) }
+            (λ refusal. spec_read text.now ≡ Err refusal)) }
         ensures span { IfErr result (λ fault. IfSpecRefused fault (PointsInto text.now)) }
-        ensures first { IfErr result (λ fault. IfSpecRefused fault (SaysFirstFault text.now)) }
     {
         match TargetSpec::parse(alloc, text) {
             Ok(spec) => Ok(spec),

@@ -19,7 +19,7 @@ use Rattle.nextest_sources.specs.Inputs.{LoadInputs, sources_in}
 use Rattle.nextest_sources.specs.Sources.{file_view, tool_file_view}
 use Rattle.nextest_sources.specs.declared.error.ConfigParseError.{ConfigParseError}
 use Rattle.platform_language.specs.Expressions.{Spec, spec_view}
-use Rattle.platform_language.specs.Messages.{spec_read}
+use Rattle.platform_language.specs.Refusals.{spec_read}
 use Rattle.platform_language.specs.Values.{spec_value}
 use Rattle.platform_language.specs.declared.expression.TargetSpec.{TargetSpec}
 use Rattle.platform_language.specs.Platforms.Platforms.{platform_view}

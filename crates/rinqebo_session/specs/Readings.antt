@@ -9,7 +9,7 @@ use Rattle.filter_engine.specs.declared.engine.NextestFilters.{NextestFilters}
 use Rattle.filter_engine.specs.Compiling.{names_of}
 use Rattle.filter_engine.specs.declared.compiling.FieldMatcher.{FieldMatcher}
 use Rattle.platform_language.specs.Expressions.{Spec}
-use Rattle.platform_language.specs.Messages.{spec_read}
+use Rattle.platform_language.specs.Refusals.{spec_read}
 use Rattle.platform_language.specs.Values.{spec_value}
 use Rattle.platform_language.specs.Platforms.Platforms.{platform_view}
 use Rattle.platform_language.specs.declared.platforms.Platform.{Platform}

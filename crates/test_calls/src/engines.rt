@@ -4,6 +4,7 @@ ghost use Rattle.std.proofs.Common.{ap, rules};
 ghost use Rattle.std.specs.List.{list_any};
 ghost use Rattle.std.specs.Option.{option_map_or};
 ghost use Rattle.std.specs.Str.{bytes_eq};
+ghost use Rattle.nextest_engines.specs.Engines.{without_span};
 
 use nextest_engines::history::RuleHistory;
 use nextest_engines::{
@@ -107,7 +108,7 @@ impl Filters for Names {
 
     ghost meaning = { λ expr. option_map string_bytes expr.0 };
 
-    ghost read = { λ _ _ text. if list_any (λ b. b == 33) text then Err []
+    ghost read = { λ _ _ text. if list_any (λ b. b == 33) text then Err (without_span [])
         else Ok (if length text == 0 then None else Some text) };
 
     ghost match_all = { None };

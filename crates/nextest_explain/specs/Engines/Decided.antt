@@ -1,7 +1,7 @@
 -- A default filter with no part that only a test can decide has a known value for each binary.
 use Rattle.std.proofs.Common.{◌≡◌, ℕ, zero, suc, Bool, true, false, ◌||◌, List, [], ◌∷◌, ◌++◌, Option, None, Some, Result, Ok, Err, IsSome, option_map, not, unwrap_or, refl, sym, ◌∙◌, ap}
 use Rattle.std.specs.List.{fold, list_any, flat_map}
-use Rattle.nextest_engines.specs.Engines.{Binary, Test}
+use Rattle.nextest_engines.specs.Engines.{Binary, Test, without_span}
 use Rattle.nextest_engines.specs.declared.queries.FiltersetKind.TheVariants.{DefaultFilter}
 use Rattle.nextest_explain.specs.Engines.FilterValues.{Atom, Always, Never, AsTheDefault, NameHas, BinaryIs, Term, Filter, Subject, known_and, known_or, negated, atom_value, term_value, terms_value, filter_value}
 use Rattle.nextest_explain.specs.Engines.FilterTexts.{filter_in}
@@ -88,7 +88,7 @@ known_lists s default (terms ∷ filter) value none other is =
 asks_nothing : (asks : Bool) (text : List ℕ) (read filter : Filter) → asks_default read ≡ asks
     → read_for DefaultFilter text (Ok read) ≡ Ok filter → asks_default filter ≡ false
 asks_nothing true text read filter e is =
-    absurd (let clash : Err (default_in_default text) ≡ Ok filter = rw e at is in cc)
+    absurd (let clash : Err (without_span (default_in_default text)) ≡ Ok filter = rw e at is in cc)
 asks_nothing false text read filter e is =
     let same : Ok read ≡ Ok filter = rw e at is in
     let it : read ≡ filter = cc in

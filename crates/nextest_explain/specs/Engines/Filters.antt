@@ -61,13 +61,14 @@ default_in_default text =
     codes "`" ++ text ++ codes "` asks for the default filter, which a default filter may not"
 
 -- What a text means that is read for a kind, by the filter that it writes or the piece at which it
--- breaks: a default filter may not use itself.
-abbrev pub read_for : FiltersetKind → List ℕ → Result Filter (List ℕ) → Result Filter (List ℕ)
-read_for kind text (Err piece) = Err (no_filter text piece)
+-- breaks: a default filter may not use itself. No refusal has a span.
+abbrev pub read_for : FiltersetKind → List ℕ → Result Filter (List ℕ)
+    → Result Filter engines.RefusalText
+read_for kind text (Err piece) = Err (engines.without_span (no_filter text piece))
 read_for DefaultFilter text (Ok filter) =
-    if asks_default filter then Err (default_in_default text) else Ok filter
+    if asks_default filter then Err (engines.without_span (default_in_default text)) else Ok filter
 read_for _ text (Ok filter) = Ok filter
 
 -- What a text means that is read for a kind.
-abbrev pub filter_read : FiltersetKind → List ℕ → Result Filter (List ℕ)
+abbrev pub filter_read : FiltersetKind → List ℕ → Result Filter engines.RefusalText
 filter_read kind text = read_for kind text (filter_in text)

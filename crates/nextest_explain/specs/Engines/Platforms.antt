@@ -2,6 +2,7 @@ use Rattle.std.specs.Prelude.{ℕ, Bool, not, ◌==◌, ◌||◌, ◌&&◌, List
 use Rattle.std.specs.List.{list_all, ends_with}
 use Rattle.std.specs.Char.{is_ascii_alphanumeric}
 use Rattle.std.specs.Str.{bytes_eq}
+use Rattle.nextest_engines.specs.Engines.{RefusalText, without_span}
 use Rattle.nextest_explain.specs.Engines.Texts.{after_prefix, has_part}
 use Rattle.nextest_explain.specs.declared.engines.platforms.ToySpec.{ToySpec}
 use Rattle.nextest_explain.specs.declared.engines.platforms.ToySpec.TheVariants.{Unix, Windows, Linux, MacOs, OtherCfg, Triple}
@@ -63,6 +64,6 @@ meets (OnTriple wanted) triple = Some (bytes_eq triple wanted)
 abbrev pub no_spec : List ℕ → List ℕ
 no_spec text = codes "`" ++ text ++ codes "` is no platform spec"
 
--- What a text means, or the message of its refusal.
-abbrev pub spec_read : List ℕ → Result Platforms (List ℕ)
-spec_read text = ok_or (spec_in text) (no_spec text)
+-- What a text means, or its refusal, which has no span.
+abbrev pub spec_read : List ℕ → Result Platforms RefusalText
+spec_read text = ok_or (spec_in text) (without_span (no_spec text))

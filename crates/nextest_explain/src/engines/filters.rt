@@ -1,7 +1,7 @@
 //! The engine of filters.
 ghost use Rattle.std.specs.Prelude.{◌≡◌, ◌++◌, ◌∷◌, [], None, Ok, Err, IfOk, IfErr, map, refl, string_bytes};
 ghost use Rattle.std.specs.List.{flat_map, list_any};
-ghost use Rattle.nextest_engines.specs.Engines.{refusal_message, IfFilterRefused};
+ghost use Rattle.nextest_engines.specs.Engines.{without_span, IfFilterRefused};
 ghost use Rattle.nextest_explain.specs.Engines.FilterValues.{Filter, match_all as nothing_asked, term_of, lists_of, filter_of, subject_of};
 ghost use Rattle.nextest_explain.specs.Engines.Filters as messages;
 ghost use Rattle.nextest_explain.specs.Engines.Filters.{filter_read, read_for, filter_matches, filter_holds_binary, filter_leaves, term_leaves, value_beside as value_beside_default, asks_default, is_default_term as asks_for_default};
@@ -98,8 +98,8 @@ fn with_leaves(alloc: Global, found: Vec<String>, terms: &[Term]) -> Result<Vec<
 
 /// The refusal of a text that breaks at a piece.
 fn no_filter(alloc: Global, text: &str, piece: &str) -> FilterFault
-    ensures message { IfFilterRefused result
-        (λ refusal. refusal_message refusal ≡ messages.no_filter text.now piece.now) }
+    ensures refusal { IfFilterRefused result
+        (λ refusal. refusal ≡ without_span (messages.no_filter text.now piece.now)) }
     ensures span { IfFilterRefused result (λ refusal. refusal.span ≡ None) }
 {
     match format!(in alloc; "`{text}` is no filter: it breaks at `{piece}`") {
@@ -113,8 +113,8 @@ fn no_filter(alloc: Global, text: &str, piece: &str) -> FilterFault
 
 /// The refusal of a default filter that uses itself.
 fn default_in_default(alloc: Global, text: &str) -> FilterFault
-    ensures message { IfFilterRefused result
-        (λ refusal. refusal_message refusal ≡ messages.default_in_default text.now) }
+    ensures refusal { IfFilterRefused result
+        (λ refusal. refusal ≡ without_span (messages.default_in_default text.now)) }
     ensures span { IfFilterRefused result (λ refusal. refusal.span ≡ None) }
 {
     let message = format!(in alloc;
@@ -140,8 +140,7 @@ fn for_kind(
     ensures ok { IfOk result
         (λ expr. read_for kind text.now (Ok (lists_of lists.items)) ≡ Ok (filter_of expr)) }
     ensures err { IfErr result (λ fault. IfFilterRefused fault
-        (λ refusal. read_for kind text.now (Ok (lists_of lists.items))
-        ≡ Err (refusal_message refusal))) }
+        (λ refusal. read_for kind text.now (Ok (lists_of lists.items)) ≡ Err refusal)) }
     ensures span { IfErr result
         (λ fault. IfFilterRefused fault (λ refusal. refusal.span ≡ None)) }
 {

@@ -1,7 +1,7 @@
 //! The engine of platforms. A platform is a triple, kept as a text.
 ghost use Rattle.std.specs.Prelude.{◌≡◌, ◌||◌, None, Some, IfOk, option_map, string_bytes};
 ghost use Rattle.std.specs.List.{list_all};
-ghost use Rattle.nextest_engines.specs.Engines.{refusal_message, IfSpecRefused};
+ghost use Rattle.nextest_engines.specs.Engines.{without_span, IfSpecRefused};
 ghost use Rattle.nextest_explain.specs.Engines.Platforms as messages;
 ghost use Rattle.nextest_explain.specs.Engines.Platforms.{Platforms, platforms_of, spec_in, spec_read, other_spec, meets, OnUnix, is_triple_byte};
 ghost use Rattle.nextest_explain.specs.Engines.Platforms.{is_cfg as cfg_test, is_triple as triple_test};
@@ -84,8 +84,8 @@ fn read_spec(alloc: Global, text: &str) -> Result<Option<ToySpec>, AllocError>
 
 /// The refusal of a text.
 fn no_spec(alloc: Global, text: &str) -> SpecFault
-    ensures message { IfSpecRefused result
-        (λ refusal. refusal_message refusal ≡ messages.no_spec text.now) }
+    ensures refusal { IfSpecRefused result
+        (λ refusal. refusal ≡ without_span (messages.no_spec text.now)) }
     ensures span { IfSpecRefused result (λ refusal. refusal.span ≡ None) }
 {
     match format!(in alloc; "`{text}` is no platform spec") {

@@ -1,6 +1,6 @@
 //! The texts of rules: what the engines make of them, and why they refuse them.
-ghost use Rattle.std.specs.Prelude.{◌≡◌, [], IfOk, option_map, string_bytes};
-ghost use Rattle.nextest_engines.specs.Engines.{refusal_message};
+ghost use Rattle.std.specs.Prelude.{◌≡◌, None, IfOk, option_map, string_bytes};
+ghost use Rattle.nextest_engines.specs.Engines.{refusal_view};
 ghost use Rattle.nextest_sources.specs.Errors.{compile_cause_view};
 ghost use Rattle.nextest_rules.specs.CompileFaults.{refusal_cause, refusal_of};
 ghost use Rattle.nextest_rules.specs.Refusals.{refusals_view};
@@ -54,7 +54,7 @@ fn read_spec<S: Specs>(
 ) -> Result<(Option<S::Spec>, Option<Refusal>), AllocError>
     ensures meaning { IfOk result (λ read. option_map S.spec_meaning read.0
         ≡ meaning_of (S.read_spec specs.now) (option_map string_bytes text.now)) }
-    ensures refusal { IfOk result (λ read. option_map refusal_message read.1
+    ensures refusal { IfOk result (λ read. option_map refusal_view read.1
         ≡ refusal_of (S.read_spec specs.now) (option_map string_bytes text.now)) }
 {
     let Some(text) = text else {
@@ -81,7 +81,8 @@ pub(crate) fn read_platforms<S: Specs>(
         IfOk result (λ read. refusals_view read.1 ≡ record {
           host = refusal (option_map string_bytes platform.now.host);
           target = refusal (option_map string_bytes platform.now.target);
-          filters = [];
+          filter = None;
+          default_filter = None;
         }) }
 {
     let (host, host_refusal) = read_spec(alloc, specs, &platform.host)?;
@@ -104,7 +105,7 @@ pub(crate) fn read_filter<F: Filters>(
 ) -> Result<(Option<F::Expr>, Option<Refusal>), AllocError>
     ensures meaning { IfOk result (λ read. option_map F.meaning read.0
         ≡ meaning_of (F.read filters.now kind) (option_map string_bytes text.now)) }
-    ensures refusal { IfOk result (λ read. option_map refusal_message read.1
+    ensures refusal { IfOk result (λ read. option_map refusal_view read.1
         ≡ refusal_of (F.read filters.now kind) (option_map string_bytes text.now)) }
 {
     let Some(text) = text else {
