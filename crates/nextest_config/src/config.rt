@@ -20,7 +20,7 @@ use crate::profile_error::{ProfileError, ProfileNotFound};
 use nextest_elements::ConfigExperimental;
 use nextest_engines::{Filters, ParseContext, Specs};
 use nextest_inheritance::{DEFAULT_MIRI_PROFILE, DEFAULT_PROFILE};
-use nextest_load::{LoadedConfig, MergedProfile};
+use nextest_load::{LoadedConfig, MergedProfile, ParsedTexts};
 use nextest_settings::EarlyProfile;
 use nextest_sources::{
     CONFIG_PATH, ConfigFileSelection, ConfigInputs, ConfigParseError, ConfigPaths, ConfigWarnings,
@@ -242,6 +242,36 @@ impl<F: Filters, S: Specs> NextestConfig<F, S> {
             experimental,
             warnings,
         )
+    }
+
+    /// Loads as `from_sources_with_paths` does, and does not parse the texts that were parsed
+    /// before.
+    pub fn from_parsed_sources<P: ParsedTexts, W: ConfigWarnings>(
+        alloc: Global,
+        paths: &ConfigPaths,
+        parsed: &P,
+        pcx: &ParseContext<'_, F, S>,
+        selection: ConfigFileSelection<'_>,
+        tools: &[ToolConfigFile],
+        experimental: &BTreeSet<ConfigExperimental>,
+        warnings: &mut W,
+    ) -> Result<Self, ConfigParseError>
+        ensures loads { let engines = readings_view F.Filters S.Specs pcx.now in
+            IsLoad (loaded_by F.meaning S.spec_meaning) engines (features_view experimental.now)
+            (load_inputs_view paths.now.shared selection.entry tools.now)
+            (W.warnings warnings.old) (W.warnings warnings.new) result }
+        ensures root { IfOk result (λ config. config.root ≡ string_bytes paths.now.workspace_root) }
+        ensures kept { IfOk result (λ config. config.warnings ≡ []) }
+    {
+        let root = String::from_str(alloc, paths.workspace_root.as_str())?;
+        let inputs = ConfigInputs {
+            shared: &paths.shared,
+            selection,
+            tools,
+            features: experimental,
+        };
+        let loaded = LoadedConfig::load_parsed(alloc, &inputs, parsed, pcx, warnings);
+        Self::from_load(root, loaded, DefaultConfigWarnings::new(alloc))
     }
 
     /// The warnings that `from_sources` kept. There are none after the other calls.

@@ -69,7 +69,7 @@ pub use nextest_settings::{
 pub use nextest_tables::{OverrideOutputs, OverrideRuns, OverrideSettings};
 
 // What a load makes, of which profiles are made.
-pub use nextest_load::{LoadedConfig, MergedProfile};
+pub use nextest_load::{LoadedConfig, MergedProfile, ParsedText, ParsedTexts};
 pub use nextest_rules::{CompiledProfile, LayerRules};
 pub use nextest_tables::{ProfileEnds, ProfileFields, ProfileOutputs, ProfileRuns};
 

@@ -16,4 +16,5 @@ pub mod Kept
 pub mod OwnSteps
 pub mod Parts
 pub mod Laws
+pub mod Parsed
 pub mod Agreement

@@ -6,7 +6,9 @@ pub mod laws;
 mod load;
 mod loaded_config;
 mod merged;
+mod parsed;
 mod scripts;
 mod source;
 
 pub use loaded_config::{LoadedConfig, MergedProfile, ScriptConfig};
+pub use parsed::{ParsedText, ParsedTexts};

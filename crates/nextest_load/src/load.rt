@@ -27,6 +27,7 @@ ghost use Rattle.nextest_tree.specs.View.{tree_view};
 use crate::kept::KeptTable;
 use crate::loaded_config::LoadedConfig;
 use crate::merged::{MergedTables, keep_merged};
+use crate::parsed::{ParsedTexts, Unparsed};
 use crate::scripts::ScriptNames;
 use crate::source::{LoadedSource, SourceFile, read_source};
 use nextest_documents::{Laid, lay_upon};
@@ -60,8 +61,24 @@ impl<F: Filters, S: Specs> LoadedConfig<F, S> {
             (features_view inputs.now.features.now) (inputs_view inputs.now)
             (W.warnings warnings.old) (W.warnings warnings.new) result }
     {
+        LoadedConfig::load_parsed(alloc, inputs, &Unparsed, pcx, warnings)
+    }
+
+    /// Loads as `load` does, and does not parse the texts that were parsed before.
+    pub fn load_parsed<P: ParsedTexts, W: ConfigWarnings>(
+        alloc: Global,
+        inputs: &ConfigInputs<'_>,
+        parsed: &P,
+        pcx: &ParseContext<'_, F, S>,
+        warnings: &mut W,
+    ) -> Result<LoadedConfig<F, S>, ConfigParseError>
+        ensures loads { let engines = readings_view F.Filters S.Specs pcx.now in
+            IsLoad (loaded_meaning F.meaning S.spec_meaning) engines
+            (features_view inputs.now.features.now) (inputs_view inputs.now)
+            (W.warnings warnings.old) (W.warnings warnings.new) result }
+    {
         law_first_duplicate();
-        let parts = read_and_merge(alloc, inputs, pcx, warnings)?;
+        let parts = read_and_merge(alloc, inputs, parsed, pcx, warnings)?;
         let ConfigParts { tables, layers } = parts;
         Ok(LoadedConfig::new(tables, layers, pcx.filters.all()))
     }
@@ -75,9 +92,10 @@ pub(crate) struct ConfigParts<F: Filters, S: Specs> {
 }
 
 /// Reads all inputs, the lowest first, each over those below it, and merges them.
-fn read_and_merge<F: Filters, S: Specs, W: ConfigWarnings>(
+fn read_and_merge<F: Filters, S: Specs, P: ParsedTexts, W: ConfigWarnings>(
     alloc: Global,
     inputs: &ConfigInputs<'_>,
+    parsed: &P,
     pcx: &ParseContext<'_, F, S>,
     warnings: &mut W,
 ) -> Result<ConfigParts<F, S>, ConfigParseError>
@@ -91,7 +109,7 @@ fn read_and_merge<F: Filters, S: Specs, W: ConfigWarnings>(
     refuse_duplicates(alloc, inputs.tools)?;
     let repository = repository_source(inputs)?;
     let sources = collect_inputs(alloc, inputs)?;
-    let loaded = read_layers(alloc, pcx, inputs.features, &sources, warnings)?;
+    let loaded = read_layers(alloc, pcx, inputs.features, &sources, parsed, warnings)?;
     merge(alloc, &repository, loaded)
 }
 
@@ -113,11 +131,12 @@ pub(crate) struct LoadedLayers<F: Filters, S: Specs> {
 }
 
 /// Reads inputs, the lowest first, each over those below it.
-fn read_layers<F: Filters, S: Specs, W: ConfigWarnings>(
+fn read_layers<F: Filters, S: Specs, P: ParsedTexts, W: ConfigWarnings>(
     alloc: Global,
     pcx: &ParseContext<'_, F, S>,
     features: &BTreeSet<ConfigExperimental>,
     inputs: &[SourceInput<'_>],
+    parsed: &P,
     warnings: &mut W,
 ) -> Result<LoadedLayers<F, S>, ConfigParseError>
     ensures ran { let engines = readings_view F.Filters S.Specs pcx.now in
@@ -128,8 +147,8 @@ fn read_layers<F: Filters, S: Specs, W: ConfigWarnings>(
         (flat_map source_texts_of (map input_view inputs.now))) }
 {
     let mut loaded = LoadedLayers::new(alloc);
-    for input in inputs {
-        loaded.read_layer(alloc, pcx, features, input, warnings)?;
+    for (place, input) in inputs.iter().enumerate() {
+        loaded.read_layer(alloc, pcx, features, place, input, parsed, warnings)?;
     }
     Ok(loaded)
 }
@@ -192,12 +211,14 @@ impl<F: Filters, S: Specs> LoadedLayers<F, S> {
     }
 
     /// Reads one more input above these.
-    fn read_layer<W: ConfigWarnings>(
+    fn read_layer<'x, P: ParsedTexts, W: ConfigWarnings>(
         &mut self,
         alloc: Global,
         pcx: &ParseContext<'_, F, S>,
         features: &BTreeSet<ConfigExperimental>,
-        input: &SourceInput<'_>,
+        place: usize,
+        input: &'x SourceInput<'x>,
+        parsed: &'x P,
         warnings: &mut W,
     ) -> Result<(), ConfigParseError>
         requires { IfSome self.old.defaults (λ tree. tree_view tree ≡ defaults) }
@@ -217,6 +238,7 @@ impl<F: Filters, S: Specs> LoadedLayers<F, S> {
         let file = SourceFile {
             source: &input.source,
             text,
+            parsed: parsed.parse_of(place, text),
             is_lowest: self.merged.is_none(),
         };
         let lower = made_once(alloc, self.defaults.take())?;

@@ -6,6 +6,7 @@ ghost use Rattle.nextest_documents.specs.Laid.{IsLaid};
 ghost use Rattle.nextest_documents.specs.Text.{tree_of};
 ghost use Rattle.nextest_load.specs.Kept.{IsKept};
 ghost use Rattle.nextest_load.specs.Loading.{source_text_view, source_layer};
+ghost use Rattle.nextest_load.specs.Parsed.{IsParseOf};
 ghost use Rattle.nextest_load.specs.Scripts.{setup_path, old_setup_path, wrapper_path};
 ghost use Rattle.nextest_load.specs.Steps.{document_cause, element_cause, in_byte_order, own_steps, file_steps, source_steps};
 ghost use Rattle.nextest_load.specs.Trees.{tree_in, own_tree, own_file};
@@ -33,8 +34,9 @@ ghost use Rattle.nextest_tree.specs.Schema.{is_one_of, unknown};
 ghost use Rattle.nextest_tree.specs.View.{tree_view};
 
 use crate::kept::{CheckedTable, KeptTable, check_table};
+use crate::parsed::ParsedText;
 use crate::scripts::ScriptNames;
-use nextest_documents::{Laid, TextFault, lay_upon, tree_from_text};
+use nextest_documents::{Laid, TextFault, copy_tree, lay_upon, tree_from_text};
 use nextest_elements::ConfigExperimental;
 use nextest_engines::{Filters, ParseContext, Specs};
 use nextest_rules::{KnownNames, LayerRules, check_definitions};
@@ -49,16 +51,17 @@ use std::collections::BTreeSet;
 pub(crate) struct SourceFile<'a> {
     pub(crate) source: &'a ConfigSource,
     pub(crate) text: &'a str,
+    /// What the text was parsed to before the load, if it was.
+    pub(crate) parsed: Option<ParsedText<'a>>,
     /// Whether no source below it gave text.
     pub(crate) is_lowest: bool,
 }
 
-/// The tree of a source's text.
-fn read_text(alloc: Global, file: &SourceFile<'_>) -> Result<Tree, ConfigParseError>
+/// Parses a source's text.
+fn parse_text(alloc: Global, file: &SourceFile<'_>) -> Result<Tree, ConfigParseError>
     ensures found { let s = source_text_view file.now in
         Found (fault_at_source s.source (document_cause (tree_of s.text))) (ending result) }
     ensures document { IfOk result (λ tree. tree_of file.now.text.now ≡ Some (tree_view tree)) }
-    ensures tree { IfOk result (λ tree. tree_view tree ≡ tree_in (source_text_view file.now)) }
 {
     match tree_from_text(alloc, file.text) {
         Ok(tree) => Ok(tree),
@@ -70,13 +73,49 @@ fn read_text(alloc: Global, file: &SourceFile<'_>) -> Result<Tree, ConfigParseEr
     }
 }
 
+/// Copies the tree that a source's text was parsed to, or its fault.
+fn copy_parsed(
+    alloc: Global,
+    file: &SourceFile<'_>,
+    parsed: ParsedText<'_>,
+) -> Result<Tree, ConfigParseError>
+    requires { IsParseOf file.now.text.now parsed }
+    ensures found { let s = source_text_view file.now in
+        Found (fault_at_source s.source (document_cause (tree_of s.text))) (ending result) }
+    ensures document { IfOk result (λ tree. tree_of file.now.text.now ≡ Some (tree_view tree)) }
+{
+    match parsed {
+        ParsedText::Document(tree) => Ok(copy_tree(alloc, tree)?),
+        ParsedText::NotDocument(message) => {
+            let message = String::from_str(alloc, message)?;
+            let kind = ConfigParseErrorKind::BuildError(message);
+            Err(ConfigParseError::at(file.source, kind))
+        }
+    }
+}
+
+/// The tree of a source's text, which is parsed unless it was parsed before.
+fn read_text(alloc: Global, file: &SourceFile<'_>) -> Result<Tree, ConfigParseError>
+    requires { IfSome file.now.parsed (IsParseOf file.now.text.now) }
+    ensures found { let s = source_text_view file.now in
+        Found (fault_at_source s.source (document_cause (tree_of s.text))) (ending result) }
+    ensures document { IfOk result (λ tree. tree_of file.now.text.now ≡ Some (tree_view tree)) }
+    ensures tree { IfOk result (λ tree. tree_view tree ≡ tree_in (source_text_view file.now)) }
+{
+    match file.parsed {
+        Some(parsed) => copy_parsed(alloc, file, parsed),
+        None => parse_text(alloc, file),
+    }
+}
+
 /// The tree of a source over that of the defaults, and the ids of its scripts.
 fn read_tree(
     alloc: Global,
     file: &SourceFile<'_>,
     lower: Tree,
 ) -> Result<(Laid, ScriptNames), ConfigParseError>
-    requires { tree_view lower ≡ defaults }
+    requires parsed { IfSome file.now.parsed (IsParseOf file.now.text.now) }
+    requires lower { tree_view lower ≡ defaults }
     ensures found { let s = source_text_view file.now in
         Found (fault_at_source s.source (document_cause (tree_of s.text))) (ending result) }
     ensures laid { IfOk result
@@ -212,7 +251,8 @@ pub(crate) fn read_source<F: Filters, S: Specs, W: ConfigWarnings>(
     lower: Tree,
     warnings: &mut W,
 ) -> Result<LoadedSource<F, S>, ConfigParseError>
-    requires { tree_view lower ≡ defaults }
+    requires parsed { IfSome file.now.parsed (IsParseOf file.now.text.now) }
+    requires lower { tree_view lower ≡ defaults }
     ensures ran { let engines = readings_view F.Filters S.Specs pcx.now in
         (below : List SourceText)
         → known_view known.old ≡ sets_of (known_names (map own_file below))

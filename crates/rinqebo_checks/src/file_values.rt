@@ -38,7 +38,7 @@ fn document_of<'l>(layer: &'l Layer<'_>) -> Option<&'l Tree>
         (λ tree. document_in layer.now ≡ Some (tree_view tree.now)) }
 {
     match &layer.places {
-        Some(places) => places.document(),
+        Some(document) => document.tree(),
         None => None,
     }
 }

@@ -34,7 +34,11 @@ impl<'l, 't> SourceAt<'l, 't> {
 
     /// Where the values of the source are written in its text, if it has one.
     pub fn spans(self) -> Option<&'l PathSpans<'t>> {
-        self.layers.get(self.position?)?.places.as_ref()
+        let layer = self.layers.get(self.position?)?;
+        match &layer.places {
+            Some(document) => Some(document.spans()),
+            None => None,
+        }
     }
 
     /// Why the text of the source is not a document, if it is not one.

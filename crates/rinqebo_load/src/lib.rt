@@ -7,6 +7,7 @@ mod failure;
 mod fault;
 mod find_test;
 mod found_test;
+mod layer_texts;
 mod list_path;
 mod missing;
 mod printed_host;

@@ -11,6 +11,7 @@ ghost use Rattle.rinqebo_load.specs.Warned.{warnings_met};
 
 use crate::engines::Engines;
 use crate::failure::Failure;
+use crate::layer_texts::LayerTexts;
 use crate::list_path::list_path;
 use crate::printed_host::printed_host;
 use crate::triples::{Triples, listed_tests, triples_for};
@@ -130,7 +131,16 @@ impl<'g> Session<'g> {
         }
     }
 
-    /// Loads the configuration. Warnings are reported as they are met.
+    /// The texts of the layers from a position on, as they were parsed.
+    fn texts_from(&self, lowest: usize) -> LayerTexts<'_, 'g> {
+        LayerTexts {
+            layers: self.layers.as_slice(),
+            lowest,
+        }
+    }
+
+    /// Loads the configuration. No text is parsed again, since the layers above the defaults are the
+    /// files of the load. Warnings are reported as they are met.
     pub fn load(
         &self,
         alloc: Global,
@@ -150,16 +160,18 @@ impl<'g> Session<'g> {
             tools: inputs.tools,
             features: inputs.features,
         };
-        match LoadedConfig::load(alloc, &inputs, &self.parse_context(), warnings) {
+        let texts = self.texts_from(1);
+        match LoadedConfig::load_parsed(alloc, &inputs, &texts, &self.parse_context(), warnings) {
             Ok(config) => Ok(config),
             Err(error) => Err(error),
         }
     }
 
-    /// Why files are refused, if they are.
+    /// Why files are refused, if they are. The lowest of them is the layer at a position.
     fn refusal_of(
         &self,
         alloc: Global,
+        lowest: usize,
         shared: &FileInput,
         selection: ConfigFileSelection<'_>,
         tools: &[ToolConfigFile],
@@ -171,7 +183,8 @@ impl<'g> Session<'g> {
             tools,
             features: &self.features,
         };
-        match LoadedConfig::load(alloc, &inputs, &self.parse_context(), warnings) {
+        let texts = self.texts_from(lowest);
+        match LoadedConfig::load_parsed(alloc, &inputs, &texts, &self.parse_context(), warnings) {
             Ok(_) => None,
             Err(error) => Some(error),
         }
@@ -209,18 +222,19 @@ impl<'g> Session<'g> {
         Ok(match &layer.source.kind {
             SourceKind::Default => None,
             SourceKind::Tool(_) => {
-                self.refusal_of(alloc, &absent, nothing, self.tool_at(place), warnings)
+                let tools = self.tool_at(place);
+                self.refusal_of(alloc, place, &absent, nothing, tools, warnings)
             }
             SourceKind::Organisation => {
                 let selection = ConfigFileSelection {
                     organisation_file: self.gathered.organisation_file.as_ref(),
                     ..nothing
                 };
-                self.refusal_of(alloc, &absent, selection, &[], warnings)
+                self.refusal_of(alloc, place, &absent, selection, &[], warnings)
             }
             SourceKind::Explicit | SourceKind::Discovered => {
                 let selection = ConfigFileSelection::new(self.gathered.config_file.as_ref());
-                self.refusal_of(alloc, shared, selection, &[], warnings)
+                self.refusal_of(alloc, place, shared, selection, &[], warnings)
             }
         })
     }

@@ -8,7 +8,7 @@ mod layers;
 mod places;
 mod root;
 
-pub use document::NoDocument;
+pub use document::{Document, NoDocument};
 pub use features::features_of;
 pub use gathering::{GatherFault, Gathered, gather};
 pub use layers::{

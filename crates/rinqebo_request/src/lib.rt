@@ -19,9 +19,9 @@ pub mod words;
 pub use environment::{Environment, RunVariables, set};
 pub use features::{FEATURES, feature_name, feature_of, law_all_features};
 pub use files::{
-    GatherFault, Gathered, Layer, NoDocument, SpanPart, features_of, gather, host_text, layers_of,
-    part_place, path_place, place_at, place_of, profile_table, rule_at, rule_table, sources_of,
-    target_text, text_at,
+    Document, GatherFault, Gathered, Layer, NoDocument, SpanPart, features_of, gather, host_text,
+    layers_of, part_place, path_place, place_at, place_of, profile_table, rule_at, rule_table,
+    sources_of, target_text, text_at,
 };
 pub use hints::{name_hint, text_hint};
 pub use named::{FileOption, NamedFile, ProfileSource};

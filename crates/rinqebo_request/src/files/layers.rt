@@ -5,10 +5,9 @@ ghost use Rattle.nextest_tree.specs.View.{tree_view};
 ghost use Rattle.rinqebo_request.specs.Files.Layers.{default_layer, file_layer, layer_tree, layer_view, layers_read, organisation_layers, repository_layer, tool_layer};
 ghost use Rattle.rinqebo_request.specs.Files.Origins.{HasNoFile, IsFileAt, reported_file, reported_kind};
 
-use crate::files::document::{NoDocument, read_places};
+use crate::files::document::{Document, NoDocument, read_document};
 use crate::files::gathering::Gathered;
 use nextest_elements::IdentifierOwner;
-use nextest_places::PathSpans;
 use nextest_sources::{ConfigPath, ConfigSource, ConfigSourceKind, FileInput, ToolConfigFile};
 use nextest_tables::default_tree;
 use nextest_tree::Tree;
@@ -19,9 +18,9 @@ use std::alloc::{AllocError, Global};
 pub struct Layer<'t> {
     /// What brings it, and the path of its file, as reports show them.
     pub source: Source,
-    /// Where the values at its paths are written in the text of its file, if there is one. The
-    /// defaults have none.
-    pub places: Option<PathSpans<'t>>,
+    /// The text of its file, if there is one, with its tree and with where the values at its paths
+    /// are written. The defaults have none.
+    pub places: Option<Document<'t>>,
     /// The table of the defaults, which have no text.
     pub defaults: Option<Tree>,
     /// Why its text is not a document, if it is not one.
@@ -46,7 +45,7 @@ impl Layer<'_> {
         ensures { option_map (λ tree. tree_view tree.now) result ≡ layer_tree self.now }
     {
         match &self.places {
-            Some(places) => places.document(),
+            Some(document) => document.tree(),
             None => self.defaults.as_ref(),
         }
     }
@@ -61,7 +60,7 @@ fn layer_of<'t>(
     ensures { IfOk result (λ layer.
         layer_view layer ≡ file_layer (reported_kind kind) file.entry.now) }
 {
-    let (places, fault) = read_places(alloc, &file.outcome)?;
+    let (places, fault) = read_document(alloc, &file.outcome)?;
     Ok(Layer {
         source: Source {
             kind,

@@ -81,7 +81,7 @@ fn place_in(layer: &Layer, source: usize, path: &[Step], part: SpanPart) -> File
     ensures { IsPlaceIn part layer.now.places source path.now result }
 {
     match &layer.places {
-        Some(spans) => place_of_part(spans, source, path, part),
+        Some(document) => place_of_part(document.spans(), source, path, part),
         None => FilePlace::in_source(source),
     }
 }

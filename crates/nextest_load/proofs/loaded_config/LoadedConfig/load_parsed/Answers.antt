@@ -8,7 +8,7 @@ use Rattle.nextest_sources.proofs.Runs.{ran_exit}
 use Rattle.nextest_load.specs.Meaning.{loaded_meaning}
 use Rattle.nextest_load.proofs.Accepting.{DefinitionsLaw, RulesLaw}
 use Rattle.nextest_load.proofs.Loads.{parts_closed, refused_is, loaded_is}
-use Rattle.nextest_load.proofs.loaded_config.LoadedConfig.load.Goals as goal
+use Rattle.nextest_load.proofs.loaded_config.LoadedConfig.load_parsed.Goals as goal
 
 pub returns-in_err-parts : goal.returns-in_err-parts
 returns-in_err-parts g c =
