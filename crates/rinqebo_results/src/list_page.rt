@@ -16,7 +16,7 @@ ghost use Rattle.nextest_tables.specs.FileTexts.{names_in, IsIn};
 ghost use Rattle.filter_inputs.specs.Lists.ListView.{list_test_view, list_view};
 ghost use Rattle.filter_inputs.specs.Lists.Lists.{all_tests, list_tests};
 ghost use Rattle.rinqebo_rules.specs.Conditions.{is_met_by};
-ghost use Rattle.rinqebo_rules.specs.Unused.{AreUnusedIn, AreUsedIn};
+ghost use Rattle.rinqebo_rules.specs.Unused.{AreUsedIn};
 ghost use Rattle.rinqebo_report.specs.Headers.{list_head_runs};
 ghost use Rattle.rinqebo_report.specs.Pieces.{page_text};
 ghost use Rattle.rinqebo_results.specs.Listed.{IsProfileOn};
@@ -29,7 +29,7 @@ ghost use Rattle.rinqebo_results.specs.declared.list_stop.ListStop.TheVariants a
 use crate::asked::requested_of;
 use crate::list_origins::unused_origins;
 use crate::list_report::{Profile, profile_on};
-use crate::list_scripts::scripts_of_list;
+use crate::list_scripts::scripts_by_used;
 use crate::list_stop::ListStop;
 use crate::streams::{write_bytes, write_whole};
 use filter_engine::{NextestFilters, NextestTally};
@@ -125,8 +125,8 @@ impl<'c> ListPage<'c, '_> {
         Ok(text)
     }
 
-    /// Writes the tests one after another, and returns the rules of the profile that hold for none
-    /// of them. The rows of a test are dropped once they are written.
+    /// Writes the tests one after another, and returns which rules of the profile hold for some of
+    /// them. The rows of a test are dropped once they are written.
     fn write_tests<O: Write, P: Progress>(
         &self,
         alloc: Global,
@@ -135,15 +135,15 @@ impl<'c> ListPage<'c, '_> {
         origins: &mut Origins<'_, '_, 'c>,
         progress: &mut P,
         out: &mut O,
-    ) -> Result<UnusedRules<'c>, ListStop>
+    ) -> Result<UsedRules, ListStop>
         ensures tests { IfOk result (λ _. AreWritten origins.old filter_holds asking.now.mode
             (profile_meaning (marks_view names_of) asking.now.profile.now) asking.now.asked.now
             (map list_test_view listed.now) self.now.head.now self.now.paper
             (O.contents out.old) (O.contents out.new)) }
-        ensures unused { let profile = profile_meaning (marks_view names_of)
+        ensures used { let profile = profile_meaning (marks_view names_of)
             asking.now.profile.now in
-            IfOk result (AreUnusedIn (map (query_in filter_holds profile)
-            (map (λ t. t.test) (map list_test_view listed.now))) profile) }
+            IfOk result (AreUsedIn (map (query_in filter_holds profile)
+            (map (λ t. t.test) (map list_test_view listed.now))) asking.now.mode profile) }
         ensures err { IfErr result (StopsList (λ _. ⊥) (AreFirstWritten origins.old filter_holds
             asking.now.mode (profile_meaning (marks_view names_of) asking.now.profile.now)
             asking.now.asked.now (map list_test_view listed.now) self.now.head.now self.now.paper
@@ -157,12 +157,11 @@ impl<'c> ListPage<'c, '_> {
             write_text(text.as_str(), out)?;
             progress.asked(place + 1, listed.len());
         }
-        let unused = used.unused(alloc, asking.profile)?;
-        Ok(unused)
+        Ok(used)
     }
 
     /// Writes the tests by a profile on the platforms of the build, and returns how many there are
-    /// and the rules of the profile that hold for none of them.
+    /// and which rules of the profile hold for some of them.
     fn write_rows<O: Write, P: Progress>(
         &self,
         alloc: Global,
@@ -170,7 +169,7 @@ impl<'c> ListPage<'c, '_> {
         on: &Profile<'c>,
         progress: &mut P,
         out: &mut O,
-    ) -> Result<(usize, UnusedRules<'c>), ListStop>
+    ) -> Result<(usize, UsedRules), ListStop>
         ensures tests { IfOk result (λ _. AreWritten
             (basis_of self.now.session.now (borrowed_view chain.now)) filter_holds
             self.now.list.mode (profile_meaning (marks_view names_of) on.now)
@@ -180,9 +179,9 @@ impl<'c> ListPage<'c, '_> {
         ensures count { IfOk result (λ end.
             end.0 ≡ length (list_tests (list_view self.now.session.now.tests))) }
         ensures fits { IfOk result (λ end. end.0 < 2 ^ 63) }
-        ensures unused { let profile = profile_meaning (marks_view names_of) on.now in
-            IfOk result (λ end. AreUnusedIn (map (query_in filter_holds profile)
-            (all_tests (list_view self.now.session.now.tests))) profile end.1) }
+        ensures used { let profile = profile_meaning (marks_view names_of) on.now in
+            IfOk result (λ end. AreUsedIn (map (query_in filter_holds profile)
+            (all_tests (list_view self.now.session.now.tests))) self.now.list.mode profile end.1) }
         ensures err { IfErr result (StopsList (λ _. ⊥) (AreFirstWritten
             (basis_of self.now.session.now (borrowed_view chain.now)) filter_holds
             self.now.list.mode (profile_meaning (marks_view names_of) on.now)
@@ -197,8 +196,8 @@ impl<'c> ListPage<'c, '_> {
         };
         let tests = self.session.tests.tests(alloc)?;
         let mut origins = Origins::new(alloc, &self.session.layers, chain);
-        let unused = self.write_tests(alloc, &asking, &tests, &mut origins, progress, out)?;
-        Ok((tests.len(), unused))
+        let used = self.write_tests(alloc, &asking, &tests, &mut origins, progress, out)?;
+        Ok((tests.len(), used))
     }
 
     /// Writes the header: what the user requests.
@@ -264,8 +263,9 @@ impl<'c> ListPage<'c, '_> {
             self.now.list.settings.now self.now.head.now self.now.paper (O.contents out.old))
             (O.contents out.old) (O.contents out.new)) }
     {
-        let (count, rules) = self.write_rows(alloc, chain, on, progress, out)?;
-        scripts_of_list(alloc, self.session, on)?;
+        let (count, used) = self.write_rows(alloc, chain, on, progress, out)?;
+        let rules = used.unused(alloc, on)?;
+        scripts_by_used(alloc, self.session, on, &used)?;
         self.write_end(alloc, count as u64, &rules, out)
     }
 

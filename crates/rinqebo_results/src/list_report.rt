@@ -15,7 +15,7 @@ ghost use Rattle.filter_inputs.specs.Lists.ListView.{list_view};
 ghost use Rattle.filter_inputs.specs.Lists.Lists.{all_tests, list_tests};
 ghost use Rattle.rinqebo_load.specs.Warned.{warnings_met};
 ghost use Rattle.rinqebo_rules.specs.Rows.{AreTestsReported};
-ghost use Rattle.rinqebo_rules.specs.Unused.{AreUnusedIn};
+ghost use Rattle.rinqebo_rules.specs.Unused.{AreUnusedIn, AreUsedIn};
 ghost use Rattle.rinqebo_rules.specs.Conditions.{is_met_by};
 ghost use Rattle.rinqebo_results.specs.Listed.{HasObjects, IfListed, IsProfileOn, ReportsTests};
 ghost use Rattle.rinqebo_results.specs.ListedBy.{basis_of, read_by, listed_by};
@@ -26,7 +26,7 @@ ghost use Rattle.rinqebo_checks.specs.Reports.{IsReportOf};
 use crate::asked::requested_of;
 use crate::list_objects::objects_of_list;
 use crate::list_origins::unused_origins;
-use crate::list_scripts::scripts_of_list;
+use crate::list_scripts::scripts_by_used;
 use crate::looked_up::config_looked_up;
 use crate::profile::early_profile;
 use filter_engine::{NextestFilters, NextestTally};
@@ -80,6 +80,10 @@ fn listed_rows<'c, P: Progress>(
         IfOk result (λ rows. AreUnusedIn
         (map (query_in filter_holds profile) (all_tests (list_view session.now.tests))) profile
         rows.unused) }
+    ensures used { let profile = profile_meaning (marks_view names_of) profile.now in
+        IfOk result (λ rows. AreUsedIn
+        (map (query_in filter_holds profile) (all_tests (list_view session.now.tests))) mode profile
+        rows.used) }
 {
     let asking = Lister {
         profile,
@@ -119,7 +123,7 @@ fn listed<'c, P: Progress>(
     Ok(Content::List {
         asked: requested,
         unused: unused_origins(alloc, &session.layers, &rows.unused)?,
-        scripts: scripts_of_list(alloc, session, &on)?,
+        scripts: scripts_by_used(alloc, session, &on, &rows.used)?,
         tests: rows.tests,
         objects: Some(objects),
     })

@@ -15,3 +15,4 @@ pub mod Passing
 pub mod SetMarks
 pub mod Marked
 pub mod BinaryRules
+pub mod Enabling

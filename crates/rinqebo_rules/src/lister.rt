@@ -41,6 +41,8 @@ pub struct ListedRows<'c> {
     pub tests: Vec<TestRows>,
     /// The rules of the profile that hold for no test.
     pub unused: UnusedRules<'c>,
+    /// Which rules of the profile hold for some test.
+    pub used: UsedRules,
 }
 
 /// What a binary is built for, as a report shows it.
@@ -133,6 +135,9 @@ impl<'l, 'c, F: Filters, S: Specs> Lister<'l, 'c, F, S> {
         ensures unused { let profile = profile_meaning F.meaning self.now.profile.now in
             IfOk result (λ rows. AreUnusedIn (map (query_in F.holds profile)
             (map (λ t. t.test) (map list_test_view listed.now))) profile rows.unused) }
+        ensures used { let profile = profile_meaning F.meaning self.now.profile.now in
+            IfOk result (λ rows. AreUsedIn (map (query_in F.holds profile)
+            (map (λ t. t.test) (map list_test_view listed.now))) self.now.mode profile rows.used) }
     {
         let mut tests = Vec::new(alloc);
         let mut used = self.before_tests(alloc)?;
@@ -142,6 +147,10 @@ impl<'l, 'c, F: Filters, S: Specs> Lister<'l, 'c, F, S> {
             progress.asked(tests.len(), listed.len());
         }
         let unused = used.unused(alloc, self.profile)?;
-        Ok(ListedRows { tests, unused })
+        Ok(ListedRows {
+            tests,
+            unused,
+            used,
+        })
     }
 }

@@ -1,11 +1,14 @@
 //! The scripts of a list: the setup scripts that its tests enable, and what wraps its binaries.
-ghost use Rattle.std.specs.Prelude.{◌≡◌, IfOk, filter_map, map, option_map, string_bytes};
-ghost use Rattle.nextest_engines.specs.Engines.{binary_view, test_view};
+ghost use Rattle.std.specs.Prelude.{◌≡◌, IfOk, List, filter_map, map, option_map, string_bytes};
+ghost use Rattle.nextest_engines.specs.Engines.{Test, binary_view, test_view};
 ghost use Rattle.nextest_settings.specs.Profiles.Meaning.{profile_meaning};
 ghost use Rattle.nextest_scripts.specs.ScriptId.{script_text};
-ghost use Rattle.nextest_settings.specs.Queries.{list_wrapper_of};
+ghost use Rattle.nextest_settings.specs.Queries.{list_wrapper_of, query_in};
 ghost use Rattle.rinqebo_rules.specs.Scripts.{binary_in, enabled_ids, wrapper_at, wrapper_view, AreScriptsReported};
+ghost use Rattle.rinqebo_rules.specs.Unused.{AreUsedIn};
 
+use crate::unused::UsedRules;
+use nextest_elements::NextestRunMode;
 use nextest_engines::{BinaryQuery, Filters, Specs, TestQuery};
 use nextest_scripts::ScriptId;
 use nextest_settings::EvaluatableProfile;
@@ -84,6 +87,27 @@ pub fn scripts_of<F: Filters, S: Specs>(
 {
     Ok(ListScripts {
         setup: setup_ids(alloc, profile, tests, tally)?,
+        list_wrappers: list_wrappers(alloc, profile, binaries, tally)?,
+    })
+}
+
+/// The scripts that a profile gives to a list of tests and of these binaries, by the rules that hold
+/// for some of the tests. No filter is evaluated for a test.
+pub fn scripts_by<F: Filters, S: Specs>(
+    alloc: Global,
+    profile: &EvaluatableProfile<'_, F, S>,
+    used: &UsedRules,
+    binaries: &[BinaryQuery<'_>],
+    tally: &mut F::Tally,
+) -> Result<ListScripts, AllocError>
+    ensures { (tests : List Test) (mode : NextestRunMode)
+        → let profile = profile_meaning F.meaning profile.now in
+        AreUsedIn (map (query_in F.holds profile) tests) mode profile used.now
+        → IfOk result (AreScriptsReported F.holds F.holds_binary profile tests
+        (map binary_view binaries.now)) }
+{
+    Ok(ListScripts {
+        setup: used.setup_scripts(alloc, profile)?,
         list_wrappers: list_wrappers(alloc, profile, binaries, tally)?,
     })
 }

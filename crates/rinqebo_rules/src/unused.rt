@@ -1,5 +1,5 @@
 //! The rules of a profile that hold for none of the tests of a list.
-ghost use Rattle.std.specs.Prelude.{◌≡◌, ◌++◌, ◌∷◌, [], ◌||◌, ◌+◌, ◌<◌, ◌^◌, Bool, IfOk, IfSome, IsTrue, List, false, is_some, length, map, option_and_then, option_map, replicate, slice_get, slice_set, unwrap_or};
+ghost use Rattle.std.specs.Prelude.{◌≡◌, ◌++◌, ◌∷◌, [], ◌||◌, ◌+◌, ◌<◌, ◌^◌, Bool, IfOk, IfSome, IsTrue, List, false, is_some, length, map, option_and_then, option_map, replicate, slice_get, slice_set, string_bytes, unwrap_or};
 ghost use Rattle.std.specs.List.{AllZip};
 ghost use Rattle.nextest_engines.specs.Engines.{test_view};
 ghost use Rattle.nextest_settings.specs.Profiles.Meaning.{profile_meaning};
@@ -8,7 +8,7 @@ ghost use Rattle.nextest_settings.specs.Binaries.{IsKnownFor};
 ghost use Rattle.nextest_rules.specs.View.{id_view, script_rule_id_view};
 ghost use Rattle.nextest_settings.specs.Deciding.{QueryContext, rule_holds};
 ghost use Rattle.nextest_settings.specs.Engines.{test_query_by};
-ghost use Rattle.nextest_settings.specs.Queries.{query_in};
+ghost use Rattle.nextest_settings.specs.Queries.{enabled_scripts, query_in};
 ghost use Rattle.nextest_elements.specs.Settings.{settings as all_settings};
 ghost use Rattle.nextest_settings.specs.View.{meant_override, meant_script_rule};
 ghost use Rattle.rinqebo_rules.specs.BinaryRules.{AreAnswersAt, AreKnownIn, known_overrides, known_script_rules};
@@ -19,6 +19,7 @@ ghost use Rattle.rinqebo_rules.specs.Unused.{AreUsedIn, AreUnusedIn, is_used, un
 
 use crate::distinct::{are_overrides_distinct, are_script_rules_distinct};
 use crate::holds::{override_holds, script_rule_holds};
+use crate::marked_scripts::ids_by_marks;
 use crate::passed::{all_written, passed_in, shown_of};
 use crate::values::SourcedSettings;
 use crate::wrapping::{passed_for_wrapper, shown_of_script};
@@ -60,7 +61,7 @@ fn none_of(alloc: Global, count: usize) -> Result<Vec<bool>, AllocError>
 }
 
 /// Whether a rule of a number is marked.
-fn is_marked(used: &[bool], number: usize) -> bool
+pub(crate) fn is_marked(used: &[bool], number: usize) -> bool
     ensures { result ≡ unwrap_or (slice_get used.now number) false }
 {
     used.get(number).copied().unwrap_or(false)
@@ -430,5 +431,23 @@ impl UsedRules {
             overrides: unmarked_overrides(alloc, &rules.overrides, &self.overrides)?,
             script_rules: unmarked_script_rules(alloc, &rules.script_rules, &self.script_rules)?,
         })
+    }
+
+    /// The ids of the setup scripts that the tests enable, in the order in which they run. No
+    /// filter is evaluated: a test enables a script if a script rule holds for it that names it.
+    pub fn setup_scripts<F: Filters, S: Specs>(
+        &self,
+        alloc: Global,
+        profile: &EvaluatableProfile<'_, F, S>,
+    ) -> Result<Vec<String>, AllocError>
+        ensures { (tests : List (QueryContext F.Meaning)) (mode : NextestRunMode)
+            → let profile = profile_meaning F.meaning profile.now in
+            AreUsedIn tests mode profile self.now
+            → IfOk result (λ ids. map string_bytes ids.items
+            ≡ map (λ script. script.0) (enabled_scripts tests profile)) }
+    {
+        let rules = profile.rules();
+        let scripts = profile.script_config();
+        ids_by_marks(alloc, scripts, &rules.script_rules, &self.script_rules)
     }
 }

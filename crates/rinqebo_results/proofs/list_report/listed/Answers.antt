@@ -28,7 +28,8 @@ returns-clause-told g c =
     (Some c.in_ok-objects.objects)
     c.in_ok-on.ensures (c.in_ok-chain.ensures c.requires) (ap borrowed_view c.deref-2.ensures.value)
     c.in_ok-rows.ensures.tests c.in_ok-rows.ensures.unused
-    (reported_in _ _ _ _ c.deref-4.ensures.value c.in_ok-unused_origins.ensures) c.in_ok-scripts_of_list.ensures
+    (reported_in _ _ _ _ c.deref-4.ensures.value c.in_ok-unused_origins.ensures)
+    (c.in_ok-scripts_by_used.ensures c.args.mode c.in_ok-rows.ensures.used)
     objects
 
 pub returns-clause-requested : goal.returns-clause-requested

@@ -8,7 +8,7 @@ use Rattle.nextest_settings.specs.Profiles.Meaning.{profile_meaning}
 use Rattle.nextest_settings.specs.Queries.{query_in}
 use Rattle.rinqebo_origins.specs.TestOrigins.{Basis}
 use Rattle.rinqebo_rules.specs.Rows.{AreTestsReported}
-use Rattle.rinqebo_rules.specs.Unused.{AreUnusedIn}
+use Rattle.rinqebo_rules.specs.Unused.{AreUnusedIn, AreUsedIn}
 use Rattle.rinqebo_results.proofs.Listing.{basis_here}
 use Rattle.filter_inputs.specs.Lists.ListView.{list_view}
 use Rattle.filter_inputs.specs.Lists.Lists.{ListTest, list_tests}
@@ -32,3 +32,10 @@ returns-clause-unused g c =
     subst (λ tests. IfOk c.list.result
     (λ rows. AreUnusedIn (map (query_in filter_holds profile) (map (λ t. t.test) tests)) profile rows.unused))
     (ap (map list_test_view) c.deref-2.ensures.value ∙ c.in_ok-tests.ensures) c.list.ensures.unused
+
+pub returns-clause-used : goal.returns-clause-used
+returns-clause-used g c =
+    let profile = profile_meaning (marks_view names_of) c.args.profile.now in
+    subst (λ tests. IfOk c.list.result
+    (λ rows. AreUsedIn (map (query_in filter_holds profile) (map (λ t. t.test) tests)) c.args.mode profile rows.used))
+    (ap (map list_test_view) c.deref-2.ensures.value ∙ c.in_ok-tests.ensures) c.list.ensures.used

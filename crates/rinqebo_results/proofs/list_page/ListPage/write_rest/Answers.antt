@@ -33,12 +33,23 @@ returns-in_err-count-clause-err g c =
     (WritesRest session chain profile list.mode list.settings.now self.head.now self.paper old) old new fault
     (λ _ none. none) (λ _ first. first) (λ _ none. absurd none) c.in_err-count.ensures.err)
 
-pub returns-in_err-scripts_of_list-clause-err : goal.returns-in_err-scripts_of_list-clause-err
-returns-in_err-scripts_of_list-clause-err g c =
+pub returns-in_err-rules-clause-err : goal.returns-in_err-rules-clause-err
+returns-in_err-rules-clause-err g c =
     let self = c.args.self.now in
     let session = self.session.now in
-    passed_stop _ c.from_residual-in_err-scripts_of_list.result faults.Memory
-    c.from_residual-in_err-scripts_of_list.ensures.1
+    passed_stop _ c.from_residual-in_err-rules.result faults.Memory
+    c.from_residual-in_err-rules.ensures.1
+    (inl (all_first (basis_of session (borrowed_view c.args.chain.now)) self.list.mode
+    (profile_meaning (marks_view names_of) c.args.on.now) self.list.settings.now self.head.now self.paper
+    (list_tests (list_view session.tests)) (g.O.Write.contents c.args.out.now) (g.O.Write.contents c.write_rows.new.out)
+    c.in_ok-count.ensures.tests))
+
+pub returns-in_err-scripts_by_used-clause-err : goal.returns-in_err-scripts_by_used-clause-err
+returns-in_err-scripts_by_used-clause-err g c =
+    let self = c.args.self.now in
+    let session = self.session.now in
+    passed_stop _ c.from_residual-in_err-scripts_by_used.result faults.Memory
+    c.from_residual-in_err-scripts_by_used.ensures.1
     (inl (all_first (basis_of session (borrowed_view c.args.chain.now)) self.list.mode
     (profile_meaning (marks_view names_of) c.args.on.now) self.list.settings.now self.head.now self.paper
     (list_tests (list_view session.tests)) (g.O.Write.contents c.args.out.now) (g.O.Write.contents c.write_rows.new.out)
@@ -50,9 +61,11 @@ returns-clause-ok g c =
     let rows = c.in_ok-count.ensures in
     on_ok_weaker c.write_end.result
     (rest_here self.session.now (borrowed_view c.args.chain.now) (profile_meaning (marks_view names_of) c.args.on.now)
-    self.list.mode self.list.settings.now self.head.now self.paper c.in_ok-count.rules c.in_ok-scripts_of_list.field-0
+    self.list.mode self.list.settings.now self.head.now self.paper c.in_ok-rules.rules c.in_ok-scripts_by_used.field-0
     c.in_ok-count.count (g.O.Write.contents c.args.out.now) (g.O.Write.contents c.write_rows.new.out)
-    (g.O.Write.contents c.write_end.new.out) rows.tests rows.count rows.fits rows.unused c.in_ok-scripts_of_list.ensures)
+    (g.O.Write.contents c.write_end.new.out) rows.tests rows.count rows.fits
+    (c.in_ok-rules.ensures _ self.list.mode rows.used)
+    (c.in_ok-scripts_by_used.ensures self.list.mode rows.used))
     c.write_end.ensures.ok
 
 pub returns-clause-err : goal.returns-clause-err
@@ -75,11 +88,12 @@ returns-clause-err g c =
     rows.tests in
     IfErr-weaker c.write_end.result _ _
     (λ fault. stops_behind (λ _. ⊥) First
-    (EndsPage session self.head.now self.paper c.in_ok-count.count (places_of c.in_ok-count.rules) mid)
+    (EndsPage session self.head.now self.paper c.in_ok-count.count (places_of c.in_ok-rules.rules) mid)
     (WritesRest session chain profile list.mode list.settings.now self.head.now self.paper old) old mid new fault
     (tests_text self.head.now self.paper rows.tests.tests, rows.tests.page)
     (first_or_none (λ _. ⊥) First mid (λ _ none. absurd none) (λ whole same. subst First (sym same) all))
     (λ whole end. inr (rest_here session chain profile list.mode list.settings.now self.head.now self.paper
-    c.in_ok-count.rules c.in_ok-scripts_of_list.field-0 c.in_ok-count.count old mid whole rows.tests rows.count rows.fits
-    rows.unused c.in_ok-scripts_of_list.ensures end)))
+    c.in_ok-rules.rules c.in_ok-scripts_by_used.field-0 c.in_ok-count.count old mid whole rows.tests rows.count rows.fits
+    (c.in_ok-rules.ensures _ self.list.mode rows.used)
+    (c.in_ok-scripts_by_used.ensures self.list.mode rows.used) end)))
     c.write_end.ensures.err

@@ -9,7 +9,7 @@ use Rattle.filter_engine.specs.Engine.{filter_holds}
 use Rattle.nextest_settings.specs.Profiles.Meaning.{profile_meaning}
 use Rattle.nextest_settings.specs.Queries.{query_in}
 use Rattle.rinqebo_rules.specs.Rows.{IsTestReported}
-use Rattle.rinqebo_rules.specs.Unused.{AreUnusedIn, AreUsedIn}
+use Rattle.rinqebo_rules.specs.Unused.{AreUsedIn}
 use Rattle.rinqebo_rules.proofs.ListedTests.{zip_mapped}
 use Rattle.rinqebo_rules.proofs.Marked.{map_more, twice}
 use Rattle.rinqebo_origins.proofs.RowsMore.{zip_more_by}
@@ -106,22 +106,13 @@ returns-in_err-write_text-clause-err g c =
     (one_more self.head.now self.paper before.rows more shows.rows c.as_str.result.now old mid whole refl
     (c.as_str.ensures.value ∙ shows.shown) before.page written))))
 
-pub returns-in_err-unused-clause-err : goal.returns-in_err-unused-clause-err
-returns-in_err-unused-clause-err g c =
-    let asking = c.args.asking.now in
-    let self = c.args.self.now in
-    let before = c.loop-place.invariant in
-    passed_stop _ c.from_residual-in_err-unused.result faults.Memory c.from_residual-in_err-unused.ensures.1
-    (inl (first_so_far c.args.origins.now asking.mode (profile_meaning (marks_view names_of) asking.profile.now) asking.asked.now
-    self.head.now self.paper c.args.listed.now c.loop-place.place before.rows _ _ before.told before.page))
-
-pub returns-clause-unused : goal.returns-clause-unused
-returns-clause-unused g c =
+pub returns-clause-used : goal.returns-clause-used
+returns-clause-used g c =
     let asking = c.args.asking.now in
     let profile = profile_meaning (marks_view names_of) asking.profile.now in
     let listed = c.args.listed.now in
-    subst (λ tests. AreUnusedIn tests profile c.in_ok-unused.unused)
+    subst (λ tests. AreUsedIn tests asking.mode profile c.loop-place.used)
     (ap (map (λ test. query_in filter_holds profile (list_test_view test).test))
     (take_all c.loop-place.place listed c.loop-place-test.false)
     ∙ twice (query_in filter_holds profile) (λ t. t.test) list_test_view listed)
-    (c.in_ok-unused.ensures _ asking.mode c.loop-place.invariant.marked)
+    c.loop-place.invariant.marked

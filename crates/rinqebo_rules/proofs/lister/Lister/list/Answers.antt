@@ -55,3 +55,15 @@ returns-clause-unused g c =
     (take_all c.loop-test.test-index listed c.loop-test-test.false)
     ∙ twice (query_in F.holds profile) (λ t. t.test) list_test_view listed)
     (c.in_ok-unused.ensures _ self.mode c.loop-test.invariant.marked)
+
+pub returns-clause-used : goal.returns-clause-used
+returns-clause-used g c =
+    let F = g.F.Filters in
+    let self = c.args.self.now in
+    let profile = profile_meaning F.meaning self.profile.now in
+    let listed = c.args.listed.now in
+    subst (λ tests. AreUsedIn tests self.mode profile c.loop-test.used)
+    (ap (map (λ test. query_in F.holds profile (list_test_view test).test))
+    (take_all c.loop-test.test-index listed c.loop-test-test.false)
+    ∙ twice (query_in F.holds profile) (λ t. t.test) list_test_view listed)
+    c.loop-test.invariant.marked
