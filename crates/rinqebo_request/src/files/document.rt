@@ -41,6 +41,8 @@ pub struct Document<'t> {
 }
 
 impl<'t> Model for Document<'t> {
+    ghost use Rattle.std.specs.Prelude.{◌≡◌, ℕ, List};
+
     ghost Value = { List ℕ };
 
     ghost view = { λ document. document.text.now };
