@@ -29,7 +29,7 @@ loop-number-preserved g c = λ passed distinct known tests are.
     (c.loop-number.invariant passed distinct known tests are)
     (c.is_script_rule_used-is_used.ensures known_here
     (script_rule_shown query rules c.args.passed n rule c.args.are_distinct stands passed distinct
-    c.shown_of_script-shown.result c.shown_of_script-shown.ensures)
+    c.shown_of_script-shown.result c.shown_of_script-shown.ensures.shown)
     ∙ ap (λ b. b || rule_holds query rule) c.is_marked-held.ensures)
     c.set_mark.ensures
 
