@@ -52,7 +52,7 @@ returns g c = λ tests mode decided of_profile are.
           → used ≡ map (is_used tests) rules
           → after ≡ map (is_used (tests ++ q ∷ [])) rules) _ query _ meaning.overrides same_query overrides
           (λ writes passes distinct holds marks.
-          c.mark_overrides.ensures mode writes passes distinct holds tests marks)
+          c.mark_overrides.ensures.marks mode writes passes distinct holds tests marks)
           (subst (AllZip (AreWritten mode) meaning.overrides) (sym c.deref-3.ensures.value) are.written)
           (c.passed_in-passed.ensures query mode meaning (sym walked) of_profile)
           are.distinct_overrides
@@ -63,7 +63,7 @@ returns g c = λ tests mode decided of_profile are.
           → (IsTrue are_scripts_distinct → AreDistinct (ids_of (λ w. w.id) rules))
           → AreKnownIn q rules known_scripts → used_scripts ≡ map (is_used tests) rules
           → after_scripts ≡ map (is_used (tests ++ q ∷ [])) rules) _ query _ meaning.script_rules same_query scripts
-          (λ passes distinct holds marks. c.mark_script_rules.ensures passes distinct holds tests marks)
+          (λ passes distinct holds marks. c.mark_script_rules.ensures.marks passes distinct holds tests marks)
           (c.passed_for_wrapper-passed.ensures query mode meaning (sym searched) of_profile)
           are.distinct_script_rules
           (subst (AreKnownIn query meaning.script_rules) (sym c.script_rule_answers.ensures)
