@@ -1,8 +1,12 @@
 -- Rules that are evaluated one after another.
-use Rattle.std.proofs.Common.{◌≡◌, ◌∙◌, ◌<◌, ◌≤◌, ◌+◌, ◌++◌, ◌∷◌, [], ℕ, zero, suc, Bool, IsTrue, List, ap, append_assoc, arith, false, if◌then◌else◌, inl, inr, refl, slice_get, slice_set, subst, sym, true}
+use Rattle.std.proofs.Common.{◌≡◌, ◌∙◌, ◌<◌, ◌≤◌, ◌+◌, ◌++◌, ◌∷◌, [], ℕ, zero, suc, Bool, IsTrue, List, Option, Some, ap, append_assoc, arith, false, if◌then◌else◌, inl, inr, map, refl, slice_get, slice_set, subst, sym, true}
 use Rattle.std.proofs.lemmas.List.{append-nil}
-use Rattle.nextest_settings.specs.Deciding.{Rising}
-use Rattle.rinqebo_rules.specs.Evaluations.{EvaluatesIf, EvaluatesOnly}
+use Rattle.nextest_settings.specs.Deciding.{IsEvaluated, QueryContext, Rising}
+use Rattle.nextest_settings.specs.Platforms.{EvaluatedRule}
+use Rattle.rinqebo_rules.specs.Evaluations.{EvaluatesIf, EvaluatesOnly, IsOpenAt, IsOpenIn}
+use Rattle.rinqebo_rules.specs.Passed.{IsHidden}
+use Rattle.rinqebo_rules.specs.Unused.{is_used}
+use Rattle.rinqebo_rules.proofs.Marked.{mark_of}
 
 -- numbers rise strictly from the least one on, below an end, and something holds of each
 abbrev pub RisesBelow : (ℕ → Type 0) → (least end : ℕ) → List ℕ → Type 0
@@ -65,3 +69,38 @@ get_behind_set (y ∷ ys) zero zero x below = absurd (omega (arith, below))
 get_behind_set (y ∷ ys) zero (suc m) x below = refl
 get_behind_set (y ∷ ys) (suc n) zero x below = absurd (omega (arith, below))
 get_behind_set (y ∷ ys) (suc n) (suc m) x below = get_behind_set ys n m x (omega (arith, below))
+
+-- rules that are left open are evaluated beside what the settings of a test need
+pub open_in : {M W T : Type 0} (tests : List (QueryContext M)) (query : QueryContext M) (writes : T → W → Bool)
+    (are_distinct : Bool) (used : List Bool) (known : List (Option Bool)) (shows : ℕ → W → Bool → Type 0) (first : ℕ)
+    (rules : List (EvaluatedRule M W)) → used ≡ map (is_used tests) rules
+    → ((n : ℕ) (rule : EvaluatedRule M W) → slice_get rules n ≡ Some rule → IsHidden (shows n rule.writes)
+    → IsTrue are_distinct → IsEvaluated writes query rules n → ⊥)
+    → (number : ℕ) → IsOpenAt query used known shows first rules number
+    → IsOpenIn tests query writes are_distinct known first rules number
+open_in tests query writes are_distinct used known shows first rules are unneeded number one = record {
+  place = one.place;
+  numbered = one.numbered;
+  rule = one.rule;
+  stands = one.stands;
+  asked = one.is_open.asked;
+  unmatched = sym (mark_of tests rules one.place one.rule used are one.stands) ∙ one.is_open.unmarked;
+  undecided = one.is_open.unknown;
+  unneeded = unneeded one.place one.rule one.stands one.is_open.hidden;
+}
+
+rising_more : (P Q : ℕ → Type 0) (least : ℕ) (ns : List ℕ) → ((n : ℕ) → P n → Q n) → Rising P least ns → Rising Q least ns
+rising_more P Q least [] more rises = tt
+rising_more P Q least (n ∷ ns) more rises = (rises.0, more n rises.1, rising_more P Q (n + 1) ns more rises.2)
+
+-- rules are evaluated, and then others
+pub evaluated_both : (P P' Q Q' : ℕ → Type 0) (first second : ℕ) (old now new : List ℕ)
+    → ((n : ℕ) → P n → P' n) → ((n : ℕ) → Q n → Q' n) → EvaluatesOnly P first old now → EvaluatesOnly Q second now new
+    → (some : List ℕ) × (others : List ℕ) × (new ≡ old ++ (some ++ others)) × Rising P' first some × Rising Q' second others
+evaluated_both P P' Q Q' first second old now new more_some more_others some others = (
+  some.0,
+  others.0,
+  others.1 ∙ ap (λ ns. ns ++ others.0) some.1 ∙ append_assoc old some.0 others.0,
+  rising_more P P' first some.0 more_some some.2,
+  rising_more Q Q' second others.0 more_others others.2,
+)

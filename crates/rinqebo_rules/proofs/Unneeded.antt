@@ -100,3 +100,20 @@ override_unneeded query writes id_of rules n are_distinct written passed all sea
         shown = record { count = count.0; passes = count.1; shown = shown };
       };
     })
+
+-- a script rule that the run wrapper shows nothing of is not evaluated for the wrapper
+pub script_rule_unneeded : {M W : Type 0} (query : QueryContext M) (wraps : W → Bool) (id_of : W → RuleId)
+    (rules : List (EvaluatedRule M W)) (n count : ℕ) (are_distinct : Bool) (rule : EvaluatedRule M W)
+    → slice_get rules n ≡ Some rule → IsPassed query wraps id_of rules count
+    → (IsTrue are_distinct → AreDistinct (ids_of id_of rules))
+    → IsHidden (λ holds. IsTrue (wraps rule.writes) × IsShown are_distinct n count holds)
+    → IsTrue are_distinct → IsEvaluated (λ (wrapper : Unit {0}) w. wraps w) query rules n → ⊥
+script_rule_unneeded query wraps id_of rules n count are_distinct rule stands searched distinct hidden =
+    unneeded query (λ (wrapper : Unit {0}) w. wraps w) id_of rules n are_distinct distinct
+    (λ wrapper other there wanted.
+    let same : other ≡ rule = same_Some other rule (sym there ∙ stands) in
+    record {
+      count = count;
+      passed = searched;
+      hidden = λ holds shown. hidden holds (subst (λ r. IsTrue (wraps r.writes)) same wanted, shown);
+    })

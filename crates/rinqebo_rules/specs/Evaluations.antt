@@ -1,8 +1,16 @@
 -- Which rules are evaluated to find those that hold for a test, beside what its settings need.
-use Rattle.std.specs.Prelude.{◌≡◌, ◌++◌, ◌∷◌, ◌⊎◌, ◌&&◌, ◌+◌, [], ℕ, Bool, IsTrue, List, None, Option, Some, false, is_some, option_and_then, slice_get, unwrap_or}
-use Rattle.nextest_settings.specs.Deciding.{QueryContext, Rising}
+use Rattle.std.specs.Prelude.{◌≡◌, ◌++◌, ◌∷◌, ◌⊎◌, ◌&&◌, ◌+◌, [], ℕ, Bool, IsTrue, List, None, Option, Some, false, is_some, length, option_and_then, slice_get, unwrap_or}
+use Rattle.nextest_elements.specs.declared.run_mode.NextestRunMode.{NextestRunMode}
+use Rattle.nextest_elements.specs.declared.setting.Setting.{Setting}
+use Rattle.nextest_settings.specs.Deciding.{IsEvaluated, QueryContext, Rising}
 use Rattle.nextest_settings.specs.Platforms.{EvaluatedRule, is_on}
+use Rattle.nextest_settings.specs.Profile.{EvaluatableModel}
+use Rattle.nextest_settings.specs.Settings.{is_set}
+use Rattle.nextest_settings.specs.declared.binary_answers.BinaryAnswers.{BinaryAnswers}
+use Rattle.rinqebo_rules.specs.BinaryRules.{known_overrides, known_script_rules}
 use Rattle.rinqebo_rules.specs.Passed.{IsHidden}
+use Rattle.rinqebo_rules.specs.Unused.{is_used}
+use Rattle.rinqebo_rules.specs.declared.unused.UsedRules.{UsedRules}
 
 -- whether a rule is evaluated where it is to be known whether it holds: its platforms hold, and it
 -- has a filter
@@ -39,3 +47,31 @@ pub record IsOpenAt {M W : Type 0} (query : QueryContext M) (used : List Bool)
   pub is_open : IsLeftOpen query (unwrap_or (slice_get used place) false)
       (option_and_then (λ holds. holds) (slice_get known place))
       (IsHidden (shows place rule.writes)) rule
+
+-- A rule of a number is evaluated beside what the settings of a test need: it held for none of the
+-- tests before, the binary of the test does not decide it, and, if no two rules have one id, the
+-- search for the settings does not evaluate it.
+pub record IsOpenIn {M W T : Type 0} (tests : List (QueryContext M)) (query : QueryContext M)
+    (writes : T → W → Bool) (are_distinct : Bool) (known : List (Option Bool)) (first : ℕ)
+    (rules : List (EvaluatedRule M W)) (number : ℕ) : Type 0 where
+  pub place : ℕ
+  pub numbered : number ≡ first + place
+  pub rule : EvaluatedRule M W
+  pub stands : slice_get rules place ≡ Some rule
+  pub asked : IsTrue (asks query rule)
+  pub unmatched : is_used tests rule ≡ false
+  pub undecided : option_and_then (λ holds. holds) (slice_get known place) ≡ None
+  pub unneeded : IsTrue are_distinct → IsEvaluated writes query rules place → ⊥
+
+-- Rules of a profile are evaluated for a test beside those that its settings need: overrides, and
+-- then script rules, which are counted on from them, each once at most and in order.
+abbrev pub EvaluatesBeside : {M : Type 0} → (tests : List (QueryContext M)) → QueryContext M
+    → NextestRunMode → EvaluatableModel M → UsedRules → Option BinaryAnswers → (old new : List ℕ)
+    → Type 0
+EvaluatesBeside tests query mode profile used answers old new =
+    (overrides : List ℕ) × (script_rules : List ℕ) × (new ≡ old ++ (overrides ++ script_rules))
+    × Rising (IsOpenIn tests query (λ (s : Setting) w. is_set w.settings mode s)
+    used.are_overrides_distinct (known_overrides answers) 0 profile.overrides) 0 overrides
+    × Rising (IsOpenIn tests query (λ (wrapper : Unit {0}) w. is_some w.scripts.run_wrapper)
+    used.are_script_rules_distinct (known_script_rules answers) (length profile.overrides)
+    profile.script_rules) (length profile.overrides) script_rules

@@ -8,8 +8,7 @@ ghost use Rattle.rinqebo_rules.specs.Evaluations.{asks};
 use nextest_engines::{EvalContext, Filters, Specs, Tally, TestQuery};
 use nextest_settings::{EvaluatedOverride, EvaluatedScriptRule, matches_test};
 
-/// Whether an override holds for a test. If its platforms hold, its filter is evaluated, if it has
-/// one.
+/// Whether an override holds for a test. Its filter is evaluated if its platforms hold.
 pub(crate) fn override_holds<F: Filters, S: Specs>(
     rule: &EvaluatedOverride<'_, F, S>,
     number: usize,
@@ -27,8 +26,7 @@ pub(crate) fn override_holds<F: Filters, S: Specs>(
         && matches_test::<F>(rule.rule().filter(), number, query, cx, tally)
 }
 
-/// Whether a script rule holds for a test. If its platforms hold, its filter is evaluated, if it has
-/// one.
+/// Whether a script rule holds for a test. Its filter is evaluated if its platforms hold.
 pub(crate) fn script_rule_holds<F: Filters, S: Specs>(
     rule: &EvaluatedScriptRule<'_, F, S>,
     number: usize,

@@ -14,7 +14,7 @@ ghost use Rattle.nextest_settings.specs.View.{meant_override, meant_script_rule}
 ghost use Rattle.rinqebo_rules.specs.BinaryRules.{AreAnswersAt, AreKnownIn, known_overrides, known_script_rules};
 ghost use Rattle.nextest_settings.specs.Settings.{is_set};
 ghost use Rattle.rinqebo_rules.specs.Distinct.{AreDistinct};
-ghost use Rattle.rinqebo_rules.specs.Evaluations.{EvaluatesIf, EvaluatesOnly, IsLeftOpen, IsOpenAt, asks};
+ghost use Rattle.rinqebo_rules.specs.Evaluations.{EvaluatesBeside, EvaluatesIf, EvaluatesOnly, IsLeftOpen, IsOpenAt, asks};
 ghost use Rattle.rinqebo_rules.specs.Passed.{AreWritten, IsHidden, IsPassed, IsShown, IsShownBy, ids_of};
 ghost use Rattle.rinqebo_rules.specs.Unused.{AreUsedIn, AreUnusedIn, is_used, unused_among, written_at};
 
@@ -396,8 +396,8 @@ impl UsedRules {
     ///
     /// A filter is evaluated only if its rule held for none of the tests so far, the binary leaves
     /// it open, and the search for the settings did not evaluate it for this test. (If two rules of
-    /// a kind had one id, which those of a profile do not have, those that decide might be evaluated
-    /// again.)
+    /// a kind had one id, which those of a profile do not have, those that decide might be
+    /// evaluated again.)
     pub(crate) fn add<'c, F: Filters, S: Specs>(
         &mut self,
         profile: &EvaluatableProfile<'c, F, S>,
@@ -406,7 +406,7 @@ impl UsedRules {
         settings: &SourcedSettings<'c, F, S>,
         tally: &mut F::Tally,
     )
-        ensures { (tests : List (QueryContext F.Meaning)) (mode : NextestRunMode)
+        ensures used { (tests : List (QueryContext F.Meaning)) (mode : NextestRunMode)
             → let profile = profile_meaning F.meaning profile.now in
             let test = test_view query.now in
             let query = query_in F.holds profile test in
@@ -415,6 +415,14 @@ impl UsedRules {
             → AreSettingsOf F.meaning query mode profile settings.now
             → AreUsedIn tests mode profile self.old
             → AreUsedIn (tests ++ query ∷ []) mode profile self.new }
+        ensures tally { (tests : List (QueryContext F.Meaning)) (mode : NextestRunMode)
+            → let profile = profile_meaning F.meaning profile.now in
+            let query = query_in F.holds profile (test_view query.now) in
+            AreSettingsOf F.meaning query mode profile settings.now
+            → AreUsedIn tests mode profile self.old
+            → EvaluatesBeside tests query mode profile self.old
+            (option_map (λ known. known.now) answers.entry)
+            (F.Tally.numbers tally.old) (F.Tally.numbers tally.new) }
     {
         let rules = profile.rules();
         let first = rules.overrides.len();

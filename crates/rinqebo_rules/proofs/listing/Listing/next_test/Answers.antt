@@ -8,5 +8,5 @@ returns-clause-told g c =
 pub returns-clause-used : goal.returns-clause-used
 returns-clause-used g c = λ tests are.
     let same = c.turn_to.ensures in
-    (rw same at c.add.ensures) tests c.args.self.now.lister.mode (rw same at c.answers_at-answers.ensures)
+    (rw same at c.add.ensures.used) tests c.args.self.now.lister.mode (rw same at c.answers_at-answers.ensures)
     (rw same at (c.settings_by-settings.ensures c.answers_at-answers.ensures)) are
