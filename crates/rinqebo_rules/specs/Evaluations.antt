@@ -1,8 +1,10 @@
 -- Which rules are evaluated to find those that hold for a test, beside what its settings need.
-use Rattle.std.specs.Prelude.{◌≡◌, ◌++◌, ◌∷◌, ◌⊎◌, ◌&&◌, ◌+◌, [], ℕ, Bool, IsTrue, List, None, Option, Some, false, is_some, length, option_and_then, slice_get, unwrap_or}
+use Rattle.std.specs.Prelude.{◌≡◌, ◌++◌, ◌∷◌, ◌⊎◌, ◌&&◌, ◌+◌, ◌-◌, ◌^◌, [], ℕ, Bool, IsTrue, List, None, Option, Some, false, is_some, length, option_and_then, slice_get, unwrap_or}
 use Rattle.nextest_elements.specs.declared.run_mode.NextestRunMode.{NextestRunMode}
 use Rattle.nextest_elements.specs.declared.setting.Setting.{Setting}
-use Rattle.nextest_settings.specs.Deciding.{IsEvaluated, QueryContext, Rising}
+use Rattle.nextest_engines.specs.Engines.{Binary}
+use Rattle.nextest_settings.specs.Binaries.{EvaluatesOpen, answered_binary}
+use Rattle.nextest_settings.specs.Deciding.{IsEvaluated, QueryContext, Rising, asked_from}
 use Rattle.nextest_settings.specs.Platforms.{EvaluatedRule, is_on}
 use Rattle.nextest_settings.specs.Profile.{EvaluatableModel}
 use Rattle.nextest_settings.specs.Settings.{is_set}
@@ -75,3 +77,25 @@ EvaluatesBeside tests query mode profile used answers old new =
     × Rising (IsOpenIn tests query (λ (wrapper : Unit {0}) w. is_some w.scripts.run_wrapper)
     used.are_script_rules_distinct (known_script_rules answers) (length profile.overrides)
     profile.script_rules) (length profile.overrides) script_rules
+
+-- the number under which the default filter is counted, which no rule has
+abbrev pub default_filter_number : ℕ
+default_filter_number = 2 ^ 64 - 1
+
+-- the last test was one of a binary, so that it is known what the binary decides
+abbrev pub IsTurnedTo : Option BinaryAnswers → Binary → Type 0
+IsTurnedTo None binary = ⊥
+IsTurnedTo (Some answers) binary = answered_binary answers ≡ binary
+
+-- Filters are evaluated for a test whose binary is known to decide some rules: those that its
+-- settings need and the binary leaves open, then those of rules that are left open beside them, and
+-- then the default filter.
+abbrev pub EvaluatesInTurn : {M : Type 0} → (tests : List (QueryContext M)) → QueryContext M
+    → NextestRunMode → EvaluatableModel M → UsedRules → Option BinaryAnswers → (old new : List ℕ)
+    → Type 0
+EvaluatesInTurn tests query mode profile used answers old new =
+    (settled : List ℕ) × (marked : List ℕ)
+    × EvaluatesOpen (known_overrides answers) (asked_from ((λ w. is_some w.scripts.run_wrapper) ∷ [])
+    (length profile.overrides) query [] profile.script_rules) old settled
+    × EvaluatesBeside tests query mode profile used answers settled marked
+    × (new ≡ marked ++ default_filter_number ∷ [])
