@@ -1,5 +1,5 @@
 -- Rules that are evaluated one after another.
-use Rattle.std.proofs.Common.{◌≡◌, ◌∙◌, ◌<◌, ◌≤◌, ◌+◌, ◌++◌, ◌∷◌, [], ℕ, zero, suc, Bool, IsTrue, List, Option, Some, ap, append_assoc, arith, false, if◌then◌else◌, inl, inr, map, refl, slice_get, slice_set, subst, sym, true}
+use Rattle.std.proofs.Common.{◌≡◌, ◌∙◌, ◌<◌, ◌≤◌, ◌+◌, ◌++◌, ◌∷◌, [], ℕ, zero, suc, Bool, IsTrue, List, Option, Some, ap, append_assoc, arith, false, if◌then◌else◌, inl, inr, map, refl, slice_get, slice_set, sym, true}
 use Rattle.std.proofs.lemmas.List.{append-nil}
 use Rattle.nextest_settings.specs.Deciding.{IsEvaluated, QueryContext, Rising}
 use Rattle.nextest_settings.specs.Platforms.{EvaluatedRule}

@@ -1,5 +1,5 @@
 -- Rules that are left open are not evaluated for the settings of a test.
-use Rattle.std.proofs.Common.{◌≡◌, ◌∙◌, ◌<◌, ◌≤◌, ℕ, zero, suc, Bool, IsTrue, List, Option, Some, Vec, Global, [], ◌∷◌, ap, arith, cond, false, filter, get_or, inl, inr, option_map, refl, slice_get, subst, sym, true, unwrap_or}
+use Rattle.std.proofs.Common.{◌≡◌, ◌∙◌, ℕ, zero, suc, Bool, IsTrue, List, Some, Vec, Global, [], ◌∷◌, ap, arith, cond, false, filter, get_or, inl, inr, option_map, refl, slice_get, subst, sym, true, unwrap_or}
 use Rattle.std.proofs.lemmas.Bool.{cases_lt, true≢false}
 use Rattle.std.proofs.lemmas.Option.{same_Some, slice_get-get_or, slice_get_within}
 use Rattle.std.specs.List.{AllZip}

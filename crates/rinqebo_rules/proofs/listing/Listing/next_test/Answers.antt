@@ -1,5 +1,5 @@
 use Rattle.std.proofs.Common.{◌∙◌, ◌∷◌, [], ℕ, Bool, List, is_some, length, option_map, subst, sym}
-use Rattle.nextest_engines.specs.Engines.{binary_view, test_view}
+use Rattle.nextest_engines.specs.Engines.{test_view}
 use Rattle.nextest_rules.specs.Rules.{ScriptRuleUse}
 use Rattle.nextest_settings.specs.Binaries.{EvaluatesOpen}
 use Rattle.nextest_settings.specs.Deciding.{asked_from}
