@@ -1,12 +1,12 @@
 -- Tests of two lists that are looked for in each other.
-use Rattle.std.proofs.Common.{◌≡◌, ◌∙◌, ℕ, ◌+◌, ◌<◌, Bool, true, false, cond, not, List, [], ◌∷◌, ◌++◌, None, Some, length, map, filter, flat_map, take, get_or, append_assoc, refl, sym, ap, subst, arith, zero, suc}
+use Rattle.std.proofs.Common.{◌≡◌, ◌∙◌, ℕ, ◌+◌, ◌<◌, ◌&&◌, ◌||◌, Bool, true, false, cond, not, List, [], ◌∷◌, ◌++◌, None, Some, length, map, filter, flat_map, take, get_or, append_assoc, refl, sym, ap, subst, arith, zero, suc}
 use Rattle.std.proofs.lemmas.List.{append-nil, map-append}
 use Rattle.std.proofs.lemmas.List.Elements.{All-append, All-cons, All-nil, Contains-append_left, Contains-append_right, filter-append}
 use Rattle.std.proofs.lemmas.List.Folds.{list_any_at}
 use Rattle.std.proofs.lemmas.Grind.{flat_map-append}
 use Rattle.std.proofs.lemmas.Option.{slice_get-get_or}
 use Rattle.std.specs.List.{Contains}
-use Rattle.std.specs.Prelude.{slice_get}
+use Rattle.std.specs.Prelude.{bytes_eq, slice_get, string_bytes}
 use Rattle.filter_inputs.specs.Lists.Lists.{ListTest, test_of, tests_in}
 use Rattle.filter_inputs.specs.Lists.ListView.{binary_view, case_view, listed_view}
 use Rattle.filter_inputs.specs.declared.lists.list.ListedBinary.{ListedBinary}
@@ -76,6 +76,18 @@ binary_found bs i b d t one lt is found =
 pub test_there : (bs : List ListedBinary) (i j : ℕ) (b : ListedBinary) (case : TestCase) → slice_get bs i ≡ Some b
     → slice_get b.tests.items j ≡ Some case → Contains (tests_of bs) (read_test b case)
 test_there bs i j b case here there = binary_in bs i b (read_test b case) here (case_in b j case there)
+
+-- a binary of another id does not have a test
+pub not_in_other : (b : ListedBinary) (t : ListTest) → bytes_eq (string_bytes b.id) t.test.binary.binary_id ≡ false
+    → is_in (tests_in (listed_view b)) t ≡ false
+not_in_other b t other = none b.tests.items
+  where
+    none : (cases : List TestCase) → is_in (map (test_of (binary_view b)) (map case_view cases)) t ≡ false
+    none [] = refl
+    none (case ∷ cases) =
+        (λ i. (other i && bytes_eq (string_bytes case.name) t.test.name)
+        || is_in (map (test_of (binary_view b)) (map case_view cases)) t)
+        ∙ none cases
 
 -- the tests of one more case
 pub cases_taken : (b : ListedBinary) (i : ℕ) (case d : TestCase) → i < length b.tests.items

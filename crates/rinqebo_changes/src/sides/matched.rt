@@ -108,6 +108,9 @@ fn find_in<'q>(binary: &'q ListedBinary, start: Place, test: &ListedTest<'_>) ->
         (λ found. IsFound (tests_in (listed_view binary.now)) (list_test_view test.now)
         (list_test_view found.test)) }
 {
+    if binary.id.as_str() != test.query.binary_query.binary_id {
+        return None;
+    }
     let mut place = start;
     for case in &binary.tests {
         let one = test_of(binary, case);
