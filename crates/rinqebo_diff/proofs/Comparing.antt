@@ -1,20 +1,21 @@
 -- Tests that are compared one after another.
-use Rattle.std.proofs.Common.{◌≡◌, ◌∙◌, ℕ, ◌+◌, Bool, false, List, [], ◌∷◌, ◌++◌, Option, None, Some, MatchOption, IfOk, Result, Ok, Err, length-append, refl, sym, ap, subst, arith}
-use Rattle.std.specs.List.{AllZip, filter_map}
+use Rattle.std.proofs.Common.{◌≡◌, ◌∙◌, ℕ, ◌+◌, Bool, false, List, [], ◌∷◌, ◌++◌, Option, None, Some, MatchOption, IfOk, Result, Ok, Err, append_assoc, length-append, refl, sym, ap, subst, arith}
+use Rattle.std.specs.List.{filter_map}
 use Rattle.std.specs.Option.{option_to_list}
+use Rattle.std.proofs.lemmas.List.{append-nil}
 use Rattle.std.proofs.lemmas.List.Elements.{filter_map-append}
-use Rattle.std.proofs.lemmas.Slice.Zip.{all_zipped_more}
 use Rattle.filter_inputs.specs.Lists.Lists.{ListTest}
-use Rattle.filter_inputs.specs.declared.lists.list.ListedTest.{ListedTest}
 use Rattle.rinqebo_changes.specs.Changes.{changed_rows, rows_in, IsChangedTest}
 use Rattle.rinqebo_changes.specs.declared.change.SideRow.{SideRow}
 use Rattle.rinqebo_changes.specs.declared.change.TestChanges.{TestChanges}
 use Rattle.rinqebo_report.specs.declared.report.TestRows.{TestRows}
 use Rattle.rinqebo_request.specs.declared.request.RequestedSettings.{RequestedSettings}
 use Rattle.rinqebo_origins.specs.TestOrigins.{Basis}
-use Rattle.rinqebo_diff.specs.Compared.{AreCompared, AreTestsCompared, IsComparedBy}
 use Rattle.rinqebo_changes.specs.Sides.Matched.{is_in, HasPair, TestPair}
-use Rattle.rinqebo_changes.proofs.Matching.{pairs_kept, pairs_more, pairs_none}
+use Rattle.rinqebo_changes.proofs.Matching.{pair_lacking, pair_one, pairs_behind, pairs_none}
+use Rattle.rinqebo_changes.proofs.Zips.{zip_behind}
+use Rattle.rinqebo_diff.specs.Compared.{AddsCompared, AddsTest, AreTestsCompared, IsComparedBy}
+use Rattle.rinqebo_diff.specs.declared.compared.ComparedTests.{ComparedTests}
 
 -- what is kept of one result
 kept_one : {X : Type 0} (r : Option X) → option_to_list r ≡ filter_map (λ q. q) (r ∷ [])

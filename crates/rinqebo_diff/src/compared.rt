@@ -124,10 +124,10 @@ impl ComparedTests {
     }
 }
 
-/// Compares a test of the right list, if the left list has it. It is looked for near a place first,
-/// which is then the place to begin with for the next test. Of a test that does not change nothing
-/// is kept.
-fn compare_test<'c, 'd, 'q>(
+/// Compares a test of the right list, if the left list has it, and reports progress then, out of the
+/// number of tests that both lists have. The test is looked for near a place first, which is then the
+/// place to begin with for the next test. Nothing is kept of a test that does not change.
+fn compare_test<'c, 'd, 'q, P: Progress>(
     alloc: Global,
     compare: &Comparison<'_>,
     from_tests: &'q [ListedBinary],
@@ -138,6 +138,8 @@ fn compare_test<'c, 'd, 'q>(
     from_origins: &mut Origins<'_, '_, 'c>,
     to_origins: &mut Origins<'_, '_, 'd>,
     found: &mut ComparedTests,
+    number: usize,
+    progress: &mut P,
 ) -> Result<(), AllocError>
     ensures from_lister { left.new.listing.lister ≡ left.old.listing.lister }
     ensures to_lister { right.new.listing.lister ≡ right.old.listing.lister }
@@ -154,22 +156,14 @@ fn compare_test<'c, 'd, 'q>(
         (list_test_view test.entry ∷ []) found.old found.new) }
 {
     if let Some(pair) = pair_of(from_tests, test, guess) {
-        let changes = compared_pair(
-            alloc,
-            compare,
-            &pair,
-            left,
-            right,
-            from_origins,
-            to_origins,
-        )?;
+        let changes = compared_pair(alloc, compare, &pair, left, right, from_origins, to_origins)?;
         found.add(changes)?;
+        progress.asked(found.count, number);
     }
     Ok(())
 }
 
-/// Compares the tests of a binary of the right list that the left list has, and reports progress
-/// after each, out of the number of tests that both lists have.
+/// Compares the tests of a binary of the right list that the left list has.
 fn compare_binary<'c, 'd, 'q, P: Progress>(
     alloc: Global,
     compare: &Comparison<'_>,
@@ -210,8 +204,9 @@ fn compare_binary<'c, 'd, 'q, P: Progress>(
             from_origins,
             to_origins,
             found,
+            number,
+            progress,
         )?;
-        progress.asked(found.count, number);
     }
     Ok(())
 }
