@@ -135,10 +135,3 @@ module _ (left right : ListTest → TestRows → Type 0) (changes : SideRow → 
     changed = two.changed ∙ ap (λ cs. cs ++ two.added) one.changed ∙ append_assoc a.changed.items one.added two.added;
     count = omega (arith, one.count, two.count);
   }
-
-  -- all tests are compared, where none was before
-  pub adds_all : (ts : List ListTest) (old new : ComparedTests) → old.changed.items ≡ [] → old.count ≡ 0
-      → Adds ts old new → AreSo ts new.changed.items new.count
-  adds_all ts old new none zero adds =
-      subst (λ n. AreSo ts new.changed.items n) (sym (adds.count ∙ ap (λ n. n + adds.number) zero))
-      (subst (λ cs. AreSo ts cs adds.number) (sym (adds.changed ∙ ap (λ cs. cs ++ adds.added) none)) adds.are)

@@ -90,12 +90,14 @@ not_in_other b t other = none b.tests.items
         ∙ none cases
 
 -- the tests of one more case
-pub cases_taken : (b : ListedBinary) (i : ℕ) (case d : TestCase) → i < length b.tests.items
-    → case ≡ get_or b.tests.items i d
+pub cases_taken : (b : ListedBinary) (cases : List TestCase) (i : ℕ) (case d : TestCase) → cases ≡ b.tests.items
+    → i < length cases → case ≡ get_or cases i d
     → map (test_of (binary_view b)) (map case_view (take (i + 1) b.tests.items))
     ≡ map (test_of (binary_view b)) (map case_view (take i b.tests.items)) ++ read_test b case ∷ []
-cases_taken b i case d lt is =
-    ap (map (test_of (binary_view b))) (taken_read case_view b.tests.items i case d lt is)
+cases_taken b cases i case d same lt is =
+    let below = subst (λ cs. i < length cs) same lt in
+    let here = subst (λ cs. case ≡ get_or cs i d) same is in
+    ap (map (test_of (binary_view b))) (taken_read case_view b.tests.items i case d below here)
     ∙ map-append (test_of (binary_view b)) (map case_view (take i b.tests.items)) (case_view case ∷ [])
 
 -- the tests of one more binary
@@ -119,8 +121,7 @@ cases_alone others b cases i case d same lt is first old new before then =
     let p : ListTest → Bool = λ t. not (is_in others t) in
     let so_far = map (test_of (binary_view b)) (map case_view (take i b.tests.items)) in
     let one = read_test b case ∷ [] in
-    let taken : map (test_of (binary_view b)) (map case_view (take (i + 1) b.tests.items)) ≡ so_far ++ one =
-    cases_taken b i case d (subst (λ cs. i < length cs) same lt) (subst (λ cs. case ≡ get_or cs i d) same is) in
+    let taken = cases_taken b cases i case d same lt is in
     then ∙ ap (λ xs. xs ++ filter p one) before ∙ append_assoc first (filter p so_far) (filter p one)
     ∙ ap (λ xs. first ++ xs) (sym (filter-append p so_far one) ∙ ap (filter p) (sym taken))
 
