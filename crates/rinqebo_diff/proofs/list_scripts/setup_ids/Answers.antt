@@ -17,13 +17,13 @@ returns g c =
     let profile = c.args.profile.now in
     let meant = profile_meaning F.meaning profile in
     let rules = c.deref.result.now in
-    let Ids : F.Expr → List (EvaluatedRule F.Meaning ScriptRuleUse) → List (Name × SetupScriptText) → Type 0 =
-    λ default by scripts. IfOk c.ids_by_rules.result (λ ids. map string_bytes ids.items
-    ≡ map (λ script. script.0)
-    (enabled_by (judged F.holds (F.meaning default) (tests_of c.args.binaries.now)) by scripts)) in
-    subst (λ default. Ids default meant.script_rules meant.facts.scripts.setup) c.filterset_ecx-cx.ensures
-    (subst (λ by. Ids c.filterset_ecx-cx.result.default_filter.now by meant.facts.scripts.setup)
+    let default = F.meaning c.filterset_ecx-cx.result.default_filter.now in
+    let Ids : F.Meaning → List (EvaluatedRule F.Meaning ScriptRuleUse) → List (Name × SetupScriptText) → Type 0 =
+    λ filter by scripts. IfOk c.ids_by_rules.result (λ ids. map string_bytes ids.items
+    ≡ map (λ script. script.0) (enabled_by (judged F.holds filter (tests_of c.args.binaries.now)) by scripts)) in
+    subst (λ filter. Ids filter meant.script_rules meant.facts.scripts.setup) (ap F.meaning c.filterset_ecx-cx.ensures)
+    (subst (λ by. Ids default by meant.facts.scripts.setup)
     (meant_scripts F.meaning profile rules
     (ap (map evaluated_script_rule_view) c.deref.ensures.value ∙ c.rules-rules.ensures.script_rules))
-    (subst (λ tables. Ids c.filterset_ecx-cx.result.default_filter.now (map (meant_script_rule F.meaning) rules)
-    tables.setup) c.script_config-scripts.ensures c.ids_by_rules.ensures))
+    (subst (λ tables. Ids default (map (meant_script_rule F.meaning) rules) tables.setup)
+    c.script_config-scripts.ensures c.ids_by_rules.ensures))
