@@ -108,8 +108,8 @@ pub struct ComparedTests {
 }
 
 impl ComparedTests {
-    /// Adds a test that both sides have, and what changes for it, if something does. The number of
-    /// tests has no end but that of memory.
+    /// Adds a test that both sides have, and what changes for it, if something does. Too many tests
+    /// to count are too many for memory.
     fn add(&mut self, found: Option<TestChanges>) -> Result<(), AllocError>
         ensures { OnOk result (AddsTest found self.old self.new) }
     {
