@@ -7,9 +7,9 @@ use rinqebo_request::{Document, Layer, NoDocument};
 
 /// The texts of the files of a load, which are layers of a session in a row.
 #[derive(Clone, Copy)]
-pub(crate) struct LayerTexts<'l, 't> {
+pub(crate) struct LayerTexts<'l> {
     /// The layers of the session.
-    pub(crate) layers: &'l [Layer<'t>],
+    pub(crate) layers: &'l [Layer<'l>],
     /// The position of the layer that is the lowest file of the load.
     pub(crate) lowest: usize,
 }
@@ -38,7 +38,7 @@ fn parse_in_layer<'l>(layer: &'l Layer<'_>, text: &str) -> Option<ParsedText<'l>
     }
 }
 
-impl ParsedTexts for LayerTexts<'_, '_> {
+impl ParsedTexts for LayerTexts<'_> {
     fn parse_of(&self, place: usize, text: &str) -> Option<ParsedText<'_>> {
         let position = self.lowest.checked_add(place)?;
         parse_in_layer(self.layers.get(position)?, text)

@@ -132,7 +132,7 @@ impl<'g> Session<'g> {
     }
 
     /// The texts of the layers from a position on, as they were parsed.
-    fn texts_from(&self, lowest: usize) -> LayerTexts<'_, 'g> {
+    fn texts_from(&self, lowest: usize) -> LayerTexts<'_> {
         LayerTexts {
             layers: self.layers.as_slice(),
             lowest,
