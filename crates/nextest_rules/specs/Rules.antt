@@ -59,7 +59,8 @@ abbrev pub at_name : {X : Type 0} → Name → List (Name × X) → Option X
 at_name name es = lookup (is_at (slice_cmp nat_cmp name)) es
 
 -- what a text means, if there is a text and it is read
-abbrev pub meaning_of : {M : Type 0} → (List ℕ → Result M RefusalText) → Option (List ℕ) → Option M
+abbrev pub meaning_of : {M : Type 0} → (List ℕ → Result M RefusalText) → Option (List ℕ)
+    → Option M
 meaning_of read o = option_and_then (λ t. result_ok (read t)) o
 
 -- what the text of a filter means that is written for something
