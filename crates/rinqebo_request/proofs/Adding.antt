@@ -8,7 +8,9 @@ use Rattle.clap.proofs.SimpleLemmas.{not_empty}
 use Rattle.clap.specs.declared.builder.arg.Arg.{Arg}
 use Rattle.clap.specs.declared.builder.command.Command.{Command}
 use Rattle.clap.specs.declared.builder.command.Command.TheViews.{out-Command as fields_of}
-use Rattle.rinqebo_request.specs.ArgumentTable.{Adds, IsArgument, IsCommand, alone, with_rules}
+use Rattle.clap.specs.declared.builder.texts.Texts.TheVariants.{One}
+use Rattle.clap.specs.declared.builder.value_parser.ValueParser.{ValueParser}
+use Rattle.rinqebo_request.specs.ArgumentTable.{Adds, IsArgument, IsCommand, alone, choice_or, choice_rule, with_rules}
 
 or_false : (b : Bool) → (b || false) ≡ b
 or_false true = refl
@@ -76,4 +78,14 @@ conflicting rule old new other is adds =
     record {
       is = ap rule_of adds.0 ∙ ap (λ free. record (rule_of old) { is_free = free }) bound ∙ ap alone is.is;
       own = ap (λ (a : Arg). a.global) adds.0 ∙ is.own;
+    }
+
+-- a choice with a value for a command line without it
+pub defaulted : (fallback : Bor (List ℕ)) (name : List ℕ) (words : ValueParser) (old mid new : Arg) → IsArgument (choice_rule name words) old
+    → mid ≡ record old { default_vals = One fallback } → new ≡ record mid { hide_default_value = true }
+    → IsArgument (choice_or fallback.now name words) new
+defaulted fallback name words old mid new is given hidden =
+    record {
+      is = ap rule_of hidden ∙ ap rule_of given ∙ ap (λ (rule : Rule). record rule { defaults = fallback.now ∷ [] }) is.is;
+      own = ap (λ (a : Arg). a.global) hidden ∙ ap (λ (a : Arg). a.global) given ∙ is.own;
     }

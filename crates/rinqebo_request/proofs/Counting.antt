@@ -1,7 +1,7 @@
 -- The number of columns that a text is.
-use Rattle.std.proofs.Common.{◌≡◌, ◌∙◌, ◌<◌, ◌≤◌, ◌^◌, List, arith, subst, sym, ℕ}
+use Rattle.std.proofs.Common.{◌≡◌, ◌∙◌, ◌<◌, ◌≤◌, ◌^◌, List, MatchOption, None, Option, Some, arith, inl, inr, subst, sym, unwrap_or, ℕ}
 use Rattle.std.specs.Str.Parse.{IsNumeral, digits_value, without_leading_plus}
-use Rattle.rinqebo_request.specs.Requests.{IsColumnCount}
+use Rattle.rinqebo_request.specs.Requests.{AreColumnsBy, IsColumnCount}
 
 -- what `parse` says of a text
 abbrev pub Writes : List ℕ → Type 0
@@ -20,3 +20,14 @@ too_few text count (writes, is) few other counts =
 -- none
 pub no_number : (text : List ℕ) → ¬ Writes text → (other : ℕ) → ¬ IsColumnCount text other
 no_number text none other counts = none (counts.0, subst (λ n. n < 2 ^ 64) counts.1 counts.3)
+
+-- the columns of a variable, or else 80
+pub columns_by : (text : List ℕ) (found : Option ℕ) (columns : ℕ) → MatchOption found ((count : ℕ) → ¬ IsColumnCount text count) (IsColumnCount text)
+    → columns ≡ unwrap_or found 80 → AreColumnsBy (Some text) columns
+columns_by text None columns none is = inr (none, is)
+columns_by text (Some count) columns counts is = inl (subst (IsColumnCount text) (sym is) counts)
+
+pub least_by : (text : List ℕ) (found : Option ℕ) (columns : ℕ) → MatchOption found ((count : ℕ) → ¬ IsColumnCount text count) (IsColumnCount text)
+    → columns ≡ unwrap_or found 80 → 20 ≤ columns
+least_by text None columns none is = omega arith
+least_by text (Some count) columns counts is = subst (λ n. 20 ≤ n) (sym is) counts.2

@@ -7,3 +7,4 @@ pub mod NamedTools
 pub mod NamedFeatures
 pub mod Hinting
 pub mod Counting
+pub mod Targets

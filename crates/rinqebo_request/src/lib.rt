@@ -4,6 +4,7 @@
 //! switch on.
 #![tactic(auto)]
 
+mod check_words;
 mod environment;
 mod features;
 mod files;

@@ -1,7 +1,7 @@
 //! How a command line and variables say that pages are written.
-ghost use Rattle.std.specs.Prelude.{◌≡◌, ◌≤◌, ℕ, MatchOption};
+ghost use Rattle.std.specs.Prelude.{◌≡◌, ◌≤◌, ℕ, MatchOption, Some};
 ghost use Rattle.rinqebo_request.specs.Lines.{line_of};
-ghost use Rattle.rinqebo_request.specs.Requests.{AreColumnsBy, IsColumnCount, IsFormatOf, IsListFormat, IsPaperOf, colour_of, is_coloured, when_coloured};
+ghost use Rattle.rinqebo_request.specs.Requests.{AreColumnsBy, IsColumnCount, IsFormatBy, IsFormatOf, IsListFormat, IsPaperOf, colour_of, is_coloured, when_coloured};
 ghost use Rattle.rinqebo_request.specs.Variables.{text_set};
 
 use crate::environment::{Environment, set};
@@ -15,15 +15,25 @@ const COLUMNS: usize = 80;
 /// The least number of columns that a line of a page may have.
 const LEAST_COLUMNS: usize = 20;
 
+/// The format of a word.
+fn format_by<'a>(word: &str, environment: &'a Environment) -> Format<'a>
+    ensures { IsFormatBy environment.now (Some word.now) result }
+{
+    match word {
+        "json" => Format::Json,
+        "short" | "concise" => Format::Concise,
+        "github" => Format::Github(set(&environment.workflow_folder).unwrap_or("")),
+        _ => Format::Text,
+    }
+}
+
 /// The format of the output.
 pub fn format<'a>(matches: &ArgMatches<'a>, environment: &'a Environment) -> Format<'a>
     ensures { IsFormatOf environment.now (line_of matches.now) result }
 {
     match value(matches, "format") {
-        Some("json") => Format::Json,
-        Some("short" | "concise") => Format::Concise,
-        Some("github") => Format::Github(set(&environment.workflow_folder).unwrap_or("")),
-        _ => Format::Text,
+        Some(word) => format_by(word, environment),
+        None => Format::Text,
     }
 }
 
@@ -48,7 +58,7 @@ fn when_coloured<'a>(matches: &ArgMatches<'a>, environment: &'a Environment) -> 
 }
 
 /// The colours of the output.
-fn colour(matches: &ArgMatches<'_>, environment: &Environment) -> Colour
+fn colour<'a>(matches: &ArgMatches<'a>, environment: &'a Environment) -> Colour
     ensures { result ≡ colour_of environment.now (line_of matches.now) }
 {
     if is_coloured(environment, when_coloured(matches, environment)) {
@@ -88,7 +98,7 @@ fn columns(environment: &Environment) -> usize
 }
 
 /// Whether the output has colours, and how many columns its lines have.
-pub fn paper(matches: &ArgMatches<'_>, environment: &Environment) -> Paper
+pub fn paper<'a>(matches: &ArgMatches<'a>, environment: &'a Environment) -> Paper
     ensures { IsPaperOf environment.now (line_of matches.now) result }
 {
     Paper {

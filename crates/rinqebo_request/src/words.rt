@@ -1,20 +1,19 @@
 //! Reads a command line.
 ghost use Rattle.std.specs.List.{AllZip};
-ghost use Rattle.std.specs.Prelude.{◌≡◌, ◌≢◌, ◌++◌, ◌∷◌, [], IfErr, IfOk, IfSome, codes, map, option_map, string_bytes};
+ghost use Rattle.std.specs.Option.{option_or};
+ghost use Rattle.std.specs.Prelude.{◌≡◌, ◌≢◌, ◌++◌, ◌∷◌, ◌&&◌, [], IfErr, IfOk, IfSome, codes, is_some, map, not, option_map, string_bytes};
 ghost use Rattle.clap.specs.Simple.{subcommand_of, subcommand_rows_of};
 ghost use Rattle.clap.specs.Values.{kind_of};
 ghost use Rattle.nextest_elements.specs.Identifier.{IsPart};
 ghost use Rattle.nextest_elements.specs.IdentifierText.{tool_name_text};
-ghost use Rattle.rinqebo_report.specs.Codes.Codes.{code_word};
-ghost use Rattle.rinqebo_report.specs.declared.codes.code.Code.{Code};
 ghost use Rattle.rinqebo_request.specs.ArgumentTable.{AreProgramChoices, ProgramChoices, program_app};
 ghost use Rattle.rinqebo_request.specs.Lines.{line_of, value_at, values_at};
-ghost use Rattle.rinqebo_request.specs.Requests.{AreEnginesOf, AreFileEngines, AreFilesOf, IsCheckBy, IsCheckRequest, IsCheckedFile, IsCommandOf, IsConfigOf, IsDenialBy, IsListOf, IsListRequest, IsListing, IsNamedCommand, IsSchemaBy, IsShowRequest, IsToolNamed, LacksTarget, mode_by, mode_of, profile_of, source_of};
+ghost use Rattle.rinqebo_request.specs.Requests.{AreEnginesOf, AreFilesOf, IsCommandOf, IsConfigOf, IsListOf, IsListRequest, IsListing, IsNamedCommand, IsSchemaBy, IsShowRequest, IsToolNamed, LacksTarget, mode_by, mode_of, profile_of, source_of};
 ghost use Rattle.rinqebo_request.specs.Stops.{IsRefusedFor, IsStopFor, IsUsage};
 
+use crate::check_words::check_command;
 use crate::environment::{Environment, set};
-use crate::hints::name_hint;
-use crate::line::{has, is_on, value, values};
+use crate::line::{is_on, value, values};
 use crate::named::ProfileSource;
 pub use crate::named_features::features;
 use crate::options::program;
@@ -28,7 +27,6 @@ use crate::test_words::explain_request;
 use clap::ArgMatches;
 use clap::error::ErrorKind;
 use nextest_elements::{InvalidIdentifier, NextestRunMode, ToolName};
-use rinqebo_report::{CODES, Code, find_code};
 use std::alloc::{AllocError, Global};
 
 /// Why a command line is not a request.
@@ -166,27 +164,6 @@ pub fn named_file<'a>(matches: &ArgMatches<'a>) -> ConfigFile<'a>
     }
 }
 
-/// The repository's file that a user names for a check, by FILE or by its option. Only standard
-/// input takes `--stdin-path`.
-fn checked_file<'a>(alloc: Global, matches: &ArgMatches<'a>) -> Result<ConfigFile<'a>, ParseStop>
-    ensures { IfOk result (IsCheckedFile (line_of matches.now)) }
-{
-    let file = value(matches, "FILE");
-    let shown = value(matches, "stdin-path");
-    if file.is_some() && has(matches, "config-file") {
-        return Err(usage(alloc, "FILE cannot be used with `--config-file`", None)?);
-    }
-    match (file, shown) {
-        (Some("-"), shown) => Ok(ConfigFile::Input(shown.unwrap_or("-"))),
-        (_, Some(_)) => {
-            let message = "`--stdin-path` goes with `-`, which stands for standard input";
-            Err(usage(alloc, message, None)?)
-        }
-        (Some(path), None) => Ok(ConfigFile::Named(path)),
-        (None, None) => Ok(named_file(matches)),
-    }
-}
-
 /// What options say of platforms and packages. A list of tests may name the target, so that the
 /// program decides later whether there is one.
 pub fn engines<'a>(matches: &ArgMatches<'a>, environment: &'a Environment) -> EngineOptions<'a>
@@ -203,6 +180,14 @@ pub fn engines<'a>(matches: &ArgMatches<'a>, environment: &'a Environment) -> En
     }
 }
 
+/// Whether there is no target for the compiler's output that an option names.
+fn lacks_target(engines: &EngineOptions<'_>) -> bool
+    ensures { result ≡ (is_some engines.now.target_cfg
+        && not (is_some (option_or engines.now.target engines.now.build_target))) }
+{
+    engines.target_cfg.is_some() && engines.target.or(engines.build_target).is_none()
+}
+
 /// The same for a command without a list. `--target-cfg` needs a target.
 pub fn target_engines<'a>(
     alloc: Global,
@@ -215,26 +200,10 @@ pub fn target_engines<'a>(
         (IsRefusedFor (LacksTarget environment.now (line_of matches.now))) }
 {
     let engines = engines(matches, environment);
-    let has_target = engines.target.or(engines.build_target).is_some();
-    if engines.target_cfg.is_some() && !has_target {
+    if lacks_target(&engines) {
         return Err(usage(alloc, "`--target-cfg` goes with `--target`", None)?);
     }
     Ok(engines)
-}
-
-/// What options say of packages, for a command that is about no test.
-fn file_engines<'a>(matches: &ArgMatches<'a>) -> EngineOptions<'a>
-    ensures { AreFileEngines (line_of matches.now) result }
-{
-    EngineOptions {
-        host: None,
-        rustc_version: None,
-        target: None,
-        build_target: None,
-        host_cfg: None,
-        target_cfg: None,
-        metadata: value(matches, "metadata"),
-    }
 }
 
 /// The mode that a word names.
@@ -348,83 +317,6 @@ fn show_request<'a>(
         profile_source: profile_source(matches, environment),
         files: files(alloc, matches, named_file(matches))?,
         engines: target_engines(alloc, matches, environment)?,
-        features: features(alloc, matches, environment)?,
-        format: format(matches, environment),
-        paper: paper(matches, environment),
-        shows_progress: false,
-    })
-}
-
-/// Whether a check with warnings ends with status 1.
-fn denies_warnings(alloc: Global, matches: &ArgMatches<'_>) -> Result<bool, ParseStop>
-    ensures { IfOk result (IsDenialBy (line_of matches.now)
-        (value_at (codes "deny") (line_of matches.now))) }
-{
-    match value(matches, "deny") {
-        Some("warnings") => Ok(true),
-        Some(_) => Err(usage(alloc, "`--deny` takes `warnings`", None)?),
-        None => Ok(is_on(matches, "deny-warnings")),
-    }
-}
-
-/// The words of all codes.
-fn code_words(alloc: Global) -> Result<Vec<&'static str>, AllocError> {
-    let mut words = Vec::new(alloc);
-    for code in CODES.iter() {
-        words.push(code.word())?;
-    }
-    Ok(words)
-}
-
-/// The code of a word.
-fn code_named(alloc: Global, word: &str) -> Result<Code, ParseStop>
-    ensures ok { IfOk result (λ code. code_word code ≡ word.now) }
-    ensures err { IfErr result (IsRefusedFor ((code : Code) → code_word code ≢ word.now)) }
-{
-    match find_code(word) {
-        Some(code) => Ok(code),
-        None => {
-            let message = format!(in alloc; "no code is `{word}`: `--codes` lists all")?;
-            let hint = name_hint(alloc, word, &code_words(alloc)?)?;
-            Err(usage(alloc, message.as_str(), hint)?)
-        }
-    }
-}
-
-/// What a command line of `check` requests.
-fn check_command<'a>(
-    alloc: Global,
-    matches: &ArgMatches<'a>,
-    environment: &'a Environment,
-) -> Result<Command<'a>, ParseStop>
-    ensures { IfOk result (IsCheckBy environment.now (line_of matches.now)
-        (value_at (codes "explain") (line_of matches.now))) }
-{
-    if let Some(word) = value(matches, "explain") {
-        return Ok(Command::CodePage(code_named(alloc, word)?));
-    }
-    if is_on(matches, "codes") {
-        return Ok(Command::Codes);
-    }
-    let request = check_request(alloc, matches, environment)?;
-    Ok(Command::Answer(request))
-}
-
-/// The request of the command `check`.
-fn check_request<'a>(
-    alloc: Global,
-    matches: &ArgMatches<'a>,
-    environment: &'a Environment,
-) -> Result<Request<'a>, ParseStop>
-    ensures { IfOk result (IsCheckRequest environment.now (line_of matches.now)) }
-{
-    Ok(Request {
-        question: Question::Check {
-            deny_warnings: denies_warnings(alloc, matches)?,
-        },
-        profile_source: ProfileSource::Fallback,
-        files: files(alloc, matches, checked_file(alloc, matches)?)?,
-        engines: file_engines(matches),
         features: features(alloc, matches, environment)?,
         format: format(matches, environment),
         paper: paper(matches, environment),

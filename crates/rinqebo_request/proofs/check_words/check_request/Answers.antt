@@ -1,6 +1,6 @@
 use Rattle.std.proofs.Common.{refl}
 use Rattle.rinqebo_request.proofs.NamedTools.{with_config}
-use Rattle.rinqebo_request.proofs.words.check_request.Goals as goal
+use Rattle.rinqebo_request.proofs.check_words.check_request.Goals as goal
 
 pub returns : goal.returns
 returns c =
