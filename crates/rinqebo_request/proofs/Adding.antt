@@ -1,16 +1,17 @@
 -- Commands to which arguments are added one after another.
-use Rattle.std.proofs.Common.{◌≡◌, ◌∙◌, ◌++◌, ◌∷◌, ◌&&◌, ◌||◌, [], Bool, Bor, List, ap, false, not, refl, sym, true, ℕ}
+use Rattle.std.proofs.Common.{◌≡◌, ◌∙◌, ◌++◌, ◌∷◌, ◌&&◌, ◌||◌, [], Bool, Bor, List, Some, ap, false, not, refl, sym, true, ℕ}
 use Rattle.clap.specs.Adds.{AddsConflicts}
 use Rattle.clap.specs.Built.{AddsArg, AddsSubcommand}
 use Rattle.clap.specs.Simple.{App, app_of, with_rule, with_subcommand}
 use Rattle.clap.specs.Walk.{Rule, is_empty, is_free_arg, rule_of}
 use Rattle.clap.proofs.SimpleLemmas.{not_empty}
+use Rattle.clap.specs.declared.builder.action.ArgAction.TheVariants.{Append}
 use Rattle.clap.specs.declared.builder.arg.Arg.{Arg}
 use Rattle.clap.specs.declared.builder.command.Command.{Command}
 use Rattle.clap.specs.declared.builder.command.Command.TheViews.{out-Command as fields_of}
 use Rattle.clap.specs.declared.builder.texts.Texts.TheVariants.{One}
 use Rattle.clap.specs.declared.builder.value_parser.ValueParser.{ValueParser}
-use Rattle.rinqebo_request.specs.ArgumentTable.{Adds, IsArgument, IsCommand, alone, choice_or, choice_rule, with_rules}
+use Rattle.rinqebo_request.specs.ArgumentTable.{Adds, IsArgument, IsCommand, alone, choice_or, choice_rule, needed, repeated, with_rules}
 
 or_false : (b : Bool) → (b || false) ≡ b
 or_false true = refl
@@ -88,4 +89,29 @@ defaulted fallback name words old mid new is given hidden =
     record {
       is = ap rule_of hidden ∙ ap rule_of given ∙ ap (λ (rule : Rule). record rule { defaults = fallback.now ∷ [] }) is.is;
       own = ap (λ (a : Arg). a.global) hidden ∙ ap (λ (a : Arg). a.global) given ∙ is.own;
+    }
+
+-- an option that may be repeated
+pub repeating : (rule : Rule) (old new : Arg) → IsArgument rule old → new ≡ record old { action = Some Append } → IsArgument (repeated rule) new
+repeating rule old new is adds =
+    record {
+      is = ap rule_of adds ∙ ap repeated is.is;
+      own = ap (λ (a : Arg). a.global) adds ∙ is.own;
+    }
+
+-- an option with a short form
+pub shortened : (short : ℕ) (rule : Rule) (old new : Arg) → IsArgument rule old → new ≡ record old { short = Some short }
+    → IsArgument (record rule { short = Some short }) new
+shortened short rule old new is adds =
+    record {
+      is = ap rule_of adds ∙ ap (λ (r : Rule). record r { short = Some short }) is.is;
+      own = ap (λ (a : Arg). a.global) adds ∙ is.own;
+    }
+
+-- a word that no command line may lack
+pub needing : (rule : Rule) (old new : Arg) → IsArgument rule old → new ≡ record old { required = true } → IsArgument (needed rule) new
+needing rule old new is adds =
+    record {
+      is = ap rule_of adds ∙ ap needed is.is;
+      own = ap (λ (a : Arg). a.global) adds ∙ is.own;
     }

@@ -8,3 +8,4 @@ pub mod NamedFeatures
 pub mod Hinting
 pub mod Counting
 pub mod Targets
+pub mod NamedTests

@@ -111,10 +111,14 @@ pub fn paper<'a>(matches: &ArgMatches<'a>, environment: &'a Environment) -> Pape
 pub(crate) fn list_format<'a>(matches: &ArgMatches<'a>, environment: &'a Environment) -> Format<'a>
     ensures { IsListFormat environment.now (line_of matches.now) result }
 {
-    let format = format(matches, environment);
-    if matches!(format, Format::Text) && has(matches, "by") {
-        Format::Grouped
-    } else {
-        format
+    match format(matches, environment) {
+        Format::Text => {
+            if has(matches, "by") {
+                Format::Grouped
+            } else {
+                Format::Text
+            }
+        }
+        format => format,
     }
 }

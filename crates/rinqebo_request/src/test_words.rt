@@ -1,6 +1,6 @@
 //! Reads the command line of `explain`, which is about one test.
-ghost use Rattle.std.specs.Prelude.{◌≡◌, IfOk, codes, is_some, option_map};
-ghost use Rattle.rinqebo_request.specs.Lines.{IsFlag, line_of, value_at};
+ghost use Rattle.std.specs.Prelude.{◌≡◌, ◌&&◌, ◌||◌, None, Some, IfOk, codes, is_some, not, option_map};
+ghost use Rattle.rinqebo_request.specs.Lines.{has, line_of, value_at};
 ghost use Rattle.rinqebo_request.specs.Requests.{AreEnginesOf, IsExplainRequest, IsExplainedBy, IsListIn, IsNamedBy, IsTestOf, LacksTarget, platform_by};
 ghost use Rattle.rinqebo_request.specs.Stops.{IsInvalid};
 
@@ -68,6 +68,20 @@ fn no_list(alloc: Global, name: &str) -> Result<ParseStop, ParseStop>
     Ok(usage(alloc, message.as_str(), Some(hint))?)
 }
 
+/// Whether a test has neither a binary nor a list to find it in.
+fn lacks_binary(binary: Option<&str>, list: Option<ListFile<'_>>) -> bool
+    ensures { result ≡ (not (is_some binary.entry) && not (is_some list.entry)) }
+{
+    binary.is_none() && list.is_none()
+}
+
+/// Whether a user says that a binary is built for the host, though a list has its platform.
+fn is_listed_for_host(list: Option<ListFile<'_>>, is_host: bool) -> bool
+    ensures { result ≡ (is_some list.entry && is_host) }
+{
+    list.is_some() && is_host
+}
+
 /// The requested test.
 fn requested_test<'a>(
     alloc: Global,
@@ -75,23 +89,31 @@ fn requested_test<'a>(
 ) -> Result<RequestedTest<'a>, ParseStop>
     ensures { IfOk result (IsTestOf (line_of matches.now)) }
 {
-    let TestWords { binary, name } = test_words(alloc, matches)?;
+    let words = test_words(alloc, matches)?;
     let list = named_list(matches);
     let is_host = is_on(matches, "host-binary");
-    if binary.is_none() && list.is_none() {
-        return Err(no_list(alloc, name)?);
+    if lacks_binary(words.binary, list) {
+        return Err(no_list(alloc, words.name)?);
     }
-    if list.is_some() && is_host {
+    if is_listed_for_host(list, is_host) {
         let message = "`--host-binary` goes without `--list`: LIST has the platform of the binary";
         return Err(usage(alloc, message, None)?);
     }
     Ok(RequestedTest {
-        binary,
-        name,
+        binary: words.binary,
+        name: words.name,
         platform: platform(is_host),
         mode: mode(matches),
         list,
     })
+}
+
+/// Whether a command line names KEYs.
+fn names_keys(matches: &ArgMatches<'_>) -> bool
+    ensures { result ≡ (has (codes "KEY") (line_of matches.now)
+        || has (codes "key") (line_of matches.now)) }
+{
+    has(matches, "KEY") || has(matches, "key")
 }
 
 /// What a user requests of a test, if it is why it has the value of a KEY.
@@ -105,7 +127,7 @@ fn why_question<'a>(
     ensures { IfOk result (λ question. IsTestOf (line_of matches.now) test.entry
         → IsExplainedBy environment.now (line_of matches.now) (Some key.now) question) }
 {
-    if has(matches, "KEY") || has(matches, "key") {
+    if names_keys(matches) {
         return Err(usage(alloc, "`--why` cannot be used with KEYs", None)?);
     }
     let profile = profile(matches, environment);

@@ -1,8 +1,8 @@
-use Rattle.std.proofs.Common.{◌∙◌, ap, codes, refl, rules}
+use Rattle.std.proofs.Common.{◌∙◌, ap, codes, refl}
 use Rattle.std.proofs.lemmas.Result.{IfOk-weaker}
 use Rattle.clap.specs.Simple.{app_of_fields, new_app}
 use Rattle.rinqebo_request.specs.ArgumentTable.{IsCommand}
-use Rattle.rinqebo_request.proofs.Adding.{after, none, then, whole}
+use Rattle.rinqebo_request.proofs.Adding.{after, needing, none, then, whole}
 use Rattle.rinqebo_request.proofs.options.list_command.Goals as goal
 
 pub returns : goal.returns
@@ -12,7 +12,7 @@ returns c =
       is = ap app_of_fields c.after_help.ensures ∙ ap app_of_fields c.about.ensures ∙ c.new.ensures.app;
       own = ap (λ f. f.has_globals) c.after_help.ensures ∙ ap (λ f. f.has_globals) c.about.ensures ∙ c.new.ensures.local;
     } in
-    let list = after _ _ _ _ _ _ (none c.after_help.result) (record { is = search rules; own = search rules }) c.in_ok-arg.ensures in
+    let list = after _ _ _ _ _ _ (none c.after_help.result) (needing _ _ _ c.word-list.ensures c.required.ensures) c.in_ok-arg.ensures in
     let keys = after _ _ _ _ _ _ list c.keys.ensures c.in_ok-arg-2.ensures in
     let all = after _ _ _ _ _ _ keys c.flag.ensures c.in_ok-arg-3.ensures in
     let by = after _ _ _ _ _ _ all c.option.ensures c.in_ok-command.ensures in

@@ -1,4 +1,3 @@
-use Rattle.std.proofs.Common.{rules}
 use Rattle.std.proofs.lemmas.Result.{IfOk-weaker}
 use Rattle.rinqebo_request.proofs.Adding.{after, conflicting, none}
 use Rattle.rinqebo_request.proofs.options.with_triples.Goals as goal
