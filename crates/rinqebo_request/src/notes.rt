@@ -1,5 +1,8 @@
 //! Notes on variables that override all files.
 ghost use Rattle.std.specs.Prelude.{◌≡◌, ◌++◌, ◌&&◌, IfOk, OnOk, is_some, string_bytes};
+ghost use Rattle.std.specs.List.{list_any};
+ghost use Rattle.std.specs.Str.{bytes_eq};
+ghost use Rattle.nextest_elements.specs.Settings.{setting_name};
 ghost use Rattle.rinqebo_request.specs.NoteTexts.{is_below, note_on, note_text, notes_text, requests};
 ghost use Rattle.rinqebo_request.specs.Variables.{text_set};
 
@@ -8,12 +11,19 @@ use crate::request::{Question, Request};
 use nextest_elements::Setting;
 use std::alloc::{AllocError, Global};
 
+/// Whether a key is the name of a setting.
+fn is_among(keys: &[&str], setting: Setting) -> bool
+    ensures { result ≡ list_any (λ key. bytes_eq key.now (setting_name setting)) keys.now }
+{
+    keys.iter().any(|key| *key == setting.name())
+}
+
 /// Whether the leaves below keys include the value of a setting. Without a key, they are all
 /// leaves.
 fn is_below(keys: &[&str], setting: Setting) -> bool
     ensures { result ≡ is_below keys.now setting }
 {
-    keys.is_empty() || keys.iter().any(|key| *key == setting.name())
+    keys.is_empty() || is_among(keys, setting)
 }
 
 /// Whether a user requests a setting of a test.
