@@ -1,5 +1,5 @@
 //! The tree and the places of a file's text, or why the text is not a document.
-ghost use Rattle.std.specs.Prelude.{◌≡◌, ℕ, List, IfOk, MatchOption, None, Some};
+ghost use Rattle.std.specs.Prelude.{◌≡◌, IfOk, MatchOption, None, Some};
 ghost use Rattle.toml.specs.View.{view};
 ghost use Rattle.nextest_documents.specs.Text.{tree_of};
 ghost use Rattle.nextest_places.specs.Spans.Spans.{IsDocumentOf};
@@ -41,6 +41,8 @@ pub struct Document<'t> {
 }
 
 impl<'t> Model for Document<'t> {
+    ghost use Rattle.std.specs.Prelude.{◌≡◌, ℕ, List};
+
     ghost Value = { List ℕ };
 
     ghost view = { λ document. document.text.now };
