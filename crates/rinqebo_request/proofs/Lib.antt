@@ -9,3 +9,4 @@ pub mod Hinting
 pub mod Counting
 pub mod Targets
 pub mod NamedTests
+pub mod Refusing

@@ -1,10 +1,19 @@
 -- The rows that keys name, one key after another.
-use Rattle.std.proofs.Common.{◌+◌, ◌<◌, Bor, drop, get_or, map, ◌≡◌, ◌≢◌, ◌∙◌, ◌++◌, ◌∷◌, ◌⊎◌, ◌&&◌, ◌||◌, ◌==◌, [], Bool, List, None, Option, Some, ap, ap₂, false, if◌then◌else◌, inl, inr, length, not, refl, subst, sym, true, ℕ}
+use Rattle.std.proofs.Common.{◌+◌, ◌<◌, Bor, drop, get_or, map, ◌≡◌, ◌≢◌, ◌∙◌, ◌++◌, ◌∷◌, ◌⊎◌, ◌&&◌, ◌||◌, ◌==◌, [], Bool, List, None, Option, Some, ap, ap₂, arith, eqb-true, false, if◌then◌else◌, inl, inr, length, not, refl, subst, sym, true, ℕ}
 use Rattle.std.proofs.lemmas.List.{append-nil, at_drop_more, drop_more}
+use Rattle.std.specs.List.{filter}
+use Rattle.std.specs.Prelude.{Vec, vec_len}
+use Rattle.std.specs.declared.alloc.Global.{Global}
+use Rattle.nextest_elements.specs.Settings.{settings}
 use Rattle.nextest_elements.specs.declared.run_mode.NextestRunMode.{NextestRunMode}
 use Rattle.nextest_elements.specs.declared.setting.Setting.{Setting}
+use Rattle.rinqebo_keys.specs.Keys.{is_named_by}
 use Rattle.rinqebo_request.specs.Rows.{AreKnownKeys, AreRowsBy, IsKnownKey, Rows, is_no_row, is_runs, no_rows, requested, rows_by, rows_or_all, settings_by, with_all, with_key}
 use Rattle.rinqebo_request.specs.declared.request.RequestedSettings.{RequestedSettings}
+
+-- rows
+abbrev pub rows_with : Bool → List Setting → Rows
+rows_with runs settings = record { runs = runs; settings = settings }
 
 with_all_more : (mode : NextestRunMode) (rows : Rows) (a b : List (List ℕ)) → with_all mode rows (a ++ b) ≡ with_all mode (with_all mode rows a) b
 with_all_more mode rows [] b = refl
@@ -34,17 +43,42 @@ or_false false = refl
 
 -- the key of whether a test runs
 pub with_runs : (mode : NextestRunMode) (rows : Rows) (key : List ℕ) → is_runs key ≡ true
-    → record { runs = true; settings = rows.settings } ≡ with_key mode rows key
+    → rows_with true rows.settings ≡ with_key mode rows key
 with_runs mode rows key is =
-    rw is (ap₂ (λ (runs : Bool) (settings : List Setting). record { runs = runs; settings = settings }) (sym (or_true rows.runs))
-    (sym (append-nil rows.settings)))
+    ap₂ rows_with (sym (or_true rows.runs)) (sym (append-nil rows.settings))
+    ∙ ap (λ (b : Bool). rows_with (rows.runs || b) (rows.settings ++ (if b then [] else filter (is_named_by key mode) settings))) (sym is)
 
 -- any other key
 pub with_settings : (mode : NextestRunMode) (rows : Rows) (key : List ℕ) (named : List Setting) → is_runs key ≡ false → settings_by mode key ≡ named
-    → record { runs = rows.runs; settings = rows.settings ++ named } ≡ with_key mode rows key
+    → rows_with rows.runs (rows.settings ++ named) ≡ with_key mode rows key
 with_settings mode rows key named is are =
-    ap₂ (λ (runs : Bool) (settings : List Setting). record { runs = runs; settings = settings })
-    (sym (ap (λ b. rows.runs || b) is ∙ or_false rows.runs)) (ap (λ more. rows.settings ++ more) (sym are))
+    ap₂ rows_with (sym (ap (λ b. rows.runs || b) is ∙ or_false rows.runs)) (ap (λ more. rows.settings ++ more) (sym are))
+
+-- the settings that a key names are put behind
+pub with_named : (mode : NextestRunMode) (rows : Rows) (key : List ℕ) (named slice new : List Setting) → is_runs key ≡ false
+    → (named ≡ filter (is_named_by key mode) settings) × (named ≢ []) → slice ≡ named → new ≡ rows.settings ++ slice
+    → (rows_with rows.runs new ≡ with_key mode rows key) × IsKnownKey mode key
+with_named mode rows key named slice new is (are, some) same more =
+    let by : settings_by mode key ≡ named = ap (λ (b : Bool). if b then [] else filter (is_named_by key mode) settings) is ∙ sym are in (
+      ap (rows_with rows.runs) (more ∙ ap (λ s. rows.settings ++ s) same) ∙ with_settings mode rows key named is by,
+      inr (λ none. some (sym by ∙ none)),
+    )
+
+none_in : (xs : List Setting) → length xs ≡ 0 → xs ≡ []
+none_in [] is = refl
+none_in (x ∷ xs) is = absurd (omega arith)
+
+-- no setting was found
+pub none_named : (found : Vec Setting Global) (key : List ℕ) (mode : NextestRunMode) → found.items ≡ filter (is_named_by key mode) settings
+    → (vec_len found == 0) ≡ true → filter (is_named_by key mode) settings ≡ []
+none_named found key mode are none =
+    let zero : vec_len found ≡ 0 = eqb-true (vec_len found) 0 none in sym are ∙ none_in found.items (omega (arith, found.ok.0))
+
+-- some were
+pub some_named : (found : Vec Setting Global) → (vec_len found == 0) ≡ false → found.items ≢ []
+some_named found some none =
+    let empty : vec_len found ≡ 0 = found.ok.0 ∙ ap length none in
+    let test : (vec_len found == 0) ≡ true = ap (λ n. n == 0) empty in absurd (cc)
 
 some_more : (runs : Bool) (settings : List Setting) (more_runs : Bool) (more : List Setting) → (not runs && length settings == 0) ≡ false
     → (not (runs || more_runs) && length (settings ++ more) == 0) ≡ false

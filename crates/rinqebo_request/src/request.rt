@@ -1,7 +1,8 @@
 //! The request of a user.
+ghost use Rattle.std.specs.List.{list_any};
 ghost use Rattle.std.specs.Prelude.{◌≡◌};
 ghost use Rattle.rinqebo_request.specs.Files.Gathering.{is_discovered, list_named};
-ghost use Rattle.rinqebo_request.specs.NoteTexts.{may_report};
+ghost use Rattle.rinqebo_request.specs.NoteTexts.{is_same_setting, may_report};
 ghost use Rattle.rinqebo_request.specs.Requests.{IsListAt, is_input, list_path, reads_input};
 
 use crate::named::ProfileSource;
@@ -71,6 +72,13 @@ pub enum RequestedSettings {
     },
 }
 
+/// Whether a setting is among some.
+fn is_among(settings: &[Setting], setting: Setting) -> bool
+    ensures { result ≡ list_any (λ one. is_same_setting one setting) settings.now }
+{
+    settings.iter().any(|one| one.name() == setting.name())
+}
+
 impl RequestedSettings {
     /// Whether a report lists a setting, if rules decide it.
     pub fn may_report(&self, setting: Setting) -> bool
@@ -78,9 +86,7 @@ impl RequestedSettings {
     {
         match self {
             RequestedSettings::Decided => true,
-            RequestedSettings::These { settings, .. } => {
-                settings.iter().any(|one| one.name() == setting.name())
-            }
+            RequestedSettings::These { settings, .. } => is_among(settings, setting),
         }
     }
 }
