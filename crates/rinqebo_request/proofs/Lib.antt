@@ -6,7 +6,6 @@ pub mod Commands
 pub mod NamedTools
 pub mod NamedFeatures
 pub mod Hinting
-pub mod Counting
 pub mod Targets
 pub mod NamedTests
 pub mod Refusing

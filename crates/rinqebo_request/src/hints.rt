@@ -30,8 +30,8 @@ pub fn text_hint(alloc: Global, name: &str, known: &[String]) -> Result<Option<S
     ensures { IfOk result (IsTextHint name.now (map string_bytes known.now)) }
 {
     let mut names = Vec::new(alloc);
-    for known in known {
-        names.push(known.as_str())?;
+    for text in known {
+        names.push(text.as_str())?;
     }
     name_hint(alloc, name, &names)
 }
