@@ -1,8 +1,6 @@
 -- The first text of some that there is.
-use Rattle.std.proofs.Common.{◌≡◌, ◌∙◌, [], map, Bool, Bor, List, None, Option, Some, ap, ap₂, is_some, option_map, refl, subst, sym, true, false, unwrap_or, ℕ}
+use Rattle.std.proofs.Common.{◌≡◌, ◌∙◌, ◌&&◌, [], map, Bool, Bor, List, None, Option, Some, ap, ap₂, is_some, not, option_map, refl, subst, sym, true, false, unwrap_or, ℕ}
 use Rattle.std.specs.Option.{option_or}
-use Rattle.rinqebo_request.specs.Requests.{source_by}
-use Rattle.rinqebo_request.specs.declared.named.ProfileSource.TheVariants as sources
 
 pub now_or : (o : Option (Bor (List ℕ))) (d : Bor (List ℕ)) → (unwrap_or o d).now ≡ unwrap_or (option_map (λ t. t.now) o) d.now
 now_or None d = refl
@@ -31,21 +29,6 @@ pub some_kept : {A B : Type 0} (f : A → B) (o : Option A) → is_some (option_
 some_kept f None = refl
 some_kept f (Some x) = refl
 
--- what names the profile
-pub by_line : (a b : Option (List ℕ)) → is_some a ≡ true → source_by a b ≡ sources.CommandLine
-by_line None b is = absurd (cc)
-by_line (Some t) b is = refl
-
-pub by_variable : (a b : Option (List ℕ)) → is_some a ≡ false → is_some b ≡ true → source_by a b ≡ sources.Variable
-by_variable None None none is = absurd (cc)
-by_variable None (Some t) none is = refl
-by_variable (Some t) b none is = absurd (cc)
-
-pub by_none : (a b : Option (List ℕ)) → is_some a ≡ false → is_some b ≡ false → source_by a b ≡ sources.Fallback
-by_none None None none is = refl
-by_none None (Some t) none is = absurd (cc)
-by_none (Some t) b none is = absurd (cc)
-
 -- texts, or none
 pub texts_or : (o : Option (Bor (List (Bor (List ℕ))))) (d result : Bor (List (Bor (List ℕ)))) (a : Option (List (List ℕ))) → d.now ≡ []
     → result ≡ unwrap_or o d → option_map (λ texts. map (λ t. t.now) texts.now) o ≡ a
@@ -58,3 +41,12 @@ texts_or (Some texts) d result a none is are =
 pub none_of : {A : Type 0} (o : Option A) → is_some o ≡ false → o ≡ None
 none_of None is = refl
 none_of (Some x) is = absurd (cc)
+
+-- colours without `NO_COLOR`, and with it
+pub coloured : (b : Bool) (t : Option (List ℕ)) → None ≡ t → b ≡ (b && not (is_some t))
+coloured true t none = ap (λ (o : Option (List ℕ)). not (is_some o)) none
+coloured false t none = refl
+
+pub uncoloured : (b : Bool) (x : List ℕ) (t : Option (List ℕ)) → Some x ≡ t → false ≡ (b && not (is_some t))
+uncoloured true x t some = ap (λ (o : Option (List ℕ)). not (is_some o)) some
+uncoloured false x t some = refl

@@ -1,5 +1,5 @@
 -- The command that a command line names.
-use Rattle.std.proofs.Common.{◌≡◌, ◌∙◌, ◌↔◌, ◌∷◌, [], Bool, IsTrue, List, None, Option, Some, ap, ap₂, codes, false, option_map, refl, subst, sym, true, ℕ}
+use Rattle.std.proofs.Common.{◌≡◌, ◌≢◌, ◌∙◌, ◌↔◌, ◌∷◌, [], Bool, IsTrue, List, None, Option, Some, ap, ap₂, codes, false, option_map, refl, subst, sym, true, ℕ}
 use Rattle.std.proofs.lemmas.Slice.Eq.{bytes_eq-Decides}
 use Rattle.std.specs.Box.{box_value}
 use Rattle.std.specs.Prelude.{Box}
@@ -25,6 +25,10 @@ is_text a b same = (bytes_eq-Decides a b).1 same
 
 pub is_not : (a b : List ℕ) → (a ≡ b → ⊥) → bytes_eq a b ≡ false
 is_not a b other = not_true (bytes_eq a b) (λ is. other ((bytes_eq-Decides a b).0 is))
+
+pub differs : (a b : List ℕ) → bytes_eq a b ≡ false → a ≢ b
+differs a b no same =
+    let yes : bytes_eq a b ≡ true = is_text a b same in absurd (cc)
 
 -- the subcommand that was read, by its name and by what it has
 pub entered : {Z : Type 0} (b : Option (Box SubCommand Z)) (name : List ℕ) (rows : List Row)

@@ -7,5 +7,6 @@ pub mod NamedTools
 pub mod NamedFeatures
 pub mod Hinting
 pub mod Targets
+pub mod Formats
 pub mod NamedTests
 pub mod Refusing

@@ -1,5 +1,5 @@
 //! Reads the command line of `check`, which is about files.
-ghost use Rattle.std.specs.Prelude.{◌≡◌, ◌≢◌, IfErr, IfOk, None, Some, codes, option_map};
+ghost use Rattle.std.specs.Prelude.{◌≡◌, ◌≢◌, IfErr, IfOk, None, Some, codes, option_map, true};
 ghost use Rattle.rinqebo_report.specs.Codes.Codes.{code_word};
 ghost use Rattle.rinqebo_report.specs.declared.codes.code.Code.{Code};
 ghost use Rattle.rinqebo_request.specs.Lines.{line_of, value_at};
@@ -87,14 +87,23 @@ fn file_engines<'a>(matches: &ArgMatches<'a>) -> EngineOptions<'a>
     }
 }
 
+/// Whether a word names warnings. Nothing else can be denied.
+fn denied_by(alloc: Global, word: &str) -> Result<bool, ParseStop>
+    ensures { IfOk result (λ is_denied. (word.now ≡ codes "warnings") × (is_denied ≡ true)) }
+{
+    if word == "warnings" {
+        return Ok(true);
+    }
+    Err(usage(alloc, "`--deny` takes `warnings`", None)?)
+}
+
 /// Whether a check with warnings ends with status 1.
 fn denies_warnings(alloc: Global, matches: &ArgMatches<'_>) -> Result<bool, ParseStop>
     ensures { IfOk result (IsDenialBy (line_of matches.now)
         (value_at (codes "deny") (line_of matches.now))) }
 {
     match value(matches, "deny") {
-        Some("warnings") => Ok(true),
-        Some(_) => Err(usage(alloc, "`--deny` takes `warnings`", None)?),
+        Some(word) => denied_by(alloc, word),
         None => Ok(is_on(matches, "deny-warnings")),
     }
 }
@@ -108,6 +117,15 @@ fn code_words(alloc: Global) -> Result<Vec<&'static str>, AllocError> {
     Ok(words)
 }
 
+/// Why a word is not that of a code.
+fn no_code(alloc: Global, word: &str) -> Result<ParseStop, AllocError>
+    ensures { IfOk result IsInvalid }
+{
+    let message = format!(in alloc; "no code is `{word}`: `--codes` lists all")?;
+    let hint = name_hint(alloc, word, &code_words(alloc)?)?;
+    usage(alloc, message.as_str(), hint)
+}
+
 /// The code of a word.
 fn code_named(alloc: Global, word: &str) -> Result<Code, ParseStop>
     ensures ok { IfOk result (λ code. code_word code ≡ word.now) }
@@ -115,11 +133,7 @@ fn code_named(alloc: Global, word: &str) -> Result<Code, ParseStop>
 {
     match find_code(word) {
         Some(code) => Ok(code),
-        None => {
-            let message = format!(in alloc; "no code is `{word}`: `--codes` lists all")?;
-            let hint = name_hint(alloc, word, &code_words(alloc)?)?;
-            Err(usage(alloc, message.as_str(), hint)?)
-        }
+        None => Err(no_code(alloc, word)?),
     }
 }
 

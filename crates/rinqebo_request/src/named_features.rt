@@ -4,7 +4,7 @@ ghost use Rattle.nextest_elements.specs.Experimental.{experimental_text};
 ghost use Rattle.rinqebo_forms.specs.Features.{AreAdded};
 ghost use Rattle.rinqebo_request.specs.Lines.{line_of};
 ghost use Rattle.rinqebo_request.specs.Requests.{AreFeaturesNamed, HasNamed, IsFeatureName};
-ghost use Rattle.rinqebo_request.specs.Stops.{IsRefusedFor};
+ghost use Rattle.rinqebo_request.specs.Stops.{IsInvalid, IsRefusedFor};
 ghost use Rattle.rinqebo_request.specs.Variables.{IsSwitchedOn};
 
 use crate::environment::Environment;
@@ -47,6 +47,15 @@ fn add_if_switched(
     Ok(())
 }
 
+/// Why a text is not the name of a feature.
+fn no_feature(alloc: Global, name: &str) -> Result<ParseStop, AllocError>
+    ensures { IfOk result IsInvalid }
+{
+    let message = format!(in alloc; "unknown experimental feature `{name}`")?;
+    let hint = name_hint(alloc, name, &["setup-scripts", "wrapper-scripts"])?;
+    usage(alloc, message.as_str(), hint)
+}
+
 /// The feature that the value of an option names.
 fn named_feature(alloc: Global, name: &str) -> Result<ConfigExperimental, ParseStop>
     ensures ok { IfOk result (λ feature. experimental_text feature ≡ name.now) }
@@ -54,11 +63,7 @@ fn named_feature(alloc: Global, name: &str) -> Result<ConfigExperimental, ParseS
 {
     match feature_of(name) {
         Some(feature) => Ok(feature),
-        None => {
-            let message = format!(in alloc; "unknown experimental feature `{name}`")?;
-            let hint = name_hint(alloc, name, &["setup-scripts", "wrapper-scripts"])?;
-            Err(usage(alloc, message.as_str(), hint)?)
-        }
+        None => Err(no_feature(alloc, name)?),
     }
 }
 

@@ -1,5 +1,5 @@
 //! How a command line and variables say that pages are written.
-ghost use Rattle.std.specs.Prelude.{◌≡◌, ◌≤◌, ℕ, MatchOption, Some};
+ghost use Rattle.std.specs.Prelude.{◌≡◌, ◌≤◌, ◌&&◌, ℕ, MatchOption, Some, is_some, not};
 ghost use Rattle.rinqebo_request.specs.Lines.{line_of};
 ghost use Rattle.rinqebo_request.specs.Requests.{AreColumnsBy, IsColumnCount, IsFormatBy, IsFormatOf, IsListFormat, IsPaperOf, colour_of, is_coloured, when_coloured};
 ghost use Rattle.rinqebo_request.specs.Variables.{text_set};
@@ -37,6 +37,18 @@ pub fn format<'a>(matches: &ArgMatches<'a>, environment: &'a Environment) -> For
     }
 }
 
+/// Whether the output has colours, if neither an option nor a variable says so: on a terminal,
+/// without `NO_COLOR`.
+fn may_colour(environment: &Environment) -> bool
+    ensures { result ≡ (environment.now.is_terminal
+        && not (is_some (text_set environment.now.no_colour))) }
+{
+    match set(&environment.no_colour) {
+        Some(_) => false,
+        None => environment.is_terminal,
+    }
+}
+
 /// Whether the output has colours.
 fn is_coloured(environment: &Environment, when: &str) -> bool
     ensures { result ≡ is_coloured environment.now when.now }
@@ -44,7 +56,7 @@ fn is_coloured(environment: &Environment, when: &str) -> bool
     match when {
         "always" => true,
         "never" => false,
-        _ => environment.is_terminal && set(&environment.no_colour).is_none(),
+        _ => may_colour(environment),
     }
 }
 

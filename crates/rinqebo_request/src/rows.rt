@@ -47,6 +47,16 @@ fn named_settings(alloc: Global, key: &str, mode: NextestRunMode) -> Result<Vec<
     Ok(settings)
 }
 
+/// Why a key is not that of one setting: it is that of a table.
+fn is_table(alloc: Global, option: &str, key: &str) -> Result<ParseStop, AllocError>
+    ensures { IfOk result IsInvalid }
+{
+    let message = format!(in alloc;
+        "`{option}` takes one setting, and `{key}` is a table of them"
+    )?;
+    usage(alloc, message.as_str(), None)
+}
+
 /// The setting that the value of an option names. The option takes one setting.
 pub fn one_setting(
     alloc: Global,
@@ -62,10 +72,7 @@ pub fn one_setting(
         return Ok(setting);
     }
     named_settings(alloc, key, mode)?;
-    let message = format!(in alloc;
-        "`{option}` takes one setting, and `{key}` is a table of them"
-    )?;
-    Err(usage(alloc, message.as_str(), None)?)
+    Err(is_table(alloc, option, key)?)
 }
 
 /// The rows of a test that a user names: whether the test runs, and settings.

@@ -24,16 +24,29 @@ struct TestWords<'a> {
     name: &'a str,
 }
 
+/// The single word of a command line that names a test: its name.
+fn single_word<'a>(alloc: Global, matches: &ArgMatches<'a>) -> Result<TestWords<'a>, ParseStop>
+    ensures { IfOk result (λ words. IsNamedBy (value_at (codes "BINARY") (line_of matches.now))
+        None (option_map (λ id. id.now) words.binary) words.name.now) }
+{
+    match value(matches, "BINARY") {
+        Some(name) => Ok(TestWords { binary: None, name }),
+        None => Err(usage(alloc, "no TEST is named", None)?),
+    }
+}
+
 /// The words of a command line that name a test. A single word is its name.
 fn test_words<'a>(alloc: Global, matches: &ArgMatches<'a>) -> Result<TestWords<'a>, ParseStop>
     ensures { IfOk result (λ words. let line = line_of matches.now in
         IsNamedBy (value_at (codes "BINARY") line) (value_at (codes "TEST") line)
         (option_map (λ id. id.now) words.binary) words.name.now) }
 {
-    match (value(matches, "BINARY"), value(matches, "TEST")) {
-        (Some(name), None) => Ok(TestWords { binary: None, name }),
-        (binary, Some(name)) => Ok(TestWords { binary, name }),
-        (None, None) => Err(usage(alloc, "no TEST is named", None)?),
+    match value(matches, "TEST") {
+        Some(name) => Ok(TestWords {
+            binary: value(matches, "BINARY"),
+            name,
+        }),
+        None => single_word(alloc, matches),
     }
 }
 

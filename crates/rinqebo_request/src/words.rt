@@ -1,15 +1,16 @@
 //! Reads a command line.
 ghost use Rattle.std.specs.List.{AllZip};
 ghost use Rattle.std.specs.Option.{option_or};
-ghost use Rattle.std.specs.Prelude.{◌≡◌, ◌≢◌, ◌++◌, ◌∷◌, ◌&&◌, [], IfErr, IfOk, IfSome, codes, is_some, map, not, option_map, string_bytes};
+ghost use Rattle.std.specs.Prelude.{◌≡◌, ◌≢◌, ◌++◌, ◌∷◌, ◌&&◌, [], IfErr, IfOk, IfSome, None, codes, is_some, map, not, option_map, string_bytes};
 ghost use Rattle.clap.specs.Simple.{subcommand_of, subcommand_rows_of};
 ghost use Rattle.clap.specs.Values.{kind_of};
 ghost use Rattle.nextest_elements.specs.Identifier.{IsPart};
 ghost use Rattle.nextest_elements.specs.IdentifierText.{tool_name_text};
 ghost use Rattle.rinqebo_request.specs.ArgumentTable.{AreProgramChoices, ProgramChoices, program_app};
 ghost use Rattle.rinqebo_request.specs.Lines.{line_of, value_at, values_at};
-ghost use Rattle.rinqebo_request.specs.Requests.{AreEnginesOf, AreFilesOf, IsCommandOf, IsConfigOf, IsListOf, IsListRequest, IsListing, IsNamedCommand, IsSchemaBy, IsShowRequest, IsToolNamed, LacksTarget, mode_by, mode_of, profile_of, source_of};
-ghost use Rattle.rinqebo_request.specs.Stops.{IsRefusedFor, IsStopFor, IsUsage};
+ghost use Rattle.rinqebo_request.specs.Requests.{AreEnginesOf, AreFilesOf, IsCommandOf, IsConfigOf, IsListOf, IsListRequest, IsListing, IsNamedCommand, IsSchemaBy, IsShowRequest, IsToolNamed, LacksTarget, mode_by, mode_of, profile_of, source_by, source_of};
+ghost use Rattle.rinqebo_request.specs.Variables.{text_set};
+ghost use Rattle.rinqebo_request.specs.Stops.{IsInvalid, IsRefusedFor, IsStopFor, IsUsage};
 
 use crate::check_words::check_command;
 use crate::environment::{Environment, set};
@@ -61,17 +62,36 @@ pub fn usage(alloc: Global, message: &str, hint: Option<String>) -> Result<Parse
     }
 }
 
+/// What clap says in place of what it reads: help, or why a command line is not valid.
+fn stop_with(kind: ErrorKind, text: String) -> ParseStop
+    ensures { kind ≢ ErrorKind.OutOfMemory → IsStopFor kind result }
+{
+    match kind {
+        ErrorKind::DisplayHelp | ErrorKind::DisplayVersion => ParseStop::Help(text),
+        _ => ParseStop::Usage(text),
+    }
+}
+
 /// Why the command line was not read.
 pub fn stop_of(alloc: Global, error: &clap::Error) -> Result<ParseStop, AllocError>
     ensures { IfOk result (IsStopFor (kind_of error.now)) }
 {
     match error.kind() {
         ErrorKind::OutOfMemory => Ok(ParseStop::Memory),
-        ErrorKind::DisplayHelp | ErrorKind::DisplayVersion => {
-            Ok(ParseStop::Help(error.to_string(alloc)?))
-        }
-        _ => Ok(ParseStop::Usage(error.to_string(alloc)?)),
+        kind => Ok(stop_with(kind, error.to_string(alloc)?)),
     }
+}
+
+/// Why a text is not the name of a tool.
+fn no_tool_name(
+    alloc: Global,
+    name: &str,
+    fault: &InvalidIdentifier,
+) -> Result<ParseStop, AllocError>
+    ensures { IfOk result IsInvalid }
+{
+    let message = format!(in alloc; "`{name}` is not a valid tool name: {fault}")?;
+    usage(alloc, message.as_str(), None)
 }
 
 /// The name of a tool.
@@ -82,10 +102,7 @@ fn tool_name(alloc: Global, name: &str) -> Result<ToolName, ParseStop>
     match ToolName::new(alloc, name) {
         Ok(tool) => Ok(tool),
         Err(InvalidIdentifier::Memory) => Err(ParseStop::Memory),
-        Err(fault) => {
-            let message = format!(in alloc; "`{name}` is not a valid tool name: {fault}")?;
-            Err(usage(alloc, message.as_str(), None)?)
-        }
+        Err(fault) => Err(no_tool_name(alloc, name, &fault)?),
     }
 }
 
@@ -232,16 +249,23 @@ pub fn profile<'a>(matches: &ArgMatches<'a>, environment: &'a Environment) -> &'
         .unwrap_or("default")
 }
 
+/// What names the profile of a command line that does not.
+fn source_unnamed(environment: &Environment) -> ProfileSource
+    ensures { result ≡ source_by None (text_set environment.now.profile) }
+{
+    match set(&environment.profile) {
+        Some(_) => ProfileSource::Variable,
+        None => ProfileSource::Fallback,
+    }
+}
+
 /// What names the requested profile.
 pub fn profile_source(matches: &ArgMatches<'_>, environment: &Environment) -> ProfileSource
     ensures { result ≡ source_of environment.now (line_of matches.now) }
 {
-    if value(matches, "profile").is_some() {
-        ProfileSource::CommandLine
-    } else if set(&environment.profile).is_some() {
-        ProfileSource::Variable
-    } else {
-        ProfileSource::Fallback
+    match value(matches, "profile") {
+        Some(_) => ProfileSource::CommandLine,
+        None => source_unnamed(environment),
     }
 }
 

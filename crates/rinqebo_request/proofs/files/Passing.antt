@@ -1,5 +1,5 @@
 -- Faults that are passed on, and what each is about.
-use Rattle.std.proofs.Common.{◌≡◌, Bor, Err, IfErr, List, None, Ok, Option, Result, Some, option_map, refl, subst, sym, ℕ}
+use Rattle.std.proofs.Common.{◌≡◌, ◌⊎◌, Bor, Err, IfErr, List, None, Ok, Option, Result, Some, inl, inr, option_map, refl, subst, sym, ℕ}
 use Rattle.std.specs.Prelude.{IsErrAnd}
 use Rattle.nextest_sources.specs.Sources.{Outcome}
 use Rattle.rinqebo_request.specs.Files.Gathering.{IsNoFolder, IsNoRoot, IsNoText, IsNoTextIn, IsNotFound, IsReason, IsUnreadable, is_discovered}
@@ -27,6 +27,12 @@ unread path option given outcome reason (faults.Unreadable file why) is gives wh
 unread path option given outcome reason faults.NoRoot is gives why_is = absurd is
 unread path option given outcome reason (faults.NoFolder folder) is gives why_is = absurd is
 unread path option given outcome reason faults.Memory is gives why_is = absurd is
+
+-- the same, if memory may have run out
+pub unread_or : (path : List ℕ) (option : FileOption) (given : Outcome → Type 0) (outcome : Outcome) (reason : List ℕ) (fault : GatherFault)
+    → (fault ≡ faults.Memory) ⊎ IsUnreadable path option reason fault → given outcome → IsReason outcome reason → IsNoText path option given fault
+unread_or path option given outcome reason fault (inl memory) gives why_is = subst (IsNoText path option given) (sym memory) tt
+unread_or path option given outcome reason fault (inr is) gives why_is = unread path option given outcome reason fault is gives why_is
 
 -- the same of another reader
 pub text_of : (path : List ℕ) (option : FileOption) (one other : Outcome → Type 0) (fault : GatherFault) → ((outcome : Outcome) → one outcome → other outcome)

@@ -1,9 +1,9 @@
 //! Reads the files that a request names.
-ghost use Rattle.std.specs.Prelude.{◌≡◌, IfErr, IfOk, MatchOption, Some, codes, map, option_map, string_bytes};
+ghost use Rattle.std.specs.Prelude.{◌≡◌, ◌⊎◌, IfErr, IfOk, MatchOption, MatchResult, Some, codes, map, option_map, string_bytes};
 ghost use Rattle.std.specs.List.{AllZip};
 ghost use Rattle.std.specs.Option.{ForSome};
 ghost use Rattle.nextest_sources.specs.Sources.{file_view, not_found, outcome_view, text, tool_file_view};
-ghost use Rattle.rinqebo_request.specs.Files.Gathering.{AreFilesFor, HasGatherCause, IsFileIn, IsListText, IsNoFolder, IsNoList, IsNoRoot, IsNoText, IsNoTextIn, IsNotFound, IsUnreadable, IsNamedFile, IsOwnFile, IsReadAt, IsText, IsTextAt, IsToolFile, input_left};
+ghost use Rattle.rinqebo_request.specs.Files.Gathering.{AreFilesFor, HasGatherCause, IsFileIn, IsListText, IsNoFolder, IsNoList, IsNoRoot, IsNoText, IsNoTextIn, IsNotFound, IsUnreadable, IsNamedFile, IsOwnFile, IsReadAt, IsReason, IsText, IsTextAt, IsToolFile, input_left};
 
 use crate::environment::Environment;
 use crate::files::root::root_above;
@@ -96,6 +96,28 @@ fn named_root<R: FileReader>(alloc: Global, root: &str, files: &R) -> Result<Str
     }
 }
 
+/// A root at a path.
+fn root_at(alloc: Global, path: &str) -> Result<String, GatherFault>
+    ensures { IfErr result (λ fault. fault ≡ GatherFault.Memory) }
+{
+    Ok(String::from_str(alloc, path)?)
+}
+
+/// The root where none is found upward from a folder: the folder itself, if a user names the
+/// repository's file.
+fn root_at_folder(
+    alloc: Global,
+    config_file: ConfigFile<'_>,
+    folder: &str,
+) -> Result<String, GatherFault>
+    ensures { IfErr result (IsNotFound config_file.entry) }
+{
+    if config_file.is_discovered() {
+        return Err(GatherFault::NoRoot);
+    }
+    root_at(alloc, folder)
+}
+
 /// The root that is found upward from a folder. Where there is none, and a user names the repository's
 /// file, it is the folder itself.
 fn found_root<R: FileReader>(
@@ -106,12 +128,10 @@ fn found_root<R: FileReader>(
 ) -> Result<String, GatherFault>
     ensures { IfErr result (IsNotFound config_file.entry) }
 {
-    let root = match (root_above(alloc, folder, files)?, config_file) {
-        (Some(root), _) => root,
-        (None, ConfigFile::Named(_) | ConfigFile::Input(_)) => folder,
-        (None, ConfigFile::Discovered) => return Err(GatherFault::NoRoot),
-    };
-    Ok(String::from_str(alloc, root)?)
+    match root_above(alloc, folder, files)? {
+        Some(root) => root_at(alloc, root),
+        None => root_at_folder(alloc, config_file, folder),
+    }
 }
 
 /// The root of the workspace.
@@ -269,16 +289,31 @@ fn tool_files<R: FileReader>(
 }
 
 /// That the file at the path of an option has no text, and why.
-fn unreadable(
-    alloc: Global,
-    path: &str,
-    option: FileOption,
-    reason: String,
-) -> Result<GatherFault, AllocError>
-    ensures { IfOk result (IsUnreadable path.now option (string_bytes reason)) }
+fn unreadable(alloc: Global, path: &str, option: FileOption, reason: String) -> GatherFault
+    ensures { (result ≡ GatherFault.Memory)
+        ⊎ IsUnreadable path.now option (string_bytes reason) result }
 {
-    let file = NamedFile::new(alloc, Some(path), option)?;
-    Ok(GatherFault::Unreadable(file, reason))
+    match NamedFile::new(alloc, Some(path), option) {
+        Ok(file) => GatherFault::Unreadable(file, reason),
+        Err(_) => GatherFault::Memory,
+    }
+}
+
+/// The text that was read, or the reason why there is none.
+fn text_or_reason(alloc: Global, outcome: ReadOutcome) -> Result<Result<String, String>, AllocError>
+    ensures { IfOk result (λ read. MatchResult read
+        (λ text. IsText (outcome_view outcome) (string_bytes text))
+        (λ reason. IsReason (outcome_view outcome) (string_bytes reason))) }
+{
+    match outcome {
+        ReadOutcome::Text(text) => Ok(Ok(text)),
+        ReadOutcome::NotFound => Ok(Err(String::from_str(alloc, "no such file")?)),
+        ReadOutcome::NotADirectory => {
+            let reason = String::from_str(alloc, "a part of it is not a directory")?;
+            Ok(Err(reason))
+        }
+        ReadOutcome::Failed(message) => Ok(Err(message)),
+    }
 }
 
 /// The text that was read at the path of an option, or why there is none.
@@ -292,17 +327,9 @@ fn text_of(
     ensures err { IfErr result
         (IsNoText path.now option (λ given. given ≡ outcome_view outcome)) }
 {
-    match outcome {
-        ReadOutcome::Text(text) => Ok(text),
-        ReadOutcome::NotFound => {
-            let reason = String::from_str(alloc, "no such file")?;
-            Err(unreadable(alloc, path, option, reason)?)
-        }
-        ReadOutcome::NotADirectory => {
-            let reason = String::from_str(alloc, "a part of it is not a directory")?;
-            Err(unreadable(alloc, path, option, reason)?)
-        }
-        ReadOutcome::Failed(message) => Err(unreadable(alloc, path, option, message)?),
+    match text_or_reason(alloc, outcome)? {
+        Ok(text) => Ok(text),
+        Err(reason) => Err(unreadable(alloc, path, option, reason)),
     }
 }
 

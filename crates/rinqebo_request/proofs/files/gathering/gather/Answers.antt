@@ -36,34 +36,34 @@ returns-in_err-root-clause-cause g c =
 
 pub returns-in_err-rustc_version-clause-cause : goal.returns-in_err-rustc_version-clause-cause
 returns-in_err-rustc_version-clause-cause g c =
-    passed _ c.from_residual.result c.in_err-rustc_version.field-0.0 c.from_residual.ensures.1 (of_rustc_version c.in_err-rustc_version.ensures.err)
+    passed _ c.from_residual-in_err-rustc_version.result c.in_err-rustc_version.field-0.0 c.from_residual-in_err-rustc_version.ensures.1 (of_rustc_version c.in_err-rustc_version.ensures.err)
 
 pub returns-in_err-host_cfg-clause-cause : goal.returns-in_err-host_cfg-clause-cause
 returns-in_err-host_cfg-clause-cause g c =
-    passed _ c.from_residual.result c.in_err-host_cfg.field-0.0 c.from_residual.ensures.1 (of_host_cfg c.in_err-host_cfg.ensures.err)
+    passed _ c.from_residual-in_err-host_cfg.result c.in_err-host_cfg.field-0.0 c.from_residual-in_err-host_cfg.ensures.1 (of_host_cfg c.in_err-host_cfg.ensures.err)
 
 pub returns-in_err-target_cfg-clause-cause : goal.returns-in_err-target_cfg-clause-cause
 returns-in_err-target_cfg-clause-cause g c =
-    passed _ c.from_residual.result c.in_err-target_cfg.field-0.0 c.from_residual.ensures.1 (of_target_cfg c.in_err-target_cfg.ensures.err)
+    passed _ c.from_residual-in_err-target_cfg.result c.in_err-target_cfg.field-0.0 c.from_residual-in_err-target_cfg.ensures.1 (of_target_cfg c.in_err-target_cfg.ensures.err)
 
 pub returns-in_err-metadata-clause-cause : goal.returns-in_err-metadata-clause-cause
 returns-in_err-metadata-clause-cause g c =
-    passed _ c.from_residual.result c.in_err-metadata.field-0.0 c.from_residual.ensures.1 (of_metadata c.in_err-metadata.ensures.err)
+    passed _ c.from_residual-in_err-metadata.result c.in_err-metadata.field-0.0 c.from_residual-in_err-metadata.ensures.1 (of_metadata c.in_err-metadata.ensures.err)
 
 pub returns-in_err-list-clause-cause : goal.returns-in_err-list-clause-cause
 returns-in_err-list-clause-cause g c =
-    passed _ c.from_residual.result c.in_err-list.field-0.0 c.from_residual.ensures.1
+    passed _ c.from_residual-in_err-list.result c.in_err-list.field-0.0 c.from_residual-in_err-list.ensures.1
     (of_list (subst (λ named. IsNoList (g.R.FileReader.MayGive c.args.files.now) named (outcome_view c.args.input) c.in_err-list.field-0.0)
     c.list-named.ensures c.in_err-list.ensures.err))
 
 pub returns-in_err-shared-clause-cause : goal.returns-in_err-shared-clause-cause
-returns-in_err-shared-clause-cause g c = passed _ c.from_residual.result faults.Memory c.from_residual.ensures.1 (of_memory refl)
+returns-in_err-shared-clause-cause g c = passed _ c.from_residual-in_err-shared.result faults.Memory c.from_residual-in_err-shared.ensures.1 (of_memory refl)
 
 pub returns-in_err-config_file-clause-cause : goal.returns-in_err-config_file-clause-cause
-returns-in_err-config_file-clause-cause g c = passed _ c.from_residual.result faults.Memory c.from_residual.ensures.1 (of_memory refl)
+returns-in_err-config_file-clause-cause g c = passed _ c.from_residual-in_err-config_file.result faults.Memory c.from_residual-in_err-config_file.ensures.1 (of_memory refl)
 
 pub returns-in_err-organisation_file-clause-cause : goal.returns-in_err-organisation_file-clause-cause
-returns-in_err-organisation_file-clause-cause g c = passed _ c.from_residual.result faults.Memory c.from_residual.ensures.1 (of_memory refl)
+returns-in_err-organisation_file-clause-cause g c = passed _ c.from_residual-in_err-organisation_file.result faults.Memory c.from_residual-in_err-organisation_file.ensures.1 (of_memory refl)
 
 pub returns-in_err-tools-clause-cause : goal.returns-in_err-tools-clause-cause
-returns-in_err-tools-clause-cause g c = passed _ c.from_residual.result faults.Memory c.from_residual.ensures.1 (of_memory refl)
+returns-in_err-tools-clause-cause g c = passed _ c.from_residual-in_err-tools.result faults.Memory c.from_residual-in_err-tools.ensures.1 (of_memory refl)

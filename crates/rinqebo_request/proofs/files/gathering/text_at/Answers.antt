@@ -19,6 +19,6 @@ returns-in_err-outcome-clause-err g c =
 pub returns-in_err-text-clause-err : goal.returns-in_err-text-clause-err
 returns-in_err-text-clause-err g c =
     let gives = g.R.FileReader.MayGive c.args.files.now c.in-Some.path.now in
-    rw c.in-Some.is (passed _ c.from_residual.result c.in_err-text.field-0.0 c.from_residual.ensures.1
+    rw c.in-Some.is (passed _ c.from_residual-in_err-text.result c.in_err-text.field-0.0 c.from_residual-in_err-text.ensures.1
     (text_of c.in-Some.path.now c.args.option (λ given. given ≡ outcome_view c.in_ok-outcome.outcome) gives c.in_err-text.field-0.0
     (λ given same. subst gives (sym same) c.in_ok-outcome.ensures) c.in_err-text.ensures.err))
