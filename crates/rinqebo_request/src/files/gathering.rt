@@ -112,10 +112,10 @@ fn root_at_folder(
 ) -> Result<String, GatherFault>
     ensures { IfErr result (IsNotFound config_file.entry) }
 {
-    if config_file.is_discovered() {
-        return Err(GatherFault::NoRoot);
+    if !config_file.is_discovered() {
+        return root_at(alloc, folder);
     }
-    root_at(alloc, folder)
+    Err(GatherFault::NoRoot)
 }
 
 /// The root that is found upward from a folder. Where there is none, and a user names the repository's
