@@ -1,5 +1,5 @@
--- Where a value comes from, without what may differ between the files of two sides: paths, lines and
--- how values are kept.
+-- Where a value comes from, without what may differ between the files of two sides: paths, lines
+-- and how values are kept.
 use Rattle.std.specs.Prelude.{ℕ, List, Option, option_map, map, slice_get, string_bytes, if◌then◌else◌}
 use Rattle.rinqebo_report.specs.declared.origin.Origin.{Origin}
 use Rattle.rinqebo_report.specs.declared.origin.Origin.TheVariants as origins

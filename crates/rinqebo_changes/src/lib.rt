@@ -33,5 +33,5 @@ pub use laws::{
 };
 pub use markdown_page::diff_markdown;
 pub use same_origin::TwoSources;
-pub use sides::{Matched, Pair, law_own_tests, match_tests, pair_of, run_rows};
+pub use sides::{AloneTests, Pair, Place, law_own_tests, pair_of, run_rows, test_of, tests_alone};
 pub use text_page::diff_text;

@@ -6,5 +6,5 @@ mod matched;
 mod rows;
 
 pub use laws::law_own_tests;
-pub use matched::{Matched, Pair, match_tests, pair_of};
+pub use matched::{AloneTests, Pair, Place, pair_of, test_of, tests_alone};
 pub use rows::run_rows;

@@ -1,5 +1,5 @@
 -- What a side that is loaded is compared by, by what its files mean.
-use Rattle.std.proofs.Common.{◌≡◌, ℕ, Bool, Bor, List, [], false, IfOk, Result, map, string_bytes, subst}
+use Rattle.std.proofs.Common.{◌≡◌, ℕ, Bool, Bor, List, [], false, map, string_bytes, subst}
 use Rattle.std.specs.List.{AllZip}
 use Rattle.filter_engine.specs.Compiling.{names_of}
 use Rattle.filter_engine.specs.Engine.{Filter}
@@ -29,8 +29,7 @@ use Rattle.rinqebo_report.specs.declared.report.TestRows.{TestRows}
 use Rattle.rinqebo_results.specs.Listed.{IsProfileOn}
 use Rattle.rinqebo_results.specs.ListedBy.{read_by}
 use Rattle.rinqebo_results.specs.ShownConfig.{AreShown}
-use Rattle.rinqebo_changes.specs.Sides.Matched.{ArePairs, AreMatched, TestPair}
-use Rattle.rinqebo_changes.specs.declared.sides.matched.Matched.{Matched}
+use Rattle.rinqebo_changes.specs.Sides.Matched.{TestPair}
 use Rattle.rinqebo_results.proofs.Listing.{given_means}
 use Rattle.rinqebo_diff.specs.Compared.{AreCompared}
 use Rattle.rinqebo_diff.specs.Differences.{Differs, IsCountOf, IsIdOf}
@@ -82,12 +81,6 @@ differs_as_loaded request from to left right diff is_left is_right is = record {
   is_diff = is.is_diff;
 }
 
--- the tests of two lists by other names
-pub matched_as : {E : Type 0} (result : Result Matched E) (a b c d : List ListTest) → a ≡ b → c ≡ d
-    → IfOk result (AreMatched a c) → IfOk result (AreMatched b d)
-matched_as result a b c d one two are =
-    subst (λ ts. IfOk result (AreMatched b ts)) two (subst (λ ts. IfOk result (AreMatched ts c)) one are)
-
 -- tests are compared between the same sources by other names
 pub compared_as : {left right : ListTest → TestRows → Type 0} {with_runs : Bool} (with_origins : Bool)
     (a b c d : List Source) (pairs : List TestPair) (changed : List TestChanges) → a ≡ b → c ≡ d
@@ -96,11 +89,6 @@ pub compared_as : {left right : ListTest → TestRows → Type 0} {with_runs : B
 compared_as {left} {right} {with_runs} with_origins a b c d pairs changed one two are =
     subst (λ ss. AreCompared left right (is_change b ss with_origins) with_runs pairs changed) two
     (subst (λ ss. AreCompared left right (is_change ss c with_origins) with_runs pairs changed) one are)
-
--- pairs are those of two lists by other names
-pub paired_as : (a b c d : List ListTest) (pairs : List TestPair) → a ≡ b → c ≡ d → ArePairs a c pairs → ArePairs b d pairs
-paired_as a b c d pairs one two are =
-    subst (λ ts. ArePairs b ts pairs) two (subst (λ ts. ArePairs ts c pairs) one are)
 
 -- binaries are counted by another name
 pub counted_as : (a b : List ListedBinary) (counts : List BinaryTests) → a ≡ b

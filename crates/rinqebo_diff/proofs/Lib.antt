@@ -1,4 +1,5 @@
 pub mod Comparing
+pub mod Judging
 pub mod Evaluating
 pub mod Failing
 pub mod EqualSides

@@ -5,11 +5,11 @@ use Rattle.filter_inputs.specs.Lists.Lists.{Listed}
 use Rattle.filter_inputs.specs.Lists.ListView.{list_test_view}
 use Rattle.rinqebo_diff.specs.Differences.{IsCountOf, IsIdOf}
 use Rattle.rinqebo_diff.specs.declared.sides.Beside.{Beside}
-use Rattle.rinqebo_changes.specs.declared.sides.matched.Matched.{Matched}
+use Rattle.rinqebo_changes.specs.declared.sides.matched.AloneTests.{AloneTests}
 
--- The binaries of a list, and how many tests each has, and the names of matched tests that one list
--- has alone.
-pub record IsBeside (matched : Matched) (listed : List Listed) (beside : Beside) : Type 0 where
+-- The binaries of a list, and how many tests each has, and the names of the tests that one list has
+-- alone.
+pub record IsBeside (alone : AloneTests) (listed : List Listed) (beside : Beside) : Type 0 where
   pub binaries : AllZip IsCountOf listed beside.binaries.items
-  pub removed : AllZip IsIdOf (map list_test_view matched.removed.items) beside.removed.items
-  pub added : AllZip IsIdOf (map list_test_view matched.added.items) beside.added.items
+  pub removed : AllZip IsIdOf (map list_test_view alone.removed.items) beside.removed.items
+  pub added : AllZip IsIdOf (map list_test_view alone.added.items) beside.added.items

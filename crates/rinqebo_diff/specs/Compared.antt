@@ -1,6 +1,7 @@
 -- What changes for the tests that both sides have.
-use Rattle.std.specs.Prelude.{◌≡◌, ℕ, [], Bool, List, Option, MatchOption, filter_map, length}
+use Rattle.std.specs.Prelude.{◌≡◌, ℕ, ◌+◌, ◌++◌, [], Bool, List, Option, MatchOption, filter_map, length}
 use Rattle.std.specs.List.{AllZip}
+use Rattle.std.specs.Option.{option_to_list}
 use Rattle.nextest_elements.specs.declared.run_mode.NextestRunMode.{NextestRunMode}
 use Rattle.nextest_engines.specs.Engines.{Test}
 use Rattle.filter_inputs.specs.Lists.Lists.{ListTest}
@@ -14,6 +15,7 @@ use Rattle.rinqebo_request.specs.declared.request.RequestedSettings.{RequestedSe
 use Rattle.rinqebo_rules.specs.Rows.{IsTestReported}
 use Rattle.rinqebo_origins.specs.TestOrigins.{Basis}
 use Rattle.rinqebo_changes.specs.Sides.Matched.{ArePairs, TestPair}
+use Rattle.rinqebo_diff.specs.declared.compared.ComparedTests.{ComparedTests}
 
 -- A side reports rows of a test: those that its profile gives to the test.
 abbrev pub ReportsBy : {M : Type 0} → (M → Test → M → Bool) → Basis → EvaluatableModel M
@@ -51,3 +53,19 @@ pub record AreTestsCompared (left right : ListTest → TestRows → Type 0)
   pub are_pairs : ArePairs from to pairs
   pub are_compared : AreCompared left right changes with_runs pairs changed
   pub counted : count ≡ length pairs
+
+-- A test that both sides have is added to others, with what changes for it, if something does.
+pub record AddsTest (result : Option TestChanges) (old new : ComparedTests) : Type 0 where
+  pub changed : new.changed.items ≡ old.changed.items ++ option_to_list result
+  pub count : new.count ≡ old.count + 1
+
+-- What changes for tests of the right list that the left list has is added to what changes for
+-- others, and they are counted.
+pub record AddsCompared (left right : ListTest → TestRows → Type 0)
+    (changes : SideRow → SideRow → Bool) (with_runs : Bool) (from to : List ListTest)
+    (old new : ComparedTests) : Type 0 where
+  pub added : List TestChanges
+  pub number : ℕ
+  pub are : AreTestsCompared left right changes with_runs from to added number
+  pub changed : new.changed.items ≡ old.changed.items ++ added
+  pub count : new.count ≡ old.count + number

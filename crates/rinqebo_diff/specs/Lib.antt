@@ -1,5 +1,6 @@
 pub mod Asked
 pub mod Compared
+pub mod ListScripts
 pub mod Loaded
 pub mod Sides
 pub mod RunChanges

@@ -1,7 +1,7 @@
 //! Compares what the two sides give to the tests that both have, one test after another.
-ghost use Rattle.std.specs.Prelude.{◌≡◌, ◌++◌, IfOk, OnOk, map};
-ghost use Rattle.std.specs.Option.{option_to_list};
-ghost use Rattle.filter_inputs.specs.Lists.ListView.{list_test_view};
+ghost use Rattle.std.specs.Prelude.{◌≡◌, ◌∷◌, [], IfOk, OnOk};
+ghost use Rattle.filter_inputs.specs.Lists.Lists.{tests_in};
+ghost use Rattle.filter_inputs.specs.Lists.ListView.{list_test_view, listed_view};
 ghost use Rattle.filter_language.specs.Filtersets.{marks_view};
 ghost use Rattle.filter_engine.specs.Compiling.{names_of};
 ghost use Rattle.filter_engine.specs.Engine.{filter_holds};
@@ -9,14 +9,14 @@ ghost use Rattle.nextest_engines.specs.Engines.{test_view};
 ghost use Rattle.nextest_settings.specs.Profiles.Meaning.{profile_meaning};
 ghost use Rattle.nextest_settings.specs.Queries.{query_in};
 ghost use Rattle.rinqebo_changes.specs.Changes.{is_change};
-ghost use Rattle.rinqebo_changes.specs.Sides.Matched.{pair_view};
-ghost use Rattle.rinqebo_diff.specs.Compared.{ReportsBy, AreTestsCompared, IsComparedBy};
+ghost use Rattle.rinqebo_changes.specs.Sides.Matched.{pair_view, tests_of};
+ghost use Rattle.rinqebo_diff.specs.Compared.{ReportsBy, AddsCompared, AddsTest, AreTestsCompared, IsComparedBy};
 ghost use Rattle.rinqebo_rules.specs.Rows.{IsTestReported};
 
 use filter_engine::{NextestFilters, NextestTally};
-use filter_inputs::ListedTest;
+use filter_inputs::{ListedBinary, ListedTest};
 use platform_language::TargetSpecs;
-use rinqebo_changes::{Comparison, Pair, TestChanges, changes_of, pair_of};
+use rinqebo_changes::{Comparison, Pair, Place, TestChanges, changes_of, pair_of, test_of};
 use rinqebo_origins::Origins;
 use rinqebo_report::TestRows;
 use rinqebo_rules::{Lister, Listing, Progress, UsedRules};
@@ -98,33 +98,127 @@ fn compared_pair<'c, 'd>(
     changes_of(alloc, compare, before, after)
 }
 
-/// Adds what changes for a test, if something does.
-fn add_found(changed: &mut Vec<TestChanges>, found: Option<TestChanges>) -> Result<(), AllocError>
-    ensures { OnOk result (changed.new.items ≡ changed.old.items ++ option_to_list found) }
-{
-    if let Some(test) = found {
-        changed.push(test)?;
-    }
-    Ok(())
-}
-
-/// What changes for the tests that both sides have.
+/// What changes for the tests that both sides have, as far as they are compared.
 #[derive(Drop)]
 pub struct ComparedTests {
     /// The tests of which a setting changes, in the order of the right side's list.
     pub changed: Vec<TestChanges>,
     /// How many tests both sides have.
-    pub count: u64,
+    pub count: usize,
+}
+
+impl ComparedTests {
+    /// Adds a test that both sides have, and what changes for it, if something does. The number of
+    /// tests has no end but that of memory.
+    fn add(&mut self, found: Option<TestChanges>) -> Result<(), AllocError>
+        ensures { OnOk result (AddsTest found self.old self.new) }
+    {
+        let Some(count) = self.count.checked_add(1) else {
+            return Err(AllocError);
+        };
+        self.count = count;
+        if let Some(test) = found {
+            self.changed.push(test)?;
+        }
+        Ok(())
+    }
+}
+
+/// Compares a test of the right list, if the left list has it, and reports progress then, out of the
+/// number of tests that both lists have. The test is looked for near a place first, which is then the
+/// place to begin with for the next test. Nothing is kept of a test that does not change.
+fn compare_test<'c, 'd, 'q, P: Progress>(
+    alloc: Global,
+    compare: &Comparison<'_>,
+    from_tests: &'q [ListedBinary],
+    test: ListedTest<'q>,
+    guess: &mut Place,
+    left: &mut SideTests<'_, 'c>,
+    right: &mut SideTests<'_, 'd>,
+    from_origins: &mut Origins<'_, '_, 'c>,
+    to_origins: &mut Origins<'_, '_, 'd>,
+    found: &mut ComparedTests,
+    number: usize,
+    progress: &mut P,
+) -> Result<(), AllocError>
+    ensures from_lister { left.new.listing.lister ≡ left.old.listing.lister }
+    ensures to_lister { right.new.listing.lister ≡ right.old.listing.lister }
+    ensures same_from { from_origins.new ≡ from_origins.old }
+    ensures same_to { to_origins.new ≡ to_origins.old }
+    ensures compared { let from = left.old.listing.lister in
+        let to = right.old.listing.lister in
+        OnOk result (AddsCompared (ReportsBy filter_holds from_origins.old
+        (profile_meaning (marks_view names_of) from.profile.now) from.mode from.asked.now)
+        (ReportsBy filter_holds to_origins.old
+        (profile_meaning (marks_view names_of) to.profile.now) to.mode to.asked.now)
+        (is_change compare.now.sources.from.now compare.now.sources.to.now
+        compare.now.with_origins) compare.now.with_runs (tests_of from_tests.now)
+        (list_test_view test.entry ∷ []) found.old found.new) }
+{
+    if let Some(pair) = pair_of(from_tests, test, guess) {
+        let changes = compared_pair(alloc, compare, &pair, left, right, from_origins, to_origins)?;
+        found.add(changes)?;
+        progress.asked(found.count, number);
+    }
+    Ok(())
+}
+
+/// Compares the tests of a binary of the right list that the left list has.
+fn compare_binary<'c, 'd, 'q, P: Progress>(
+    alloc: Global,
+    compare: &Comparison<'_>,
+    from_tests: &'q [ListedBinary],
+    binary: &'q ListedBinary,
+    guess: &mut Place,
+    left: &mut SideTests<'_, 'c>,
+    right: &mut SideTests<'_, 'd>,
+    from_origins: &mut Origins<'_, '_, 'c>,
+    to_origins: &mut Origins<'_, '_, 'd>,
+    found: &mut ComparedTests,
+    number: usize,
+    progress: &mut P,
+) -> Result<(), AllocError>
+    ensures from_lister { left.new.listing.lister ≡ left.old.listing.lister }
+    ensures to_lister { right.new.listing.lister ≡ right.old.listing.lister }
+    ensures same_from { from_origins.new ≡ from_origins.old }
+    ensures same_to { to_origins.new ≡ to_origins.old }
+    ensures compared { let from = left.old.listing.lister in
+        let to = right.old.listing.lister in
+        OnOk result (AddsCompared (ReportsBy filter_holds from_origins.old
+        (profile_meaning (marks_view names_of) from.profile.now) from.mode from.asked.now)
+        (ReportsBy filter_holds to_origins.old
+        (profile_meaning (marks_view names_of) to.profile.now) to.mode to.asked.now)
+        (is_change compare.now.sources.from.now compare.now.sources.to.now
+        compare.now.with_origins) compare.now.with_runs (tests_of from_tests.now)
+        (tests_in (listed_view binary.now)) found.old found.new) }
+{
+    for case in &binary.tests {
+        compare_test(
+            alloc,
+            compare,
+            from_tests,
+            test_of(binary, case),
+            guess,
+            left,
+            right,
+            from_origins,
+            to_origins,
+            found,
+            number,
+            progress,
+        )?;
+    }
+    Ok(())
 }
 
 /// What changes for the tests of the right list that the left list has, in their order: those of
-/// which a setting changes. It keeps nothing of the others, and reports progress after each test,
-/// out of the number of tests that both lists have.
+/// which a setting changes. It keeps nothing of the others, and reports progress out of the number
+/// of tests that both lists have.
 pub fn compared<'c, 'd, 'q, P: Progress>(
     alloc: Global,
     compare: &Comparison<'_>,
-    from_tests: &[ListedTest<'q>],
-    to_tests: &[ListedTest<'q>],
+    from_tests: &'q [ListedBinary],
+    to_tests: &'q [ListedBinary],
     from: &TestLister<'_, 'c>,
     to: &TestLister<'_, 'd>,
     from_origins: &mut Origins<'_, '_, 'c>,
@@ -139,32 +233,31 @@ pub fn compared<'c, 'd, 'q, P: Progress>(
         (profile_meaning (marks_view names_of) to.now.profile.now) to.now.mode
         to.now.asked.now)
         (is_change compare.now.sources.from.now compare.now.sources.to.now
-        compare.now.with_origins) compare.now.with_runs (map list_test_view from_tests.now)
-        (map list_test_view to_tests.now) compared.changed.items compared.count) }
+        compare.now.with_origins) compare.now.with_runs (tests_of from_tests.now)
+        (tests_of to_tests.now) compared.changed.items compared.count) }
 {
-    let mut changed = Vec::new(alloc);
     let mut left = SideTests::new(alloc, from)?;
     let mut right = SideTests::new(alloc, to)?;
-    let mut guess = 0usize;
-    let mut done = 0usize;
-    for test in to_tests {
-        if let Some(pair) = pair_of(from_tests, test, &mut guess) {
-            let found = compared_pair(
-                alloc,
-                compare,
-                &pair,
-                &mut left,
-                &mut right,
-                from_origins,
-                to_origins,
-            )?;
-            add_found(&mut changed, found)?;
-            done += 1;
-            progress.asked(done, number);
-        }
+    let mut guess = Place::first();
+    let mut found = ComparedTests {
+        changed: Vec::new(alloc),
+        count: 0,
+    };
+    for binary in to_tests {
+        compare_binary(
+            alloc,
+            compare,
+            from_tests,
+            binary,
+            &mut guess,
+            &mut left,
+            &mut right,
+            from_origins,
+            to_origins,
+            &mut found,
+            number,
+            progress,
+        )?;
     }
-    Ok(ComparedTests {
-        changed,
-        count: done as u64,
-    })
+    Ok(found)
 }

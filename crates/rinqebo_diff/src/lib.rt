@@ -10,6 +10,7 @@ mod compared;
 mod format;
 mod gathering;
 mod laws;
+mod list_scripts;
 mod loaded;
 mod options;
 mod perform;

@@ -10,23 +10,23 @@ ghost use Rattle.rinqebo_diff.specs.Compared.{AreTestsCompared};
 ghost use Rattle.rinqebo_diff.specs.Differences.{SideReports, IsCountOf, IsDiffOf, IsIdOf};
 ghost use Rattle.rinqebo_diff.specs.Beside.{IsBeside};
 ghost use Rattle.rinqebo_diff.specs.Evaluated.{evaluation_of, IsDiffOfLoaded, IsEvaluated};
-ghost use Rattle.rinqebo_changes.specs.Sides.Matched.{AreMatched};
 ghost use Rattle.rinqebo_diff.specs.RunChanges.{AreRunChangesIf, AreRunRowsOf};
 ghost use Rattle.rinqebo_diff.specs.Sides.{IsSideOf};
 
 use crate::compared::{ComparedTests, TestLister, compared};
+use crate::list_scripts::scripts_of_list;
 use crate::loaded::Loaded;
 use crate::request::{DiffRequest, DiffSide};
-use filter_inputs::{ListedBinary, ListedTest};
+use filter_inputs::{ListedBinary, ListedTest, ListedTests};
 use rinqebo_changes::{
-    BinaryTests, Comparison, Diff, Matched, RowChange, Side, TwoSources, keyed_changes,
-    match_tests, run_rows,
+    AloneTests, BinaryTests, Comparison, Diff, RowChange, Side, TwoSources, keyed_changes,
+    run_rows, tests_alone,
 };
 use rinqebo_load::chain_of_profile;
 use rinqebo_origins::Origins;
 use rinqebo_report::{SettingRow, TestId};
 use rinqebo_request::sources_of;
-use rinqebo_results::{Profile, entries_in, profile_on, requested_of, scripts_of_list};
+use rinqebo_results::{Profile, entries_in, profile_on, requested_of};
 use rinqebo_rules::{Progress, reported_platform};
 use std::alloc::{AllocError, Global};
 
@@ -141,12 +141,21 @@ fn changed_run(
     keyed_changes(alloc, before, after)
 }
 
+/// How many tests of the right side's list are in the left side's list, for a user who waits.
+fn count_of_both(list: &ListedTests, alone: &AloneTests<'_>) -> usize {
+    let mut count = 0usize;
+    for binary in &list.binaries {
+        count = count.saturating_add(binary.tests.len());
+    }
+    count.saturating_sub(alone.added.len())
+}
+
 /// What changes for the tests that both sides have.
 fn changed_tests<P: Progress>(
     alloc: Global,
     request: &DiffRequest<'_>,
     sources: TwoSources<'_>,
-    matched: &Matched<'_>,
+    alone: &AloneTests<'_>,
     from: &Loaded<'_>,
     to: &Loaded<'_>,
     left: &Evaluated<'_>,
@@ -160,7 +169,8 @@ fn changed_tests<P: Progress>(
         request.now.compared.asked)
         (is_change sources.entry.from.now sources.entry.to.now request.now.with_origins)
         (compares_runs request.now.compared.asked)
-        (map list_test_view matched.now.from.items) (map list_test_view matched.now.to.items)
+        (list_tests (list_view from.now.session.tests))
+        (list_tests (list_view to.now.session.tests))
         compared.changed.items compared.count) }
 {
     let from_lister = TestLister {
@@ -180,12 +190,12 @@ fn changed_tests<P: Progress>(
         with_origins: request.with_origins,
         with_runs: request.compared.with_runs(),
     };
-    let number = matched.to.len().saturating_sub(matched.added.len());
+    let number = count_of_both(&to.session.tests, alone);
     compared(
         alloc,
         &compare,
-        &matched.from,
-        &matched.to,
+        &from.session.tests.binaries,
+        &to.session.tests.binaries,
         &from_lister,
         &to_lister,
         &mut from_origins,
@@ -193,20 +203,6 @@ fn changed_tests<P: Progress>(
         number,
         progress,
     )
-}
-
-/// The tests of two sides, and those that one has alone.
-fn matched_tests<'q>(
-    alloc: Global,
-    from: &'q Loaded<'_>,
-    to: &'q Loaded<'_>,
-) -> Result<Matched<'q>, AllocError>
-    ensures { IfOk result (AreMatched (list_tests (list_view from.now.session.tests))
-        (list_tests (list_view to.now.session.tests))) }
-{
-    let from_tests = from.session.tests.tests(alloc)?;
-    let to_tests = to.session.tests.tests(alloc)?;
-    match_tests(alloc, from_tests, to_tests)
 }
 
 /// What a diff has beside its changes.
@@ -220,17 +216,18 @@ pub struct Beside {
     pub added: Vec<TestId>,
 }
 
-/// What a diff has beside its changes, of matched tests and the binaries of the right side.
+/// What a diff has beside its changes, of the tests that one side has alone and the binaries of the
+/// right side.
 fn beside_of(
     alloc: Global,
-    matched: &Matched<'_>,
+    alone: &AloneTests<'_>,
     binaries: &[ListedBinary],
 ) -> Result<Beside, AllocError>
-    ensures { IfOk result (IsBeside matched.now (map listed_view binaries.now)) }
+    ensures { IfOk result (IsBeside alone.now (map listed_view binaries.now)) }
 {
     let binaries = counts_of(alloc, binaries)?;
-    let removed = ids_of(alloc, &matched.removed)?;
-    let added = ids_of(alloc, &matched.added)?;
+    let removed = ids_of(alloc, &alone.removed)?;
+    let added = ids_of(alloc, &alone.added)?;
     Ok(Beside {
         binaries,
         removed,
@@ -251,7 +248,7 @@ fn diff_by<P: Progress>(
     ensures { IfOk result (IsDiffOf request.now (evaluation_of from.now left.now)
         (evaluation_of to.now right.now)) }
 {
-    let matched = matched_tests(alloc, &*from, &*to)?;
+    let alone = tests_alone(alloc, &from.session.tests, &to.session.tests)?;
     let from_side = side_of(alloc, &request.from, from, left)?;
     let to_side = side_of(alloc, &request.to, to, right)?;
     let sources = TwoSources {
@@ -259,19 +256,19 @@ fn diff_by<P: Progress>(
         to: &to_side.sources,
     };
     let ComparedTests { changed, count } = changed_tests(
-        alloc, request, sources, &matched, from, to, left, right, progress,
+        alloc, request, sources, &alone, from, to, left, right, progress,
     )?;
     let run = changed_run(alloc, request.with_run, from, to, left, right)?;
     let Beside {
         binaries,
         removed,
         added,
-    } = beside_of(alloc, &matched, &to.session.tests.binaries)?;
+    } = beside_of(alloc, &alone, &to.session.tests.binaries)?;
     Ok(Diff {
         from: from_side,
         to: to_side,
         changed,
-        compared: count,
+        compared: count as u64,
         binaries,
         removed,
         added,

@@ -16,3 +16,5 @@ pub mod SetMarks
 pub mod Marked
 pub mod BinaryRules
 pub mod Enabling
+pub mod Evaluated
+pub mod Unneeded

@@ -14,3 +14,4 @@ pub mod Scripts
 pub mod Distinct
 pub mod Passed
 pub mod BinaryRules
+pub mod Evaluations

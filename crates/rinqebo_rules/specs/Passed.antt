@@ -64,3 +64,7 @@ pub record IsShownBy (written : List Setting) (number : ℕ) (passed : List ℕ)
   pub setting : Setting
   pub stands : slice_get written place ≡ Some setting
   pub shown : IsShownAt setting number passed are_distinct holds
+
+-- nothing shows whether a rule holds
+abbrev pub IsHidden : (shows : Bool → Type 0) → Type 0
+IsHidden shows = (holds : Bool) → shows holds → ⊥

@@ -1,10 +1,11 @@
 //! Lists what a profile gives to tests, one test after another.
-ghost use Rattle.std.specs.Prelude.{◌≡◌, [], IfOk, map};
+ghost use Rattle.std.specs.Prelude.{◌≡◌, ◌++◌, ◌∷◌, [], IfOk, map};
 ghost use Rattle.nextest_engines.specs.Engines.{test_view};
 ghost use Rattle.filter_inputs.specs.Lists.ListView.{list_test_view};
 ghost use Rattle.nextest_settings.specs.Profiles.Meaning.{profile_meaning};
 ghost use Rattle.nextest_settings.specs.Profiles.SettingsOf.{AreSettingsOf};
 ghost use Rattle.nextest_settings.specs.Queries.{query_in};
+ghost use Rattle.rinqebo_rules.specs.Evaluations.{default_filter_number};
 ghost use Rattle.rinqebo_rules.specs.Rows.{AreTestsReported, IsTestReported};
 ghost use Rattle.rinqebo_rules.specs.Unused.{AreUnusedIn, AreUsedIn};
 
@@ -16,7 +17,7 @@ use crate::unused::{UnusedRules, UsedRules};
 use crate::values::SourcedSettings;
 use filter_inputs::ListedTest;
 use nextest_elements::NextestRunMode;
-use nextest_engines::{BuildPlatform, Filters, Specs};
+use nextest_engines::{BuildPlatform, Filters, Specs, Tally};
 use nextest_settings::EvaluatableProfile;
 use rinqebo_origins::Origins;
 use rinqebo_report::{BuiltFor, TestRows};
@@ -69,6 +70,8 @@ impl<'l, 'c, F: Filters, S: Specs> Lister<'l, 'c, F, S> {
             AreSettingsOf F.meaning query self.now.mode profile settings.now
             → IfOk result (IsTestReported origins.old query self.now.mode profile self.now.asked.now
             (list_test_view test.now)) }
+        ensures tally { F.Tally.numbers tally.new
+            ≡ F.Tally.numbers tally.old ++ default_filter_number ∷ [] }
     {
         let query = &test.query;
         let runs = runs_if(is_selected(self.profile, query, tally), test.ignored);

@@ -1,14 +1,15 @@
 //! Lists what a profile gives to tests in turn, by what their binaries decide.
-ghost use Rattle.std.specs.Prelude.{◌≡◌, ◌++◌, ◌∷◌, [], IfOk, IfSome, List};
+ghost use Rattle.std.specs.Prelude.{◌≡◌, ◌++◌, ◌∷◌, [], IfOk, IfSome, List, is_some, length, option_map};
 ghost use Rattle.std.specs.Option.{ForSome};
 ghost use Rattle.nextest_engines.specs.Engines.{binary_view, test_view};
 ghost use Rattle.filter_inputs.specs.Lists.ListView.{list_test_view};
-ghost use Rattle.nextest_settings.specs.Binaries.{AreAnswersOf};
-ghost use Rattle.nextest_settings.specs.Deciding.{QueryContext};
+ghost use Rattle.nextest_settings.specs.Binaries.{AreAnswersOf, EvaluatesOpen};
+ghost use Rattle.nextest_settings.specs.Deciding.{QueryContext, asked_from};
 ghost use Rattle.nextest_settings.specs.Profiles.Meaning.{profile_meaning};
 ghost use Rattle.nextest_settings.specs.Profiles.SettingsOf.{AreSettingsOf};
 ghost use Rattle.nextest_settings.specs.Queries.{query_in};
-ghost use Rattle.rinqebo_rules.specs.BinaryRules.{AreAnswersAt};
+ghost use Rattle.rinqebo_rules.specs.BinaryRules.{AreAnswersAt, known_overrides};
+ghost use Rattle.rinqebo_rules.specs.Evaluations.{EvaluatesInTurn, IsTurnedTo};
 ghost use Rattle.rinqebo_rules.specs.Rows.{IsTestReported};
 ghost use Rattle.rinqebo_rules.specs.Unused.{AreUsedIn};
 
@@ -17,7 +18,7 @@ use crate::unused::UsedRules;
 use crate::values::SourcedSettings;
 use filter_inputs::ListedTest;
 use nextest_elements::NextestRunMode;
-use nextest_engines::{BinaryQuery, Filters, Specs, TestQuery};
+use nextest_engines::{BinaryQuery, Filters, Specs, Tally, TestQuery};
 use nextest_settings::{BinaryAnswers, EvaluatableProfile};
 use rinqebo_origins::Origins;
 use rinqebo_report::TestRows;
@@ -44,10 +45,16 @@ fn settings_by<'c, F: Filters, S: Specs>(
     answers: Option<&BinaryAnswers>,
     tally: &mut F::Tally,
 ) -> SourcedSettings<'c, F, S>
-    ensures { let profile = profile_meaning F.meaning profile.now in
+    ensures settings { let profile = profile_meaning F.meaning profile.now in
         let test = test_view query.now in
         IfSome answers.entry (λ known. AreAnswersAt F.holds_binary profile test.binary known.now)
         → AreSettingsOf F.meaning (query_in F.holds profile test) mode profile result }
+    ensures tally { let profile = profile_meaning F.meaning profile.now in
+        let query = query_in F.holds profile (test_view query.now) in
+        EvaluatesOpen (known_overrides (option_map (λ known. known.now) answers.entry))
+        (asked_from ((λ w. is_some w.scripts.run_wrapper) ∷ []) (length profile.overrides) query
+        [] profile.script_rules)
+        (F.Tally.numbers tally.old) (F.Tally.numbers tally.new) }
 {
     match answers {
         Some(answers) => profile.settings_by_answers(mode, query, answers, tally),
@@ -68,9 +75,11 @@ impl<'l, 'c, F: Filters, S: Specs> Listing<'l, 'c, F, S> {
 
     /// What a binary decides of the rules, if that was found out for the last test.
     fn answers_at(&self, query: &BinaryQuery<'_>) -> Option<&BinaryAnswers>
-        ensures { let profile = profile_meaning F.meaning self.now.lister.profile.now in
+        ensures answers { let profile = profile_meaning F.meaning self.now.lister.profile.now in
             IfSome result (λ known. AreAnswersAt F.holds_binary profile (binary_view query.now)
             known.now) }
+        ensures turned { IsTurnedTo self.now.answers (binary_view query.now)
+            → option_map (λ known. known.now) result ≡ self.now.answers }
     {
         match &self.answers {
             Some(answers) => {
@@ -91,7 +100,9 @@ impl<'l, 'c, F: Filters, S: Specs> Listing<'l, 'c, F, S> {
         query: &BinaryQuery<'_>,
         tally: &mut F::Tally,
     ) -> Result<(), AllocError>
-        ensures { self.new.lister ≡ self.old.lister }
+        ensures lister { self.new.lister ≡ self.old.lister }
+        ensures turned { IsTurnedTo self.old.answers (binary_view query.now)
+            → (self.new.answers ≡ self.old.answers) × (tally.new ≡ tally.old) }
     {
         if self.answers_at(query).is_none() {
             let answers = self.lister.profile.binary_answers(alloc, query, tally)?;
@@ -101,7 +112,8 @@ impl<'l, 'c, F: Filters, S: Specs> Listing<'l, 'c, F, S> {
     }
 
     /// Returns whether a test runs, and its settings, and adds the test to those for which rules
-    /// hold. Filters are evaluated that its binary leaves open.
+    /// hold. Filters are evaluated that its binary leaves open: those that its settings need, and those
+    /// of rules that held for no test before.
     pub fn next_test(
         &mut self,
         alloc: Global,
@@ -123,6 +135,14 @@ impl<'l, 'c, F: Filters, S: Specs> Listing<'l, 'c, F, S> {
             let query = query_in F.holds profile (test_view test.now.query) in
             AreUsedIn tests lister.mode profile used.old
             → IfOk result (λ _. AreUsedIn (tests ++ query ∷ []) lister.mode profile used.new) }
+        ensures tally { (tests : List (QueryContext F.Meaning))
+            → let lister = self.old.lister in
+            let profile = profile_meaning F.meaning lister.profile.now in
+            let test = test_view test.now.query in
+            IsTurnedTo self.old.answers test.binary → AreUsedIn tests lister.mode profile used.old
+            → IfOk result (λ _. EvaluatesInTurn tests (query_in F.holds profile test) lister.mode
+            profile used.old self.old.answers
+            (F.Tally.numbers tally.old) (F.Tally.numbers tally.new)) }
     {
         self.turn_to(alloc, &test.query.binary_query, tally)?;
         let lister = self.lister;

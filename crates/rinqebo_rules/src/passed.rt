@@ -1,5 +1,5 @@
 //! What the settings of a test show of overrides: how far the walk over them went for each setting.
-ghost use Rattle.std.specs.Prelude.{◌≡◌, ◌↔◌, IfOk, IfSome, IsTrue, map, option_map, slice_get};
+ghost use Rattle.std.specs.Prelude.{◌≡◌, ◌↔◌, IfOk, IfSome, IsTrue, None, map, option_map, slice_get};
 ghost use Rattle.std.specs.List.{AllZip};
 ghost use Rattle.nextest_settings.specs.Profiles.SettingsOf.{AreSettingsOf};
 ghost use Rattle.nextest_rules.specs.View.{id_view};
@@ -9,7 +9,7 @@ ghost use Rattle.nextest_elements.specs.Settings.{index_of, settings as all_sett
 ghost use Rattle.nextest_settings.specs.Settings.{is_set};
 ghost use Rattle.nextest_settings.specs.SettingsView.{origin_at};
 ghost use Rattle.nextest_settings.specs.View.{meant_override};
-ghost use Rattle.rinqebo_rules.specs.Passed.{AreWritten, IsPassed, IsPlaceOf, IsShown, IsShownAt, IsShownBy, override_in};
+ghost use Rattle.rinqebo_rules.specs.Passed.{AreWritten, IsHidden, IsPassed, IsPlaceOf, IsShown, IsShownAt, IsShownBy, override_in};
 
 use crate::rows::source_of;
 use crate::values::SourcedSettings;
@@ -161,7 +161,8 @@ fn passed_at(passed: &[usize], setting: Setting) -> Option<usize>
 /// and the next one does: the rule does not hold if it is one of them, and holds if it is the next
 /// one. Which one is next is known if no two rules have one id.
 pub(crate) fn shown_by(number: usize, passed: usize, are_distinct: bool) -> Option<bool>
-    ensures { IfSome result (IsShown are_distinct number passed) }
+    ensures shown { IfSome result (IsShown are_distinct number passed) }
+    ensures hidden { result ≡ None → IsHidden (IsShown are_distinct number passed) }
 {
     if number < passed {
         Some(false)
@@ -174,7 +175,9 @@ pub(crate) fn shown_by(number: usize, passed: usize, are_distinct: bool) -> Opti
 
 /// What a setting that an override writes shows of it.
 fn shown_at(setting: Setting, number: usize, passed: &[usize], are_distinct: bool) -> Option<bool>
-    ensures { IfSome result (IsShownAt setting number passed.now are_distinct) }
+    ensures shown { IfSome result (IsShownAt setting number passed.now are_distinct) }
+    ensures hidden { result ≡ None
+        → IsHidden (IsShownAt setting number passed.now are_distinct) }
 {
     match passed_at(passed, setting) {
         Some(count) => shown_by(number, count, are_distinct),
@@ -190,7 +193,9 @@ pub(crate) fn shown_of(
     passed: &[usize],
     are_distinct: bool,
 ) -> Option<bool>
-    ensures { IfSome result (IsShownBy written.now number passed.now are_distinct) }
+    ensures shown { IfSome result (IsShownBy written.now number passed.now are_distinct) }
+    ensures hidden { result ≡ None
+        → IsHidden (IsShownBy written.now number passed.now are_distinct) }
 {
     for setting in written {
         if let Some(holds) = shown_at(*setting, number, passed, are_distinct) {

@@ -1,6 +1,6 @@
 //! Whether a test runs: whether the default filter that counts matches it, and no list says that it
 //! is ignored.
-ghost use Rattle.std.specs.Prelude.{◌≡◌, IfOk, None, codes, map, option_map};
+ghost use Rattle.std.specs.Prelude.{◌≡◌, ◌++◌, ◌∷◌, [], IfOk, None, codes, map, option_map};
 ghost use Rattle.nextest_engines.specs.Engines.{test_view};
 ghost use Rattle.nextest_settings.specs.Profiles.Meaning.{profile_meaning};
 ghost use Rattle.nextest_rules.specs.View.{id_view};
@@ -9,9 +9,10 @@ ghost use Rattle.nextest_settings.specs.Queries.{query_in};
 ghost use Rattle.nextest_settings.specs.View.{meant_override};
 ghost use Rattle.rinqebo_origins.specs.KnownOrigins.{AreOriginsAt};
 ghost use Rattle.rinqebo_origins.specs.RulePlaces.{id_place, place_view};
+ghost use Rattle.rinqebo_rules.specs.Evaluations.{default_filter_number};
 ghost use Rattle.rinqebo_rules.specs.Runs.{IsRunsRow, filtering_id, filtering_place, is_selected, runs_if, shows_runs};
 
-use nextest_engines::{BuildPlatform, Filters, Specs, TestQuery};
+use nextest_engines::{BuildPlatform, Filters, Specs, Tally, TestQuery};
 use nextest_rules::OverrideId;
 use nextest_settings::{EvaluatableProfile, EvaluatedOverride};
 use rinqebo_keys::{RUNS, SettingKey};
@@ -40,8 +41,10 @@ pub(crate) fn is_selected<F: Filters, S: Specs>(
     query: &TestQuery<'_>,
     tally: &mut F::Tally,
 ) -> bool
-    ensures { let profile = profile_meaning F.meaning profile.now in
+    ensures answer { let profile = profile_meaning F.meaning profile.now in
         result ≡ is_selected (query_in F.holds profile (test_view query.now)) profile }
+    ensures tally { F.Tally.numbers tally.new
+        ≡ F.Tally.numbers tally.old ++ default_filter_number ∷ [] }
 {
     let cx = profile.filterset_ecx();
     F::matches_test(cx.default_filter, NUMBER, query, &cx, tally)

@@ -1,5 +1,5 @@
 //! The rules of a profile that hold for none of the tests of a list.
-ghost use Rattle.std.specs.Prelude.{◌≡◌, ◌++◌, ◌∷◌, [], ◌||◌, ◌+◌, ◌<◌, ◌^◌, Bool, IfOk, IfSome, IsTrue, List, false, is_some, length, map, option_and_then, option_map, replicate, slice_get, slice_set, string_bytes, unwrap_or};
+ghost use Rattle.std.specs.Prelude.{◌≡◌, ◌++◌, ◌∷◌, [], ◌||◌, ◌+◌, ◌<◌, ◌^◌, Bool, IfOk, IfSome, IsTrue, List, None, false, is_some, length, map, option_and_then, option_map, replicate, slice_get, slice_set, string_bytes, unwrap_or};
 ghost use Rattle.std.specs.List.{AllZip};
 ghost use Rattle.nextest_engines.specs.Engines.{test_view};
 ghost use Rattle.nextest_settings.specs.Profiles.Meaning.{profile_meaning};
@@ -14,7 +14,8 @@ ghost use Rattle.nextest_settings.specs.View.{meant_override, meant_script_rule}
 ghost use Rattle.rinqebo_rules.specs.BinaryRules.{AreAnswersAt, AreKnownIn, known_overrides, known_script_rules};
 ghost use Rattle.nextest_settings.specs.Settings.{is_set};
 ghost use Rattle.rinqebo_rules.specs.Distinct.{AreDistinct};
-ghost use Rattle.rinqebo_rules.specs.Passed.{AreWritten, IsPassed, IsShownBy, ids_of};
+ghost use Rattle.rinqebo_rules.specs.Evaluations.{EvaluatesBeside, EvaluatesIf, EvaluatesOnly, IsLeftOpen, IsOpenAt, asks};
+ghost use Rattle.rinqebo_rules.specs.Passed.{AreWritten, IsHidden, IsPassed, IsShown, IsShownBy, ids_of};
 ghost use Rattle.rinqebo_rules.specs.Unused.{AreUsedIn, AreUnusedIn, is_used, unused_among, written_at};
 
 use crate::distinct::{are_overrides_distinct, are_script_rules_distinct};
@@ -24,7 +25,7 @@ use crate::passed::{all_written, passed_in, shown_of};
 use crate::values::SourcedSettings;
 use crate::wrapping::{passed_for_wrapper, shown_of_script};
 use nextest_elements::{NextestRunMode, Setting};
-use nextest_engines::{EvalContext, Filters, Specs, TestQuery};
+use nextest_engines::{EvalContext, Filters, Specs, Tally, TestQuery};
 use nextest_rules::{OverrideId, ScriptRuleId};
 use nextest_settings::{BinaryAnswers, EvaluatableProfile, EvaluatedOverride, EvaluatedScriptRule};
 use std::alloc::{AllocError, Global};
@@ -106,10 +107,15 @@ fn open_override_holds<F: Filters, S: Specs>(
     cx: &EvalContext<'_, F::Expr>,
     tally: &mut F::Tally,
 ) -> bool
-    ensures { let query = test_query_by F.Filters cx.now.default_filter.now query.now in
+    ensures answer { let query = test_query_by F.Filters cx.now.default_filter.now query.now in
         let rule = meant_override F.meaning rule.now in
         ((holds : Bool) → IsShownBy written.now number passed.now are_distinct holds
         → rule_holds query rule ≡ holds) → result ≡ rule_holds query rule }
+    ensures tally { let query = test_query_by F.Filters cx.now.default_filter.now query.now in
+        let rule = meant_override F.meaning rule.now in
+        EvaluatesIf (IsTrue (asks query rule)
+        × IsHidden (IsShownBy written.now number passed.now are_distinct))
+        number (F.Tally.numbers tally.old) (F.Tally.numbers tally.new) }
 {
     match shown_of(written, number, passed, are_distinct) {
         Some(holds) => holds,
@@ -131,11 +137,16 @@ fn is_override_used<F: Filters, S: Specs>(
     cx: &EvalContext<'_, F::Expr>,
     tally: &mut F::Tally,
 ) -> bool
-    ensures { let query = test_query_by F.Filters cx.now.default_filter.now query.now in
+    ensures answer { let query = test_query_by F.Filters cx.now.default_filter.now query.now in
         let rule = meant_override F.meaning rule.now in
         IsKnownFor query rule known
         → ((holds : Bool) → IsShownBy written.now number passed.now are_distinct holds
         → rule_holds query rule ≡ holds) → result ≡ (held || rule_holds query rule) }
+    ensures tally { let query = test_query_by F.Filters cx.now.default_filter.now query.now in
+        let rule = meant_override F.meaning rule.now in
+        EvaluatesIf (IsLeftOpen query held known
+        (IsHidden (IsShownBy written.now number passed.now are_distinct)) rule)
+        number (F.Tally.numbers tally.old) (F.Tally.numbers tally.new) }
 {
     match known {
         Some(holds) => held || holds,
@@ -166,7 +177,7 @@ fn mark_overrides<F: Filters, S: Specs>(
     cx: &EvalContext<'_, F::Expr>,
     tally: &mut F::Tally,
 )
-    ensures { (mode : NextestRunMode)
+    ensures marks { (mode : NextestRunMode)
         → let query = test_query_by F.Filters cx.now.default_filter.now query.now in
         let rules = map (meant_override F.meaning) rules.now in
         AllZip (AreWritten mode) rules written.now
@@ -177,6 +188,11 @@ fn mark_overrides<F: Filters, S: Specs>(
         → (tests : List (QueryContext F.Meaning))
         → used.old ≡ map (is_used tests) rules
         → used.new ≡ map (is_used (tests ++ query ∷ [])) rules }
+    ensures tally { let query = test_query_by F.Filters cx.now.default_filter.now query.now in
+        let rules = map (meant_override F.meaning) rules.now in
+        EvaluatesOnly (IsOpenAt query used.old known.now
+        (λ n w. IsShownBy (written_at written.now n) n passed.now are_distinct) 0 rules) 0
+        (F.Tally.numbers tally.old) (F.Tally.numbers tally.new) }
 {
     for (number, rule) in rules.iter().enumerate() {
         let held = is_marked(used, number);
@@ -209,9 +225,13 @@ fn open_script_rule_holds<F: Filters, S: Specs>(
     cx: &EvalContext<'_, F::Expr>,
     tally: &mut F::Tally,
 ) -> bool
-    ensures { let query = test_query_by F.Filters cx.now.default_filter.now query.now in
+    ensures answer { let query = test_query_by F.Filters cx.now.default_filter.now query.now in
         let rule = meant_script_rule F.meaning rule.now in
         IsKnownFor query rule shown → result ≡ rule_holds query rule }
+    ensures tally { let query = test_query_by F.Filters cx.now.default_filter.now query.now in
+        let rule = meant_script_rule F.meaning rule.now in
+        EvaluatesIf (IsTrue (asks query rule) × (shown ≡ None)) number
+        (F.Tally.numbers tally.old) (F.Tally.numbers tally.new) }
 {
     match shown {
         Some(holds) => holds,
@@ -232,10 +252,14 @@ fn is_script_rule_used<F: Filters, S: Specs>(
     cx: &EvalContext<'_, F::Expr>,
     tally: &mut F::Tally,
 ) -> bool
-    ensures { let query = test_query_by F.Filters cx.now.default_filter.now query.now in
+    ensures answer { let query = test_query_by F.Filters cx.now.default_filter.now query.now in
         let rule = meant_script_rule F.meaning rule.now in
         IsKnownFor query rule known → IsKnownFor query rule shown
         → result ≡ (held || rule_holds query rule) }
+    ensures tally { let query = test_query_by F.Filters cx.now.default_filter.now query.now in
+        let rule = meant_script_rule F.meaning rule.now in
+        EvaluatesIf (IsLeftOpen query held known (shown ≡ None) rule) number
+        (F.Tally.numbers tally.old) (F.Tally.numbers tally.new) }
 {
     match known {
         Some(holds) => held || holds,
@@ -256,13 +280,18 @@ fn mark_script_rules<F: Filters, S: Specs>(
     tally: &mut F::Tally,
 )
     requires { first + length rules.now < 2 ^ 64 }
-    ensures { let query = test_query_by F.Filters cx.now.default_filter.now query.now in
+    ensures marks { let query = test_query_by F.Filters cx.now.default_filter.now query.now in
         let rules = map (meant_script_rule F.meaning) rules.now in
         IsPassed query (λ w. is_some w.scripts.run_wrapper) (λ w. w.id) rules passed
         → (IsTrue are_distinct → AreDistinct (ids_of (λ w. w.id) rules))
         → AreKnownIn query rules known.now
         → (tests : List (QueryContext F.Meaning)) → used.old ≡ map (is_used tests) rules
         → used.new ≡ map (is_used (tests ++ query ∷ [])) rules }
+    ensures tally { let query = test_query_by F.Filters cx.now.default_filter.now query.now in
+        let rules = map (meant_script_rule F.meaning) rules.now in
+        EvaluatesOnly (IsOpenAt query used.old known.now (λ n w holds.
+        IsTrue (is_some w.scripts.run_wrapper) × IsShown are_distinct n passed holds) first rules)
+        first (F.Tally.numbers tally.old) (F.Tally.numbers tally.new) }
 {
     for (number, rule) in rules.iter().enumerate() {
         let held = is_marked(used, number);
@@ -367,8 +396,8 @@ impl UsedRules {
     ///
     /// A filter is evaluated only if its rule held for none of the tests so far, the binary leaves
     /// it open, and the search for the settings did not evaluate it for this test. (If two rules of
-    /// a kind had one id, which those of a profile do not have, those that decide might be evaluated
-    /// again.)
+    /// a kind had one id, which those of a profile do not have, those that decide might be
+    /// evaluated again.)
     pub(crate) fn add<'c, F: Filters, S: Specs>(
         &mut self,
         profile: &EvaluatableProfile<'c, F, S>,
@@ -377,7 +406,7 @@ impl UsedRules {
         settings: &SourcedSettings<'c, F, S>,
         tally: &mut F::Tally,
     )
-        ensures { (tests : List (QueryContext F.Meaning)) (mode : NextestRunMode)
+        ensures used { (tests : List (QueryContext F.Meaning)) (mode : NextestRunMode)
             → let profile = profile_meaning F.meaning profile.now in
             let test = test_view query.now in
             let query = query_in F.holds profile test in
@@ -386,6 +415,14 @@ impl UsedRules {
             → AreSettingsOf F.meaning query mode profile settings.now
             → AreUsedIn tests mode profile self.old
             → AreUsedIn (tests ++ query ∷ []) mode profile self.new }
+        ensures tally { (tests : List (QueryContext F.Meaning)) (mode : NextestRunMode)
+            → let profile = profile_meaning F.meaning profile.now in
+            let query = query_in F.holds profile (test_view query.now) in
+            AreSettingsOf F.meaning query mode profile settings.now
+            → AreUsedIn tests mode profile self.old
+            → EvaluatesBeside tests query mode profile self.old
+            (option_map (λ known. known.now) answers.entry)
+            (F.Tally.numbers tally.old) (F.Tally.numbers tally.new) }
     {
         let rules = profile.rules();
         let first = rules.overrides.len();

@@ -1,12 +1,12 @@
 //! What the run wrapper of a test shows of script rules: how far the search for it went.
-ghost use Rattle.std.specs.Prelude.{◌≡◌, ◌↔◌, IfSome, IsTrue, is_some, map};
+ghost use Rattle.std.specs.Prelude.{◌≡◌, ◌↔◌, IfSome, IsTrue, None, is_some, map};
 ghost use Rattle.nextest_settings.specs.Profiles.SettingsOf.{AreSettingsOf};
 ghost use Rattle.nextest_rules.specs.View.{script_rule_id_view};
 ghost use Rattle.nextest_elements.specs.declared.run_mode.NextestRunMode.{NextestRunMode};
 ghost use Rattle.nextest_settings.specs.Deciding.{QueryContext};
 ghost use Rattle.nextest_settings.specs.Profile.{EvaluatableModel};
 ghost use Rattle.nextest_settings.specs.View.{meant_script_rule};
-ghost use Rattle.rinqebo_rules.specs.Passed.{IsPassed, IsPlaceOf, IsShown};
+ghost use Rattle.rinqebo_rules.specs.Passed.{IsHidden, IsPassed, IsPlaceOf, IsShown};
 
 use crate::passed::shown_by;
 use crate::rows::wrapping_rule;
@@ -76,7 +76,10 @@ pub(crate) fn shown_of_script<F: Filters, S: Specs>(
     passed: usize,
     are_distinct: bool,
 ) -> Option<bool>
-    ensures { IfSome result (λ holds.
+    ensures shown { IfSome result (λ holds.
+        IsTrue (is_some (meant_script_rule F.meaning rule.now).writes.scripts.run_wrapper)
+        × IsShown are_distinct number passed holds) }
+    ensures hidden { result ≡ None → IsHidden (λ holds.
         IsTrue (is_some (meant_script_rule F.meaning rule.now).writes.scripts.run_wrapper)
         × IsShown are_distinct number passed holds) }
 {

@@ -1,9 +1,10 @@
 -- The tests that two lists have in common, and those that one has alone.
-use Rattle.std.specs.Prelude.{◌≡◌, ℕ, ◌<◌, ◌&&◌, Bool, true, List, Some, length, map, filter, not, slice_get, bytes_eq}
+use Rattle.std.specs.Prelude.{◌≡◌, ◌&&◌, Bool, true, List, map, filter, flat_map, not, bytes_eq}
 use Rattle.std.specs.List.{All, Contains, list_any}
-use Rattle.filter_inputs.specs.Lists.Lists.{ListTest}
-use Rattle.filter_inputs.specs.Lists.ListView.{list_test_view}
-use Rattle.rinqebo_changes.specs.declared.sides.matched.Matched.{Matched}
+use Rattle.filter_inputs.specs.Lists.Lists.{ListTest, tests_in}
+use Rattle.filter_inputs.specs.Lists.ListView.{list_test_view, listed_view}
+use Rattle.filter_inputs.specs.declared.lists.list.ListedBinary.{ListedBinary}
+use Rattle.rinqebo_changes.specs.declared.sides.matched.AloneTests.{AloneTests}
 use Rattle.rinqebo_changes.specs.declared.sides.matched.Pair.{Pair}
 
 -- A test of the left list and one of the right list.
@@ -28,11 +29,13 @@ same_test a b =
 abbrev pub is_in : List ListTest → ListTest → Bool
 is_in tests test = list_any (λ one. same_test one test) tests
 
--- A place among tests is that of a test.
-pub record IsPlaceOf (tests : List ListTest) (test : ListTest) (place : ℕ) : Type 0 where
-  pub below : place < length tests
-  pub found : ListTest
-  pub here : slice_get tests place ≡ Some found
+-- the tests of binaries, in order
+abbrev pub tests_of : List ListedBinary → List ListTest
+tests_of binaries = flat_map tests_in (map listed_view binaries)
+
+-- A test of a list is another one: it has the same binary and the same name.
+pub record IsFound (tests : List ListTest) (test found : ListTest) : Type 0 where
+  pub here : Contains tests found
   pub same : same_test found test ≡ true
 
 -- A pair is of a test and of one of the left list, which has the same binary and the same name.
@@ -51,9 +54,7 @@ pub record HasPair (from : List ListTest) (test : ListTest) (pair : TestPair) : 
   pub right : pair.to ≡ test
   pub is_pair : IsPairOf from pair
 
--- The tests of two lists, and those that one has alone.
-pub record AreMatched (from to : List ListTest) (matched : Matched) : Type 0 where
-  pub from_tests : map list_test_view matched.from.items ≡ from
-  pub to_tests : map list_test_view matched.to.items ≡ to
-  pub removed : map list_test_view matched.removed.items ≡ filter (λ t. not (is_in to t)) from
-  pub added : map list_test_view matched.added.items ≡ filter (λ t. not (is_in from t)) to
+-- The tests of two lists that one has alone.
+pub record AreAlone (from to : List ListTest) (alone : AloneTests) : Type 0 where
+  pub removed : map list_test_view alone.removed.items ≡ filter (λ t. not (is_in to t)) from
+  pub added : map list_test_view alone.added.items ≡ filter (λ t. not (is_in from t)) to

@@ -1,9 +1,11 @@
-//! The tests that two lists have in common, and those that one has alone.
-ghost use Rattle.std.specs.Prelude.{◌≡◌, ◌∷◌, [], ◌++◌, false, IfOk, MatchOption, OnOk, filter, map, not};
-ghost use Rattle.filter_inputs.specs.Lists.ListView.{list_test_view};
-ghost use Rattle.rinqebo_changes.specs.Sides.Matched.{same_test, is_in, pair_view, IsPlaceOf, HasPair, AreMatched};
+//! The tests that two lists have in common, and those that one has alone. Nothing is kept of the
+//! tests that both have.
+ghost use Rattle.std.specs.Prelude.{◌≡◌, ◌∷◌, [], ◌++◌, false, IfOk, IfSome, MatchOption, OnOk, filter, map, not};
+ghost use Rattle.filter_inputs.specs.Lists.Lists.{list_tests, test_of, tests_in};
+ghost use Rattle.filter_inputs.specs.Lists.ListView.{binary_view, case_view, list_test_view, list_view, listed_view};
+ghost use Rattle.rinqebo_changes.specs.Sides.Matched.{same_test, is_in, pair_view, tests_of, HasPair, IsFound, AreAlone};
 
-use filter_inputs::ListedTest;
+use filter_inputs::{ListedBinary, ListedTest, ListedTests, TestCase};
 use std::alloc::{AllocError, Global};
 
 /// A test that both lists have.
@@ -15,17 +17,60 @@ pub struct Pair<'q> {
     pub to: ListedTest<'q>,
 }
 
-/// The tests of two lists. A pair of tests that both lists have is made when it is compared.
+/// A place in a list: which binary, and which test of it.
+#[derive(Clone, Copy)]
+pub struct Place {
+    binary: usize,
+    case: usize,
+}
+
+/// A test of a list, and its place.
+#[derive(Clone, Copy)]
+struct Found<'q> {
+    test: ListedTest<'q>,
+    place: Place,
+}
+
+/// The tests of two lists that one of them has alone.
 #[derive(Drop)]
-pub struct Matched<'q> {
-    /// The tests of the left list.
-    pub from: Vec<ListedTest<'q>>,
-    /// The tests of the right list.
-    pub to: Vec<ListedTest<'q>>,
+pub struct AloneTests<'q> {
     /// The tests of the left list alone, in its order.
     pub removed: Vec<ListedTest<'q>>,
     /// The tests of the right list alone, in its order.
     pub added: Vec<ListedTest<'q>>,
+}
+
+impl Place {
+    /// The place at which a list begins.
+    pub fn first() -> Place {
+        Place { binary: 0, case: 0 }
+    }
+
+    /// The place behind another one, in the same binary.
+    fn next(self) -> Place {
+        Place {
+            binary: self.binary,
+            case: self.case.saturating_add(1),
+        }
+    }
+
+    /// The first place of the next binary.
+    fn next_binary(self) -> Place {
+        Place {
+            binary: self.binary.saturating_add(1),
+            case: 0,
+        }
+    }
+}
+
+/// A test of a binary, as a list has it.
+pub fn test_of<'q>(binary: &'q ListedBinary, case: &'q TestCase) -> ListedTest<'q>
+    ensures { list_test_view result ≡ test_of (binary_view binary.now) (case_view case.now) }
+{
+    ListedTest {
+        query: binary.query(case.name.as_str()),
+        ignored: case.ignored,
+    }
 }
 
 /// Whether two tests have the same binary and the same name.
@@ -36,101 +81,181 @@ fn is_same_test(a: &ListedTest<'_>, b: &ListedTest<'_>) -> bool
         && a.query.test_name == b.query.test_name
 }
 
-/// The first place of a test among tests, if it is one of them.
-fn first_place(tests: &[ListedTest<'_>], test: &ListedTest<'_>) -> Option<usize>
-    ensures { MatchOption result
-        (is_in (map list_test_view tests.now) (list_test_view test.now) ≡ false)
-        (IsPlaceOf (map list_test_view tests.now) (list_test_view test.now)) }
+/// The test at a place of a list, if it is the one that is looked for.
+fn test_at<'q>(
+    binaries: &'q [ListedBinary],
+    test: &ListedTest<'_>,
+    place: Place,
+) -> Option<ListedTest<'q>>
+    ensures { IfSome result (λ one. IsFound (tests_of binaries.now) (list_test_view test.now)
+        (list_test_view one)) }
 {
-    tests.iter().position(|one| is_same_test(one, test))
-}
-
-/// The place of a test among tests, if it is one of them. It is looked for at a place first.
-fn place_of(tests: &[ListedTest<'_>], test: &ListedTest<'_>, guess: usize) -> Option<usize>
-    ensures { MatchOption result
-        (is_in (map list_test_view tests.now) (list_test_view test.now) ≡ false)
-        (IsPlaceOf (map list_test_view tests.now) (list_test_view test.now)) }
-{
-    if guess < tests.len() && is_same_test(&tests[guess], test) {
-        return Some(guess);
+    let binary = binaries.get(place.binary)?;
+    let case = binary.tests.get(place.case)?;
+    let one = test_of(binary, case);
+    if is_same_test(&one, test) {
+        Some(one)
+    } else {
+        None
     }
-    first_place(tests, test)
 }
 
-/// Adds a test to others, if a list does not have it. It is looked for at a place first, and the
-/// place to begin with for the next test is returned.
+/// The first test of a binary that is the one that is looked for, and its place. The tests of the
+/// binary begin at a place.
+fn find_in<'q>(binary: &'q ListedBinary, start: Place, test: &ListedTest<'_>) -> Option<Found<'q>>
+    ensures { MatchOption result
+        (is_in (tests_in (listed_view binary.now)) (list_test_view test.now) ≡ false)
+        (λ found. IsFound (tests_in (listed_view binary.now)) (list_test_view test.now)
+        (list_test_view found.test)) }
+{
+    if binary.id.as_str() != test.query.binary_query.binary_id {
+        return None;
+    }
+    let mut place = start;
+    for case in &binary.tests {
+        let one = test_of(binary, case);
+        if is_same_test(&one, test) {
+            return Some(Found { test: one, place });
+        }
+        place = place.next();
+    }
+    None
+}
+
+/// The first test of a list that is the one that is looked for, and its place.
+fn find<'q>(binaries: &'q [ListedBinary], test: &ListedTest<'_>) -> Option<Found<'q>>
+    ensures { MatchOption result
+        (is_in (tests_of binaries.now) (list_test_view test.now) ≡ false)
+        (λ found. IsFound (tests_of binaries.now) (list_test_view test.now)
+        (list_test_view found.test)) }
+{
+    let mut place = Place::first();
+    for binary in binaries {
+        if let Some(found) = find_in(binary, place, test) {
+            return Some(found);
+        }
+        place = place.next_binary();
+    }
+    None
+}
+
+/// The test at a place of a list, or else at the first place of the next binary, if it is the one
+/// that is looked for, and its place.
+fn test_near<'q>(
+    binaries: &'q [ListedBinary],
+    test: &ListedTest<'_>,
+    place: Place,
+) -> Option<Found<'q>>
+    ensures { IfSome result (λ found. IsFound (tests_of binaries.now) (list_test_view test.now)
+        (list_test_view found.test)) }
+{
+    if let Some(test) = test_at(binaries, test, place) {
+        return Some(Found { test, place });
+    }
+    let place = place.next_binary();
+    let test = test_at(binaries, test, place)?;
+    Some(Found { test, place })
+}
+
+/// The test of a list that is the one that is looked for, and its place. It is looked for near a
+/// place first.
+fn found_from<'q>(
+    binaries: &'q [ListedBinary],
+    test: &ListedTest<'_>,
+    place: Place,
+) -> Option<Found<'q>>
+    ensures { MatchOption result
+        (is_in (tests_of binaries.now) (list_test_view test.now) ≡ false)
+        (λ found. IsFound (tests_of binaries.now) (list_test_view test.now)
+        (list_test_view found.test)) }
+{
+    match test_near(binaries, test, place) {
+        Some(found) => Some(found),
+        None => find(binaries, test),
+    }
+}
+
+/// Adds a test to others, if a list does not have it. It is looked for near a place first, which is
+/// then the place to begin with for the next test.
 fn add_alone<'q>(
     found: &mut Vec<ListedTest<'q>>,
-    others: &[ListedTest<'q>],
-    test: &ListedTest<'q>,
-    guess: usize,
-) -> Result<usize, AllocError>
+    others: &[ListedBinary],
+    test: ListedTest<'q>,
+    guess: &mut Place,
+) -> Result<(), AllocError>
     ensures { OnOk result (map list_test_view found.new.items ≡ map list_test_view found.old.items
-        ++ filter (λ t. not (is_in (map list_test_view others.now) t))
-        (list_test_view test.now ∷ [])) }
+        ++ filter (λ t. not (is_in (tests_of others.now) t)) (list_test_view test.entry ∷ [])) }
 {
-    match place_of(others, test, guess) {
-        Some(place) => Ok(place.saturating_add(1)),
-        None => {
-            found.push(*test)?;
-            Ok(guess)
-        }
+    match found_from(others, &test, *guess) {
+        Some(other) => *guess = other.place.next(),
+        None => found.push(test)?,
     }
+    Ok(())
+}
+
+/// Adds the tests of a binary to others that a list does not have.
+fn add_alone_of<'q>(
+    found: &mut Vec<ListedTest<'q>>,
+    others: &[ListedBinary],
+    binary: &'q ListedBinary,
+    guess: &mut Place,
+) -> Result<(), AllocError>
+    ensures { OnOk result (map list_test_view found.new.items ≡ map list_test_view found.old.items
+        ++ filter (λ t. not (is_in (tests_of others.now) t)) (tests_in (listed_view binary.now))) }
+{
+    for case in &binary.tests {
+        add_alone(found, others, test_of(binary, case), guess)?;
+    }
+    Ok(())
 }
 
 /// The tests of a list that another list does not have.
 fn alone<'q>(
     alloc: Global,
-    tests: &[ListedTest<'q>],
-    others: &[ListedTest<'q>],
+    binaries: &'q [ListedBinary],
+    others: &[ListedBinary],
 ) -> Result<Vec<ListedTest<'q>>, AllocError>
     ensures { IfOk result (λ found. map list_test_view found.items
-        ≡ filter (λ t. not (is_in (map list_test_view others.now) t))
-        (map list_test_view tests.now)) }
+        ≡ filter (λ t. not (is_in (tests_of others.now) t)) (tests_of binaries.now)) }
 {
     let mut found = Vec::new(alloc);
-    let mut guess = 0usize;
-    for test in tests {
-        guess = add_alone(&mut found, others, test, guess)?;
+    let mut guess = Place::first();
+    for binary in binaries {
+        add_alone_of(&mut found, others, binary, &mut guess)?;
     }
     Ok(found)
 }
 
-/// The pair of a test of the right list, if the left list has the test. It is looked for at a place
-/// first, which is then the place to begin with for the next test.
+/// The pair of a test of the right list, if the left list has the test. It is looked for near a
+/// place first, which is then the place to begin with for the next test.
 pub fn pair_of<'q>(
-    from: &[ListedTest<'q>],
-    test: &ListedTest<'q>,
-    guess: &mut usize,
+    from: &'q [ListedBinary],
+    test: ListedTest<'q>,
+    guess: &mut Place,
 ) -> Option<Pair<'q>>
     ensures { MatchOption result
-        (is_in (map list_test_view from.now) (list_test_view test.now) ≡ false)
-        (λ pair. HasPair (map list_test_view from.now) (list_test_view test.now)
-        (pair_view pair)) }
+        (is_in (tests_of from.now) (list_test_view test.entry) ≡ false)
+        (λ pair. HasPair (tests_of from.now) (list_test_view test.entry) (pair_view pair)) }
 {
-    let place = place_of(from, test, *guess)?;
-    *guess = place.saturating_add(1);
+    let found = found_from(from, &test, *guess)?;
+    *guess = found.place.next();
     Some(Pair {
-        from: from[place],
-        to: *test,
+        from: found.test,
+        to: test,
     })
 }
 
-/// The tests of two lists, and those that one has alone.
-pub fn match_tests<'q>(
+/// The tests of two lists that one of them has alone.
+pub fn tests_alone<'q>(
     alloc: Global,
-    from: Vec<ListedTest<'q>>,
-    to: Vec<ListedTest<'q>>,
-) -> Result<Matched<'q>, AllocError>
-    ensures { IfOk result (AreMatched (map list_test_view from.entry.items)
-        (map list_test_view to.entry.items)) }
+    from: &'q ListedTests,
+    to: &'q ListedTests,
+) -> Result<AloneTests<'q>, AllocError>
+    ensures { IfOk result (AreAlone (list_tests (list_view from.now))
+        (list_tests (list_view to.now))) }
 {
-    let removed = alone(alloc, &from, &to)?;
-    let added = alone(alloc, &to, &from)?;
-    Ok(Matched {
-        from,
-        to,
-        removed,
-        added,
+    Ok(AloneTests {
+        removed: alone(alloc, &from.binaries, &to.binaries)?,
+        added: alone(alloc, &to.binaries, &from.binaries)?,
     })
 }

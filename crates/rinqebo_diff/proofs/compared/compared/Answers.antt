@@ -1,71 +1,58 @@
-use Rattle.std.proofs.Common.{◌∙◌, ◌+◌, ap, arith, map, refl, take}
+use Rattle.std.proofs.Common.{◌∙◌, ◌+◌, refl, take}
 use Rattle.filter_engine.specs.Compiling.{names_of}
 use Rattle.filter_engine.specs.Engine.{filter_holds}
-use Rattle.filter_inputs.specs.Lists.ListView.{list_test_view}
+use Rattle.filter_inputs.specs.Lists.Lists.{tests_in}
+use Rattle.filter_inputs.specs.Lists.ListView.{listed_view}
 use Rattle.filter_language.specs.Filtersets.{marks_view}
 use Rattle.nextest_settings.specs.Profiles.Meaning.{profile_meaning}
 use Rattle.rinqebo_changes.specs.Changes.{is_change}
-use Rattle.rinqebo_changes.specs.Sides.Matched.{pair_view}
-use Rattle.rinqebo_changes.proofs.Zips.{taken_read}
-use Rattle.rinqebo_diff.specs.Compared.{ReportsBy}
-use Rattle.rinqebo_diff.proofs.Comparing.{moved_sides, tests_kept, tests_more, tests_none}
+use Rattle.rinqebo_changes.specs.Sides.Matched.{tests_of}
+use Rattle.rinqebo_changes.proofs.Matching.{tests_taken}
+use Rattle.rinqebo_diff.specs.Compared.{ReportsBy, AddsCompared}
+use Rattle.rinqebo_diff.proofs.Comparing.{adds_more, adds_none, by_names}
 use Rattle.rinqebo_diff.proofs.compared.compared.Goals as goal
-use Rattle.rinqebo_diff.proofs.compared.compared.Goals.{in-Some+in_ok-found+in_ok-add_found, in_default}
 
-pub loop-test-init : goal.loop-test-init
-loop-test-init g c = record {
+pub loop-binary-init : goal.loop-binary-init
+loop-binary-init g c = record {
   from_same = refl;
   to_same = refl;
   left_same = c.in_ok-left.ensures;
   right_same = c.in_ok-right.ensures;
-  below = omega arith;
-  compared = tests_none _ _ _ _ (map list_test_view c.args.from_tests.now) c.new-changed.result.items c.new-changed.ensures.items;
+  compared = adds_none _ _ _ _ _ _ _ refl refl;
 }
 
-pub loop-test-preserved : goal.loop-test-preserved
-loop-test-preserved g c =
-    let inv = c.loop-test.invariant in
-    let tests = c.args.to_tests.now in
-    let i = c.loop-test.test-index in
-    let from = map list_test_view c.args.from_tests.now in
-    let done = map list_test_view (take i tests) in
-    let more = map list_test_view (take (i + 1) tests) in
+pub loop-binary-preserved : goal.loop-binary-preserved
+loop-binary-preserved g c =
+    let inv = c.loop-binary.invariant in
+    let then = c.in_ok-compare_binary.ensures in
+    let i = c.loop-binary.binary-index in
+    let binaries = c.args.to_tests.now in
+    let binary = c.binary-item.result in
+    let from = c.args.from.now in
+    let to = c.args.to.now in
     let compare = c.args.compare.now in
     let changes = is_change compare.sources.from.now compare.sources.to.now compare.with_origins in
-    elim c.match-pair_of.branch [
-      | in-Some+in_ok-found+in_ok-add_found w ↦
-          let pair = pair_view w.in-Some.pair in
-          let found = w.in_ok-found.found in
-          record {
-            from_same = w.from_origins-is ∙ w.compared_pair.ensures.same_from ∙ inv.from_same;
-            to_same = w.to_origins-is ∙ w.compared_pair.ensures.same_to ∙ inv.to_same;
-            left_same = ap (λ s. s.listing.lister) w.left-is ∙ w.compared_pair.ensures.from_lister ∙ inv.left_same;
-            right_same = ap (λ s. s.listing.lister) w.right-is ∙ w.compared_pair.ensures.to_lister ∙ inv.right_same;
-            below = omega (arith, inv.below, w.done-is);
-            compared = tests_more _ _ changes compare.with_runs from done more _ c.loop-test.changed.items _ c.loop-test.done _ pair found
-                (taken_read list_test_view tests i _ _ c.loop-test-test.true refl) w.in-Some.ensures
-                (moved_sides _ _ _ _ inv.from_same inv.to_same
-                (λ o. ReportsBy filter_holds o (profile_meaning (marks_view names_of) c.args.from.now.profile.now)
-                c.args.from.now.mode c.args.from.now.asked.now)
-                (λ o. ReportsBy filter_holds o (profile_meaning (marks_view names_of) c.args.to.now.profile.now)
-                c.args.to.now.mode c.args.to.now.asked.now)
-                changes compare.with_runs pair found
-                (moved_sides _ _ _ _ inv.left_same inv.right_same
-                (λ l. ReportsBy filter_holds c.loop-test.from_origins (profile_meaning (marks_view names_of) l.profile.now)
-                l.mode l.asked.now)
-                (λ l. ReportsBy filter_holds c.loop-test.to_origins (profile_meaning (marks_view names_of) l.profile.now)
-                l.mode l.asked.now)
-                changes compare.with_runs pair found w.in_ok-found.ensures.changes))
-                (ap (λ v. v.items) w.changed-is ∙ w.in_ok-add_found.ensures) w.done-is inv.compared;
-          }
-      | in_default w ↦ record {
-        from_same = w.from_origins-is ∙ inv.from_same;
-        to_same = w.to_origins-is ∙ inv.to_same;
-        left_same = ap (λ s. s.listing.lister) w.left-is ∙ inv.left_same;
-        right_same = ap (λ s. s.listing.lister) w.right-is ∙ inv.right_same;
-        below = omega (arith, inv.below, w.done-is);
-        compared = tests_kept _ _ changes compare.with_runs from done more _ c.loop-test.changed.items _ c.loop-test.done _
-            (taken_read list_test_view tests i _ _ c.loop-test-test.true refl) w.in_default.ensures
-            (ap (λ v. v.items) w.changed-is) w.done-is inv.compared;
-      }
-    ]
+    let tests = tests_of c.args.from_tests.now in
+    let these = tests_in (listed_view binary) in
+    record {
+      from_same = then.same_from ∙ inv.from_same;
+      to_same = then.same_to ∙ inv.to_same;
+      left_same = then.from_lister ∙ inv.left_same;
+      right_same = then.to_lister ∙ inv.right_same;
+      compared = adds_more _ _ changes compare.with_runs tests (tests_of (take i binaries)) these
+          (tests_of (take (i + 1) binaries)) _ c.loop-binary.found c.compare_binary.new.found
+          (tests_taken binaries i binary binary c.loop-binary-test.true c.binary-item.is)
+          inv.compared
+          (by_names _ _ _ _ inv.from_same inv.to_same
+          (λ a b. AddsCompared
+          (ReportsBy filter_holds a (profile_meaning (marks_view names_of) from.profile.now) from.mode from.asked.now)
+          (ReportsBy filter_holds b (profile_meaning (marks_view names_of) to.profile.now) to.mode to.asked.now)
+          changes compare.with_runs tests these c.loop-binary.found c.compare_binary.new.found)
+          (by_names _ _ _ _ inv.left_same inv.right_same
+          (λ l r. AddsCompared
+          (ReportsBy filter_holds c.loop-binary.from_origins (profile_meaning (marks_view names_of) l.profile.now) l.mode
+          l.asked.now)
+          (ReportsBy filter_holds c.loop-binary.to_origins (profile_meaning (marks_view names_of) r.profile.now) r.mode
+          r.asked.now)
+          changes compare.with_runs tests these c.loop-binary.found c.compare_binary.new.found) then.compared));
+    }

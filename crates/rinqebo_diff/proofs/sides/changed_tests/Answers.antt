@@ -1,19 +1,19 @@
-use Rattle.std.proofs.Common.{◌∙◌, Bool, IfOk, List, ap, map}
+use Rattle.std.proofs.Common.{◌∙◌, Bool, IfOk, List, ap}
 use Rattle.filter_engine.specs.Compiling.{names_of}
 use Rattle.filter_engine.specs.Engine.{filter_holds}
-use Rattle.filter_inputs.specs.Lists.ListView.{list_test_view}
-use Rattle.filter_inputs.specs.declared.lists.list.ListedTest.{ListedTest}
+use Rattle.filter_inputs.specs.declared.lists.list.ListedBinary.{ListedBinary}
 use Rattle.filter_language.specs.Filtersets.{marks_view}
 use Rattle.nextest_inheritance.specs.View.{borrowed_view}
 use Rattle.nextest_settings.specs.Profiles.Meaning.{profile_meaning}
 use Rattle.rinqebo_changes.specs.Changes.{is_change}
+use Rattle.rinqebo_changes.specs.Sides.Matched.{tests_of}
 use Rattle.rinqebo_request.specs.declared.request.RequestedSettings.{RequestedSettings}
 use Rattle.rinqebo_origins.specs.TestOrigins.{Basis}
 use Rattle.rinqebo_results.proofs.Listing.{basis_here}
 use Rattle.rinqebo_results.specs.ListedBy.{basis_of}
 use Rattle.rinqebo_diff.specs.Asked.{compares_runs}
 use Rattle.rinqebo_diff.specs.Compared.{AreTestsCompared, ReportsBy}
-use Rattle.rinqebo_diff.proofs.Comparing.{lists_as, renamed}
+use Rattle.rinqebo_diff.proofs.Comparing.{by_names, renamed}
 use Rattle.rinqebo_diff.proofs.sides.changed_tests.Goals as goal
 
 pub returns : goal.returns
@@ -24,17 +24,17 @@ returns g c =
     let left = c.args.left.now in
     let right = c.args.right.now in
     let asked = request.compared.asked in
-    let Compared : RequestedSettings → RequestedSettings → Bool → Basis → Basis → List ListedTest → List ListedTest
+    let Compared : RequestedSettings → RequestedSettings → Bool → Basis → Basis → List ListedBinary → List ListedBinary
     → Type 0 = λ one two runs a b froms tos. IfOk c.compared.result
     (λ compared. AreTestsCompared
     (ReportsBy filter_holds a (profile_meaning (marks_view names_of) left.profile) request.from.mode one)
     (ReportsBy filter_holds b (profile_meaning (marks_view names_of) right.profile) request.to.mode two)
-    (is_change c.args.sources.from.now c.args.sources.to.now request.with_origins) runs (map list_test_view froms)
-    (map list_test_view tos) compared.changed.items compared.count) in
+    (is_change c.args.sources.from.now c.args.sources.to.now request.with_origins) runs (tests_of froms)
+    (tests_of tos) compared.changed.items compared.count) in
     let left_basis = basis_of from (borrowed_view left.chain.items) in
     let right_basis = basis_of to (borrowed_view right.chain.items) in
-    lists_as (Compared asked asked (compares_runs asked) left_basis right_basis) _ _ _ _ c.deref-5.ensures.value
-    c.deref-6.ensures.value
+    by_names _ _ _ _ c.deref-5.ensures.value c.deref-6.ensures.value
+    (Compared asked asked (compares_runs asked) left_basis right_basis)
     (renamed (λ one two runs a b. Compared one two runs a b c.deref-5.result.now c.deref-6.result.now)
     c.asked.result.now c.asked-2.result.now asked c.with_runs.result (compares_runs asked) c.new-from_origins.result
     left_basis c.new-to_origins.result right_basis c.asked.ensures c.asked-2.ensures c.with_runs.ensures

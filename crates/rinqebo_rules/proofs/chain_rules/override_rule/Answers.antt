@@ -33,7 +33,7 @@ returns c =
     let place = c.of_override.ensures
     ∙ ap id_place (c.id.ensures ∙ ap (λ r. (override_ref_view r).writes.id) same) in
     let filter = c.filter.ensures ∙ ap (λ r. (override_ref_view r).filter) same in
-    let holds = c.override_holds.ensures
+    let holds = c.override_holds.ensures.answer
     ∙ (λ i. rule_holds (test_query filter_holds (marks_view names_of (c.context.ensures i)) test)
     (meant_override (marks_view names_of) rule))
     ∙ holds_meant (marks_view names_of) (use_meaning (marks_view names_of))

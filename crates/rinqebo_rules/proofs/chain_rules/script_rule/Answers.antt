@@ -25,7 +25,7 @@ returns c =
     let place = c.of_script.ensures
     ∙ ap script_place (c.id.ensures ∙ ap (λ r. (script_rule_ref_view r).writes.id) same) in
     let filter = c.filter.ensures ∙ ap (λ r. (script_rule_ref_view r).filter) same in
-    let holds = c.script_rule_holds.ensures
+    let holds = c.script_rule_holds.ensures.answer
     ∙ (λ i. rule_holds (test_query filter_holds (marks_view names_of (c.context.ensures i)) test)
     (meant_script_rule (marks_view names_of) rule))
     ∙ holds_meant (marks_view names_of) (λ u. u)

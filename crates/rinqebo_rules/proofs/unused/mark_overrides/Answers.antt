@@ -1,20 +1,26 @@
-use Rattle.std.proofs.Common.{◌≡◌, ◌∙◌, ◌++◌, ◌∷◌, ◌||◌, [], Some, ap, arith, map, slice_get, subst, sym}
+use Rattle.std.proofs.Common.{◌≡◌, ◌∙◌, ◌+◌, ◌++◌, ◌∷◌, ◌||◌, [], Some, ap, arith, false, map, refl, slice_get, subst, sym, unwrap_or}
 use Rattle.std.proofs.lemmas.List.{length-map}
 use Rattle.nextest_settings.specs.Binaries.{IsKnownFor}
 use Rattle.nextest_settings.specs.Deciding.{rule_holds}
 use Rattle.nextest_settings.specs.Engines.{test_query_by}
 use Rattle.nextest_settings.specs.View.{meant_override}
+use Rattle.rinqebo_rules.proofs.Evaluated.{evaluated_all, evaluated_more, get_behind_set, none_evaluated}
 use Rattle.rinqebo_rules.proofs.Marked.{mapped_at, marks_more}
 use Rattle.rinqebo_rules.proofs.Passing.{override_shown, written_of}
 use Rattle.rinqebo_rules.proofs.SetMarks.{all_set}
+use Rattle.rinqebo_rules.specs.Passed.{IsHidden, IsShownBy}
 use Rattle.rinqebo_rules.specs.Unused.{is_used}
 use Rattle.rinqebo_rules.proofs.unused.mark_overrides.Goals as goal
 
 pub loop-number-init : goal.loop-number-init
-loop-number-init g c = λ mode writes passed distinct known tests are. are
+loop-number-init g c = record {
+  marks = λ mode writes passed distinct known tests are. are;
+  kept = λ m past. refl;
+  evaluated = none_evaluated _ 0 0 _ (omega arith);
+}
 
 pub loop-number-preserved : goal.loop-number-preserved
-loop-number-preserved g c = λ mode writes passed distinct known tests are.
+loop-number-preserved g c =
     let F = g.F.Filters in
     let meant = meant_override F.meaning in
     let rules = map meant c.args.rules.now in
@@ -23,24 +29,48 @@ loop-number-preserved g c = λ mode writes passed distinct known tests are.
     let query = test_query_by F c.args.cx.now.default_filter.now c.args.query.now in
     let stands : slice_get rules n ≡ Some rule =
     mapped_at meant c.args.rules.now n _ _ c.loop-number-test.true c.index-rules-number.is in
-    let known_here : IsKnownFor query rule c.known_at-holds.result =
-    subst (IsKnownFor query rule) (sym c.known_at-holds.ensures) (known n rule stands) in
-    marks_more tests rules n rule query stands c.loop-number.used _ _
-    (c.loop-number.invariant mode writes passed distinct known tests are)
-    (c.is_override_used-is_used.ensures known_here
-    (λ holds shown. override_shown query mode rules c.written_at-settings.result.now n c.args.passed.now
-    c.args.are_distinct rule stands
-    (λ k s here. written_of mode rules c.args.written.now n rule writes stands k s
-    (subst (λ ss. slice_get ss k ≡ Some s) c.written_at-settings.ensures here))
-    passed distinct holds shown)
-    ∙ ap (λ b. b || rule_holds query rule) c.is_marked-held.ensures)
-    c.set_mark.ensures
+    let so_far = c.loop-number.invariant in
+    record {
+      marks = λ mode writes passed distinct known tests are.
+          let known_here : IsKnownFor query rule c.known_at-holds.result =
+          subst (IsKnownFor query rule) (sym c.known_at-holds.ensures) (known n rule stands) in
+          marks_more tests rules n rule query stands c.loop-number.used _ _
+          (so_far.marks mode writes passed distinct known tests are)
+          (c.is_override_used-is_used.ensures.answer known_here
+          (λ holds shown. override_shown query mode rules c.written_at-settings.result.now n c.args.passed.now
+          c.args.are_distinct rule stands
+          (λ k s here. written_of mode rules c.args.written.now n rule writes stands k s
+          (subst (λ ss. slice_get ss k ≡ Some s) c.written_at-settings.ensures here))
+          passed distinct holds shown)
+          ∙ ap (λ b. b || rule_holds query rule) c.is_marked-held.ensures)
+          c.set_mark.ensures;
+      kept = λ m past. ap (λ us. slice_get us m) c.set_mark.ensures
+          ∙ get_behind_set c.loop-number.used n m _ (omega (arith, past)) ∙ so_far.kept m (omega (arith, past));
+      evaluated = evaluated_more _ _ 0 n (n + 1) _ _ _ refl so_far.evaluated c.is_override_used-is_used.ensures.tally
+          (λ one. record {
+            place = n;
+            numbered = omega arith;
+            rule = rule;
+            stands = stands;
+            is_open = record {
+              unmarked = ap (λ found. unwrap_or found false) (sym (so_far.kept n (omega arith)))
+                  ∙ sym c.is_marked-held.ensures ∙ one.unmarked;
+              unknown = sym c.known_at-holds.ensures ∙ one.unknown;
+              hidden = subst (λ written. IsHidden (IsShownBy written n c.args.passed.now c.args.are_distinct))
+                  c.written_at-settings.ensures one.hidden;
+              asked = one.asked;
+            };
+          });
+    }
 
-pub returns : goal.returns
-returns g c = λ mode writes passed distinct known tests are.
+pub returns-clause-marks : goal.returns-clause-marks
+returns-clause-marks g c = λ mode writes passed distinct known tests are.
     let F = g.F.Filters in
     let query = test_query_by F c.args.cx.now.default_filter.now c.args.query.now in
     let rules = map (meant_override F.meaning) c.args.rules.now in
-    c.loop-number.invariant mode writes passed distinct known tests are
+    c.loop-number.invariant.marks mode writes passed distinct known tests are
     ∙ all_set (is_used (tests ++ query ∷ [])) (is_used tests) rules c.loop-number.number
     (omega (arith, c.loop-number-test.false, length-map c.args.rules.now (meant_override F.meaning)))
+
+pub returns-clause-tally : goal.returns-clause-tally
+returns-clause-tally g c = evaluated_all _ 0 c.loop-number.number _ _ c.loop-number.invariant.evaluated

@@ -1,4 +1,4 @@
-use Rattle.std.proofs.Common.{◌∙◌, ◌∷◌, ◌++◌, [], ap}
+use Rattle.std.proofs.Common.{◌∙◌, ◌++◌, ap}
 use Rattle.rinqebo_changes.proofs.sides.rows.run_rows.Goals as goal
 
 pub returns : goal.returns

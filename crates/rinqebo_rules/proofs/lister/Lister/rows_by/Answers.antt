@@ -17,7 +17,7 @@ returns-clause-told g c = λ are.
     let profile = profile_meaning g.F.Filters.meaning self.profile.now in
     let test = c.args.test.now in
     let query = query_in g.F.Filters.holds profile (test_view test.query) in
-    let runs = c.runs_if-runs.ensures ∙ ap (λ s. runs_if s test.ignored) c.is_selected.ensures in
+    let runs = c.runs_if-runs.ensures ∙ ap (λ s. runs_if s test.ignored) c.is_selected.ensures.answer in
     let settings = c.args.settings.now in
     let rows = c.in_ok-rows_of.field-0.items in
     record {
