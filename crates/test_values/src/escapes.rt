@@ -1,11 +1,10 @@
 //! Characters that are written in a row by an escape.
-use crate::row::RowError;
-use std::alloc::{AllocError, Global};
+use crate::row::Output;
 
 /// The escapes that a text may have.
 #[derive(Clone, Copy)]
 pub enum Escapes {
-    /// `\n`, `\r`, `\t` and `\\`.
+    /// `\n`, `\r`, `\t`, `\e` for the character of that name, and `\\`.
     Named,
     /// The same, and `\u{hex}`.
     Numbered,
@@ -24,61 +23,64 @@ enum Escape {
     Number(u32),
 }
 
-/// A text in which escapes are replaced.
-#[derive(Drop)]
-struct Unescaping {
-    text: String,
-    escape: Escape,
+/// The words of a row, with tabs between them, with characters in place of their escapes.
+pub fn words_of(out: &mut Output, row: &str) -> Vec<String> {
+    let mut words = Vec::new(out.alloc);
+    for word in row.split('\t') {
+        let word = unescaped(out, word, Escapes::Named);
+        out.keep(&mut words, word);
+    }
+    words
 }
 
 /// The text with characters in place of its escapes.
-pub fn unescaped(alloc: Global, text: &str, escapes: Escapes) -> Result<String, RowError> {
-    let mut read = Unescaping {
-        text: String::new(alloc),
-        escape: Escape::None,
-    };
+pub fn unescaped(out: &mut Output, text: &str, escapes: Escapes) -> String {
+    let mut read = Output::new(out.alloc);
+    let mut escape = Escape::None;
     for character in text.chars() {
-        read.take(character, escapes)?;
+        escape = behind(&mut read, escape, character, escapes);
     }
-    match read.escape {
-        Escape::None => Ok(read.text),
-        _ => Err(RowError::NoRow),
+    if !matches!(escape, Escape::None) {
+        read.refuse();
     }
+    out.text_of(read)
 }
 
-impl Unescaping {
-    /// Takes the next character of the row.
-    fn take(&mut self, character: char, escapes: Escapes) -> Result<(), RowError> {
-        let escape = self.escape;
-        self.escape = Escape::None;
-        match (escape, character, escapes) {
-            (Escape::None, '\\', _) => self.escape = Escape::Backslash,
-            (Escape::None, _, _) => self.text.push(character)?,
-            (Escape::Backslash, 'u', Escapes::Numbered) => self.escape = Escape::Opened,
-            (Escape::Backslash, _, _) => self.text.push(named(character)?)?,
-            (Escape::Opened, '{', _) => self.escape = Escape::Number(0),
-            (Escape::Opened, _, _) => return Err(RowError::NoRow),
-            (Escape::Number(number), '}', _) => {
-                self.text
-                    .push(char::from_u32(number).ok_or(RowError::NoRow)?)?;
-            }
-            (Escape::Number(number), _, _) => {
-                let number = with_digit(number, character).ok_or(RowError::NoRow)?;
-                self.escape = Escape::Number(number);
-            }
-        }
-        Ok(())
+/// How far an escape has been read behind the next character of the row.
+fn behind(read: &mut Output, escape: Escape, character: char, escapes: Escapes) -> Escape {
+    match (escape, character, escapes) {
+        (Escape::None, '\\', _) => return Escape::Backslash,
+        (Escape::Backslash, 'u', Escapes::Numbered) => return Escape::Opened,
+        (Escape::Opened, '{', _) => return Escape::Number(0),
+        (Escape::None, _, _) => read.push(character),
+        (Escape::Backslash, _, _) => push_known(read, named(character)),
+        (Escape::Number(number), '}', _) => push_known(read, char::from_u32(number)),
+        (Escape::Number(number), _, _) => match with_digit(number, character) {
+            Some(number) => return Escape::Number(number),
+            None => read.refuse(),
+        },
+        (Escape::Opened, _, _) => read.refuse(),
+    }
+    Escape::None
+}
+
+/// Adds a character. A row with an escape for none is not of its form.
+fn push_known(read: &mut Output, character: Option<char>) {
+    match character {
+        Some(character) => read.push(character),
+        None => read.refuse(),
     }
 }
 
 /// The character that a backslash and this one are written for.
-fn named(character: char) -> Result<char, RowError> {
+fn named(character: char) -> Option<char> {
     match character {
-        'n' => Ok('\n'),
-        'r' => Ok('\r'),
-        't' => Ok('\t'),
-        '\\' => Ok('\\'),
-        _ => Err(RowError::NoRow),
+        'n' => Some('\n'),
+        'r' => Some('\r'),
+        't' => Some('\t'),
+        'e' => Some('\u{1b}'),
+        '\\' => Some('\\'),
+        _ => None,
     }
 }
 
@@ -88,12 +90,12 @@ fn with_digit(number: u32, digit: char) -> Option<u32> {
 }
 
 /// Adds a character, by an escape if it is the end of a line, a tab or a backslash.
-pub fn push_escaped(line: &mut String, character: char) -> Result<(), AllocError> {
+pub fn push_escaped(out: &mut Output, character: char) {
     match character {
-        '\n' => line.push_str("\\n"),
-        '\r' => line.push_str("\\r"),
-        '\t' => line.push_str("\\t"),
-        '\\' => line.push_str("\\\\"),
-        other => line.push(other),
+        '\n' => out.push_str("\\n"),
+        '\r' => out.push_str("\\r"),
+        '\t' => out.push_str("\\t"),
+        '\\' => out.push_str("\\\\"),
+        other => out.push(other),
     }
 }

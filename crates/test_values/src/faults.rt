@@ -6,46 +6,55 @@
 //! The row prints each fault, with `; ` between them: its path, `: ` and what is wrong there. The
 //! path is keys and positions with dots between them. A file without a fault prints `none`.
 use crate::escapes::{Escapes, unescaped};
-use crate::row::RowError;
-use nextest_documents::{lay_over, tree_from_text};
+use crate::row::Output;
+use nextest_documents::{TextFault, lay_over, tree_from_text};
+use nextest_elements::Tree;
 use nextest_places::Step;
 use nextest_shape::{FoundFault, file_faults};
 use nextest_tables::default_tree;
-use std::alloc::{AllocError, Global};
+use std::alloc::Global;
 
-/// The faults of a row's file.
-pub fn answer_to(alloc: Global, row: &str) -> Result<String, RowError> {
-    let text = unescaped(alloc, row, Escapes::Named)?;
-    let document = tree_from_text(alloc, text.as_str())?;
-    let tree = lay_over(alloc, &document, default_tree(alloc)?)?;
-    let found = file_faults(alloc, &tree)?;
-    if found.is_empty() {
-        return Ok(String::from_str(alloc, "none")?);
+/// Prints the faults of a row's file.
+pub fn answer_to(out: &mut Output, row: &str) {
+    let text = unescaped(out, row, Escapes::Named);
+    let Some(tree) = out.taken(tree_of(out.alloc, text.as_str())) else {
+        return;
+    };
+    if let Some(faults) = out.taken(file_faults(out.alloc, &tree)) {
+        print_faults(out, &faults);
     }
-    let mut line = String::new(alloc);
-    for fault in &found {
-        if !line.is_empty() {
-            line.push_str("; ")?;
-        }
-        push_fault(alloc, &mut line, fault)?;
-    }
-    Ok(line)
 }
 
-/// Adds a fault to a line.
-fn push_fault(alloc: Global, line: &mut String, fault: &FoundFault) -> Result<(), AllocError> {
-    for (place, step) in fault.path.iter().enumerate() {
+/// The tree of a file's text, over the default table.
+fn tree_of(alloc: Global, text: &str) -> Result<Tree, TextFault> {
+    let document = tree_from_text(alloc, text)?;
+    Ok(lay_over(alloc, &document, default_tree(alloc)?)?)
+}
+
+/// Prints faults, with `; ` between them.
+fn print_faults(out: &mut Output, faults: &[FoundFault<'_>]) {
+    if faults.is_empty() {
+        out.push_str("none");
+    }
+    for (place, fault) in faults.iter().enumerate() {
         if place > 0 {
-            line.push('.')?;
+            out.push_str("; ");
+        }
+        print_path(out, &fault.path);
+        out.push_str(": ");
+        out.add(fault.cause.to_string(out.alloc));
+    }
+}
+
+/// Prints the path of a fault.
+fn print_path(out: &mut Output, path: &[Step<'_>]) {
+    for (place, step) in path.iter().enumerate() {
+        if place > 0 {
+            out.push('.');
         }
         match step {
-            Step::Key(key) => line.push_str(key)?,
-            Step::Position(position) => {
-                let digits = format!(in alloc; "{position}")?;
-                line.push_str(digits.as_str())?;
-            }
+            Step::Key(key) => out.push_str(key),
+            Step::Position(position) => out.add(position.to_string(out.alloc)),
         }
     }
-    let cause = format!(in alloc; ": {}", fault.cause)?;
-    line.push_str(cause.as_str())
 }

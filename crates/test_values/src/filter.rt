@@ -16,144 +16,158 @@
 //!
 //! Whether it matches the binary may also be `unknown`. The texts of a reading and those parts are in
 //! double quotes, in which `\n`, `\r`, `\t`, `\"` and `\\` are written for characters.
-use crate::escapes::{Escapes, push_escaped, unescaped};
-use crate::row::{RowError, name_of};
+use crate::escapes::{push_escaped, words_of};
+use crate::row::{Output, RowError, found, name_of};
 use filter_engine::{
     FieldMatcher, Filterset, FiltersetFault, NextestFilters, PackageGraph, ParseFault,
 };
 use nextest_engines::{BinaryQuery, BuildPlatform, FiltersetKind, TestQuery};
-use std::alloc::{AllocError, Global};
 
-/// What is printed for a row, unless it is of packages.
-pub fn answer_to(
-    alloc: Global,
-    filters: &mut NextestFilters,
-    row: &str,
-) -> Result<Option<String>, RowError> {
+/// The word of each kind of filter.
+static KINDS: [(&str, FiltersetKind); 3] = [
+    ("override", FiltersetKind::OverrideFilter),
+    ("default", FiltersetKind::DefaultFilter),
+    ("test", FiltersetKind::Test),
+];
+
+/// The word of each platform.
+static PLATFORMS: [(&str, BuildPlatform); 2] = [
+    ("host", BuildPlatform::Host),
+    ("target", BuildPlatform::Target),
+];
+
+/// Prints the result of a row, unless it is of packages.
+pub fn answer_to(out: &mut Output, filters: &mut NextestFilters, row: &str) {
     match row.strip_prefix("graph\t") {
-        Some(metadata) => match PackageGraph::from_metadata(alloc, metadata) {
-            Ok(graph) => {
-                *filters = NextestFilters::with_graph(graph);
-                Ok(None)
-            }
-            Err(fault) => Err(RowError::NoGraph(fault)),
+        Some(metadata) => match PackageGraph::from_metadata(out.alloc, metadata) {
+            Ok(graph) => *filters = NextestFilters::with_graph(graph),
+            Err(fault) => out.fail(RowError::NoGraph(fault)),
         },
-        None => {
-            let answer = answer(alloc, filters, row)?;
-            Ok(Some(format!(in alloc; "{row}\t{answer}")?))
-        }
+        None => print_result(out, filters, row),
     }
 }
 
-/// The result of reading the filter of a row, and of evaluating it.
-fn answer(alloc: Global, filters: &NextestFilters, row: &str) -> Result<String, RowError> {
-    let mut columns = Vec::new(alloc);
-    for column in row.split('\t') {
-        columns.push(unescaped(alloc, column, Escapes::Named)?)?;
+/// Prints a row, and the result of reading its filter and of evaluating it.
+fn print_result(out: &mut Output, filters: &NextestFilters, row: &str) {
+    out.push_str(row);
+    out.push('\t');
+    let columns = words_of(out, row);
+    let [text, kind, test @ .., default] = columns.as_slice() else {
+        return out.refuse();
+    };
+    match (query_of(test), found(&KINDS, kind.as_str())) {
+        (Some(query), Some(kind)) => print_reading(
+            out,
+            filters,
+            text.as_str(),
+            kind,
+            &query,
+            default.as_str(),
+        ),
+        _ => out.refuse(),
     }
+    out.push('\n');
+}
+
+/// The query for the test of some columns.
+fn query_of(columns: &[String]) -> Option<TestQuery<'_>> {
     let [
-        text,
-        kind,
         package_id,
         binary_id,
-        binary_kind,
+        kind,
         binary_name,
         platform,
         test_name,
-        default,
-    ] = columns.as_slice()
+    ] = columns
     else {
-        return Err(RowError::NoRow);
+        return None;
     };
-    let query = TestQuery {
+    Some(TestQuery {
         binary_query: BinaryQuery {
             package_id: package_id.as_str(),
             binary_id: binary_id.as_str(),
-            kind: binary_kind.as_str(),
+            kind: kind.as_str(),
             binary_name: binary_name.as_str(),
-            platform: platform_of(platform.as_str())?,
+            platform: found(&PLATFORMS, platform.as_str())?,
         },
         test_name: test_name.as_str(),
+    })
+}
+
+/// Prints how a text is read as a filter, and its values for a query.
+fn print_reading(
+    out: &mut Output,
+    filters: &NextestFilters,
+    text: &str,
+    kind: FiltersetKind,
+    query: &TestQuery<'_>,
+    default: &str,
+) {
+    let Some(default) = default_filter(out, filters, default) else {
+        return;
     };
-    let default = default_filter(alloc, filters, default.as_str())?;
-    match Filterset::parse(filters, alloc, text.as_str(), kind_of(kind.as_str())?) {
-        Ok(filter) => Ok(matches(alloc, &filter, &default, &query)?),
-        Err(ParseFault::Refused(fault)) => Ok(refusal(alloc, fault)?),
-        Err(ParseFault::Memory) => Err(RowError::Memory),
-    }
-}
-
-fn kind_of(name: &str) -> Result<FiltersetKind, RowError> {
-    match name {
-        "override" => Ok(FiltersetKind::OverrideFilter),
-        "default" => Ok(FiltersetKind::DefaultFilter),
-        "test" => Ok(FiltersetKind::Test),
-        _ => Err(RowError::NoRow),
-    }
-}
-
-fn platform_of(name: &str) -> Result<BuildPlatform, RowError> {
-    match name {
-        "host" => Ok(BuildPlatform::Host),
-        "target" => Ok(BuildPlatform::Target),
-        _ => Err(RowError::NoRow),
+    match Filterset::parse(filters, out.alloc, text, kind) {
+        Ok(filter) => print_values(out, &filter, &default, query),
+        Err(ParseFault::Refused(fault)) => print_refusal(out, fault),
+        Err(ParseFault::Memory) => out.fail(RowError::Memory),
     }
 }
 
 /// The default filter of a text, where an empty one is `all()`.
 fn default_filter(
-    alloc: Global,
+    out: &mut Output,
     filters: &NextestFilters,
     text: &str,
-) -> Result<Filterset<FieldMatcher>, RowError> {
+) -> Option<Filterset<FieldMatcher>> {
     if text.is_empty() {
-        return Ok(Filterset::Everything);
+        return Some(Filterset::Everything);
     }
-    match Filterset::parse(filters, alloc, text, FiltersetKind::DefaultFilter) {
-        Ok(filter) => Ok(filter),
-        Err(ParseFault::Refused(_)) => Err(RowError::NoRow),
-        Err(ParseFault::Memory) => Err(RowError::Memory),
+    match Filterset::parse(filters, out.alloc, text, FiltersetKind::DefaultFilter) {
+        Ok(filter) => return Some(filter),
+        Err(ParseFault::Refused(_)) => out.refuse(),
+        Err(ParseFault::Memory) => out.fail(RowError::Memory),
     }
+    None
 }
 
-/// The values of a filter at a test and at its binary, how it was read, and the parts that only a
-/// test can decide.
-fn matches(
-    alloc: Global,
+/// Prints the values of a filter at a test and at its binary, how it was read, and the parts that
+/// only a test can decide.
+fn print_values(
+    out: &mut Output,
     filter: &Filterset<FieldMatcher>,
     default: &Filterset<FieldMatcher>,
     query: &TestQuery<'_>,
-) -> Result<String, AllocError> {
+) {
     let test = filter.matches_test::<NextestFilters>(query, default);
     let binary = filter.matches_binary::<NextestFilters>(&query.binary_query, default);
     let binary = name_of(binary);
-    let mut line = format!(in alloc; "ok\t{test}\t{binary}\t{filter}\t")?;
-    let leaves = filter.runtime_only_leaves::<NextestFilters>(alloc)?;
+    out.add(format!(in out.alloc; "ok\t{test}\t{binary}\t{filter}\t"));
+    let Some(leaves) = out.taken(filter.runtime_only_leaves::<NextestFilters>(out.alloc)) else {
+        return;
+    };
     for (place, leaf) in leaves.iter().enumerate() {
         if place > 0 {
-            line.push(' ')?;
+            out.push(' ');
         }
-        push_quoted(&mut line, leaf.as_str())?;
+        push_quoted(out, leaf.as_str());
     }
-    Ok(line)
 }
 
 /// Adds a text in double quotes.
-fn push_quoted(line: &mut String, text: &str) -> Result<(), AllocError> {
-    line.push('"')?;
+fn push_quoted(out: &mut Output, text: &str) {
+    out.push('"');
     for character in text.chars() {
         match character {
-            '"' => line.push_str("\\\"")?,
-            other => push_escaped(line, other)?,
+            '"' => out.push_str("\\\""),
+            other => push_escaped(out, other),
         }
     }
-    line.push('"')
+    out.push('"');
 }
 
-/// A fault by its name, and the bytes of the text where it is.
-fn refusal(alloc: Global, fault: FiltersetFault) -> Result<String, AllocError> {
+/// Prints a fault by its name, and the bytes of the text where it is.
+fn print_refusal(out: &mut Output, fault: FiltersetFault) {
     let name = fault.kind.name();
-    let start = fault.span.start;
-    let length = fault.span.length;
-    format!(in alloc; "refused\t{name}\t{start}\t{length}")
+    let (start, length) = (fault.span.start, fault.span.length);
+    out.add(format!(in out.alloc; "refused\t{name}\t{start}\t{length}"));
 }

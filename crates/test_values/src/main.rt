@@ -30,8 +30,7 @@ mod value;
 
 use filter_engine::NextestFilters;
 use platform_language::TargetRow;
-use row::RowError;
-use std::alloc::Global;
+use row::{Output, RowError, found};
 use std::io;
 use std::process::ExitCode;
 
@@ -48,22 +47,17 @@ enum Kind {
     Report,
 }
 
-impl Kind {
-    /// The kind of this word.
-    fn of(word: &str) -> Result<Kind, RowError> {
-        match word {
-            "value" => Ok(Kind::Value),
-            "faults" => Ok(Kind::Faults),
-            "place" => Ok(Kind::Place),
-            "schema" => Ok(Kind::Schema),
-            "platform" => Ok(Kind::Platform),
-            "filter" => Ok(Kind::Filter),
-            "spans" => Ok(Kind::Spans),
-            "report" => Ok(Kind::Report),
-            _ => Err(RowError::NoRow),
-        }
-    }
-}
+/// The word of each kind.
+static KINDS: [(&str, Kind); 8] = [
+    ("value", Kind::Value),
+    ("faults", Kind::Faults),
+    ("place", Kind::Place),
+    ("schema", Kind::Schema),
+    ("platform", Kind::Platform),
+    ("filter", Kind::Filter),
+    ("spans", Kind::Spans),
+    ("report", Kind::Report),
+];
 
 /// What rows define for the rows below them.
 #[derive(Drop)]
@@ -77,19 +71,32 @@ struct Defined<'a> {
 }
 
 impl<'a> Defined<'a> {
-    /// What is printed for a line, if it defines nothing.
-    fn answer_to(&mut self, alloc: Global, line: &'a str) -> Result<Option<String>, RowError> {
-        let (word, row) = line.split_once('\t').ok_or(RowError::NoRow)?;
-        match Kind::of(word)? {
-            Kind::Value => value::answer_to(alloc, row).map(Some),
-            Kind::Faults => faults::answer_to(alloc, row).map(Some),
-            Kind::Place => place::answer_to(alloc, row).map(Some),
-            Kind::Schema => schema::answer_to(alloc, row).map(Some),
-            Kind::Platform => platform::answer_to(alloc, &mut self.platforms, row),
-            Kind::Filter => filter::answer_to(alloc, &mut self.filters, row),
-            Kind::Spans => spans::answer_to(alloc, row).map(Some),
-            Kind::Report => reports::answer_to(alloc, &mut self.builder, row),
+    /// Prints the lines of a row: none, if it defines something.
+    fn answer_to(&mut self, out: &mut Output, line: &'a str) {
+        let Some((word, row)) = line.split_once('\t') else {
+            return out.refuse();
+        };
+        match found(&KINDS, word) {
+            Some(Kind::Value) => value::answer_to(out, row),
+            Some(Kind::Faults) => faults::answer_to(out, row),
+            Some(Kind::Place) => place::answer_to(out, row),
+            Some(Kind::Schema) => schema::answer_to(out, row),
+            Some(Kind::Spans) => spans::answer_to(out, row),
+            Some(Kind::Platform) => return platform::answer_to(out, &mut self.platforms, row),
+            Some(Kind::Filter) => return filter::answer_to(out, &mut self.filters, row),
+            Some(Kind::Report) => return reports::answer_to(out, &mut self.builder, row),
+            None => return out.refuse(),
         }
+        out.push('\n');
+    }
+}
+
+/// Prints on standard error why a line has no result.
+fn print_fault(rt: &HostRuntime, line: &str, fault: RowError) -> io::Result<()> {
+    match fault {
+        RowError::NoRow => eprintln!(rt; "error: no row: `{line}`"),
+        RowError::NoGraph(fault) => eprintln!(rt; "error: {fault}"),
+        RowError::Memory => eprintln!(rt; "error: out of memory"),
     }
 }
 
@@ -105,22 +112,13 @@ fn main(rt: HostRuntime) -> io::Result<ExitCode> {
         if line.is_empty() || line.starts_with("#") {
             continue;
         }
-        match defined.answer_to(alloc, line) {
-            Ok(Some(answer)) => println!(rt; "{answer}")?,
-            Ok(None) => {}
-            Err(RowError::NoRow) => {
-                eprintln!(rt; "error: no row: `{line}`")?;
-                return Ok(ExitCode::from(2));
-            }
-            Err(RowError::NoGraph(fault)) => {
-                eprintln!(rt; "error: {fault}")?;
-                return Ok(ExitCode::from(2));
-            }
-            Err(RowError::Memory) => {
-                eprintln!(rt; "error: out of memory")?;
-                return Ok(ExitCode::from(2));
-            }
+        let mut out = Output::new(alloc);
+        defined.answer_to(&mut out, line);
+        if let Some(fault) = out.fault {
+            print_fault(&rt, line, fault)?;
+            return Ok(ExitCode::from(2));
         }
+        print!(rt; "{text}", text = out.text)?;
     }
     Ok(ExitCode::SUCCESS)
 }

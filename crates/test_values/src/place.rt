@@ -6,40 +6,43 @@
 //!
 //! The row prints the first and the last line of the place, with a tab between them, or `none`.
 use crate::escapes::{Escapes, unescaped};
-use crate::row::RowError;
+use crate::row::Output;
 use nextest_places::{Places, Step};
-use std::alloc::Global;
 
-/// The place of a row's path in its text.
-pub fn answer_to(alloc: Global, row: &str) -> Result<String, RowError> {
-    let (text, words) = row.split_once('\t').ok_or(RowError::NoRow)?;
-    let text = unescaped(alloc, text, Escapes::Named)?;
-    let path = path_of(alloc, words)?;
-    match Places::of(alloc, text.as_str())?.lines_at(&path) {
-        Some(place) => Ok(format!(in alloc; "{}\t{}", place.first, place.last)?),
-        None => Ok(String::from_str(alloc, "none")?),
+/// Prints the place of a row's path in its text.
+pub fn answer_to(out: &mut Output, row: &str) {
+    let Some((text, words)) = row.split_once('\t') else {
+        return out.refuse();
+    };
+    let text = unescaped(out, text, Escapes::Named);
+    let path = path_of(out, words);
+    if let Some(places) = out.taken(Places::of(out.alloc, text.as_str())) {
+        match places.lines_at(&path) {
+            Some(place) => out.add(format!(in out.alloc; "{}\t{}", place.first, place.last)),
+            None => out.push_str("none"),
+        }
     }
 }
 
 /// The path that some words spell.
-fn path_of(alloc: Global, words: &str) -> Result<Vec<Step>, RowError> {
-    let mut path = Vec::new(alloc);
+fn path_of<'a>(out: &mut Output, words: &'a str) -> Vec<Step<'a>> {
+    let mut path = Vec::new(out.alloc);
     if words.is_empty() {
-        return Ok(path);
+        return path;
     }
     for word in words.split(' ') {
-        path.push(step_of(word)?)?;
+        match step_of(word) {
+            Some(step) => out.keep(&mut path, step),
+            None => out.refuse(),
+        }
     }
-    Ok(path)
+    path
 }
 
 /// The step that a word spells.
-fn step_of(word: &str) -> Result<Step, RowError> {
+fn step_of(word: &str) -> Option<Step<'_>> {
     match word.strip_prefix('#') {
-        Some(digits) => match digits.parse::<usize>() {
-            Ok(position) => Ok(Step::Position(position)),
-            Err(_) => Err(RowError::NoRow),
-        },
-        None => Ok(Step::Key(word)),
+        Some(digits) => Some(Step::Position(digits.parse::<usize>().ok()?)),
+        None => Some(Step::Key(word)),
     }
 }

@@ -15,27 +15,18 @@
 //! | the text is refused | `refused`, the name of the fault, and its bytes as `start..end`, perhaps with what was expected in brackets |
 //! | the platform is not known | `refused UnknownTriple` |
 use crate::escapes::{Escapes, push_escaped, unescaped};
-use crate::row::{RowError, name_of};
+use crate::row::{Output, RowError, name_of};
 use platform_language::{
     FaultKind, Platform, PlatformFault, TargetRow, TargetSpec, TargetSpecError, TargetSpecFault,
 };
 use std::alloc::{AllocError, Global};
 
-/// What is printed for a row, if it defines no triple.
-pub fn answer_to<'a>(
-    alloc: Global,
-    defined: &mut Vec<TargetRow<'a>>,
-    row: &'a str,
-) -> Result<Option<String>, RowError> {
-    match defined_row(alloc, row)? {
-        Some(target) => {
-            defined.push(target)?;
-            Ok(None)
-        }
-        None => {
-            let answer = answer(alloc, defined, row)?;
-            Ok(Some(format!(in alloc; "{row} -> {answer}")?))
-        }
+/// Prints the result of a row, if it defines no triple.
+pub fn answer_to<'a>(out: &mut Output, defined: &mut Vec<TargetRow<'a>>, row: &'a str) {
+    match defined_row(out.alloc, row) {
+        Ok(Some(target)) => out.keep(defined, target),
+        Ok(None) => print_result(out, defined, row),
+        Err(_) => out.fail(RowError::Memory),
     }
 }
 
@@ -77,39 +68,40 @@ fn defined_row(alloc: Global, row: &str) -> Result<Option<TargetRow<'_>>, AllocE
     }
 }
 
-/// The result of reading the text of a row, and its value on the platform that the row names.
-fn answer(alloc: Global, defined: &[TargetRow<'_>], row: &str) -> Result<String, RowError> {
-    let (text, platform) = row.split_once('\t').ok_or(RowError::NoRow)?;
-    let text = unescaped(alloc, text, Escapes::Numbered)?;
-    match TargetSpec::parse(alloc, text.as_str()) {
-        Ok(spec) if platform == "-" => Ok(reading(alloc, &spec)?),
-        Ok(spec) => value_on(alloc, &spec, defined, platform),
-        Err(TargetSpecError::Refused(fault)) => Ok(refusal(alloc, &fault)?),
-        Err(TargetSpecError::Memory) => Err(RowError::Memory),
+/// Prints a row, and the reading of its text, or its value on the platform that the row names.
+fn print_result(out: &mut Output, defined: &[TargetRow<'_>], row: &str) {
+    let Some((text, platform)) = row.split_once('\t') else {
+        return out.refuse();
+    };
+    out.push_str(row);
+    out.push_str(" -> ");
+    let text = unescaped(out, text, Escapes::Numbered);
+    match TargetSpec::parse(out.alloc, text.as_str()) {
+        Ok(spec) if platform == "-" => print_reading(out, &spec),
+        Ok(spec) => print_value(out, &spec, defined, platform),
+        Err(TargetSpecError::Refused(fault)) => print_refusal(out, &fault),
+        Err(TargetSpecError::Memory) => out.fail(RowError::Memory),
     }
+    out.push('\n');
 }
 
-/// The expression of a spec, on one line.
-fn reading(alloc: Global, spec: &TargetSpec) -> Result<String, AllocError> {
-    let expression = spec.to_string(alloc)?;
-    let mut line = String::from_str(alloc, "spec ")?;
+/// Prints the expression of a spec, on one line.
+fn print_reading(out: &mut Output, spec: &TargetSpec) {
+    let Some(expression) = out.taken(spec.to_string(out.alloc)) else {
+        return;
+    };
+    out.push_str("spec ");
     for character in expression.chars() {
-        push_escaped(&mut line, character)?;
+        push_escaped(out, character);
     }
-    Ok(line)
 }
 
-/// The value of a spec on the platform of a name, if there is such a platform.
-fn value_on(
-    alloc: Global,
-    spec: &TargetSpec,
-    defined: &[TargetRow<'_>],
-    name: &str,
-) -> Result<String, RowError> {
-    match platform_of(alloc, defined, name) {
-        Ok(platform) => Ok(String::from_str(alloc, name_of(spec.eval(&platform)))?),
-        Err(PlatformFault::Memory) => Err(RowError::Memory),
-        Err(_) => Ok(String::from_str(alloc, "refused UnknownTriple")?),
+/// Prints the value of a spec on the platform of a name, if there is such a platform.
+fn print_value(out: &mut Output, spec: &TargetSpec, defined: &[TargetRow<'_>], name: &str) {
+    match platform_of(out.alloc, defined, name) {
+        Ok(platform) => out.push_str(name_of(spec.eval(&platform))),
+        Err(PlatformFault::Memory) => out.fail(RowError::Memory),
+        Err(_) => out.push_str("refused UnknownTriple"),
     }
 }
 
@@ -132,18 +124,20 @@ fn platform_of(
     }
 }
 
-/// A fault by its name, with its bytes and what was expected.
-fn refusal(alloc: Global, fault: &TargetSpecFault) -> Result<String, AllocError> {
-    let start = fault.span.start;
-    let end = fault.span.end;
-    match (fault.kind, fault.expected) {
-        (FaultKind::NotTakesOne(count), _) => {
-            format!(in alloc; "refused NotTakesOne {start}..{end} [{count}]")
+/// Prints a fault by its name, with its bytes and what was expected.
+fn print_refusal(out: &mut Output, fault: &TargetSpecFault) {
+    let (start, end) = (fault.span.start, fault.span.end);
+    match fault.kind {
+        FaultKind::NotTakesOne(count) => {
+            out.add(format!(in out.alloc; "refused NotTakesOne {start}..{end} [{count}]"));
         }
-        (kind, Some(expected)) => {
-            let words = expected.words();
-            format!(in alloc; "refused {kind:?} {start}..{end} [{words}]")
+        kind => {
+            out.add(format!(in out.alloc; "refused {kind:?} {start}..{end}"));
+            if let Some(expected) = fault.expected {
+                out.push_str(" [");
+                out.push_str(expected.words());
+                out.push(']');
+            }
         }
-        (kind, None) => format!(in alloc; "refused {kind:?} {start}..{end}"),
     }
 }

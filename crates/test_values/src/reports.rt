@@ -1,7 +1,8 @@
 //! Reports in each of their forms, and the pages of codes.
 //!
-//! A row has words with tabs between them, in which `\n`, `\t`, `\e` and `\\` are the end of a line,
-//! a tab, an escape and a backslash; `-` means nothing. It is one of these:
+//! A row has words with tabs between them, in which `\n`, `\r`, `\t`, `\e` and `\\` are the end of
+//! a line, a carriage return, a tab, an escape and a backslash; `-` means nothing. It is one of
+//! these:
 //!
 //! | Line | Meaning |
 //! |---|---|
@@ -51,23 +52,24 @@ mod found;
 mod line;
 mod parts;
 mod print;
+mod steps;
 
-use crate::row::RowError;
+use crate::escapes::words_of;
+use crate::row::Output;
 pub use builder::Builder;
 use line::Line;
-use print::printed;
-use std::alloc::Global;
+use print::print_line;
 
-/// What is printed for a row: nothing, for most.
-pub fn answer_to(
-    alloc: Global,
-    builder: &mut Builder,
-    row: &str,
-) -> Result<Option<String>, RowError> {
-    let line = Line::read(alloc, row)?;
-    let text = printed(alloc, builder, &line)?;
-    match text.as_str().strip_suffix("\n") {
-        Some(lines) => Ok(Some(String::from_str(alloc, lines)?)),
-        None => Ok(None),
+/// Prints the result of a row. Most rows have none.
+pub fn answer_to(out: &mut Output, builder: &mut Builder, row: &str) {
+    let words = words_of(out, row);
+    let mut line = Line {
+        alloc: out.alloc,
+        words: &words,
+        fault: None,
+    };
+    print_line(out, builder, &mut line);
+    if let Some(fault) = line.fault {
+        out.fail(fault);
     }
 }

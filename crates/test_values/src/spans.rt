@@ -14,25 +14,33 @@ mod paths;
 mod shown;
 
 use crate::escapes::{Escapes, unescaped};
-use crate::row::RowError;
-use paths::shown_at;
-use shown::{cuts_of, shown_items, shown_nodes, shown_tokens};
-use std::alloc::Global;
+use crate::row::Output;
+use paths::print_place;
+use shown::{print_cuts, print_items, print_nodes, print_tokens};
 
-/// What is printed for a row.
-pub fn answer_to(alloc: Global, row: &str) -> Result<String, RowError> {
-    let (word, row) = row.split_once('\t').ok_or(RowError::NoRow)?;
+/// Prints the result of a row.
+pub fn answer_to(out: &mut Output, row: &str) {
+    let Some((word, row)) = row.split_once('\t') else {
+        return out.refuse();
+    };
     if word == "at" {
-        let (path, row) = row.split_once('\t').ok_or(RowError::NoRow)?;
-        let text = unescaped(alloc, row, Escapes::Named)?;
-        return Ok(shown_at(alloc, path, text.as_str())?);
+        return answer_at(out, row);
     }
-    let text = unescaped(alloc, row, Escapes::Named)?;
+    let text = unescaped(out, row, Escapes::Named);
     match word {
-        "items" => Ok(shown_items(alloc, text.as_str())?),
-        "tokens" => Ok(shown_tokens(alloc, text.as_str())?),
-        "nodes" => Ok(shown_nodes(alloc, text.as_str())?),
-        "cuts" => Ok(cuts_of(alloc, text.as_str())?),
-        _ => Err(RowError::NoRow),
+        "items" => print_items(out, text.as_str()),
+        "tokens" => print_tokens(out, text.as_str()),
+        "nodes" => print_nodes(out, text.as_str()),
+        "cuts" => print_cuts(out, text.as_str()),
+        _ => out.refuse(),
     }
+}
+
+/// Prints where the value at a path is written. The row has the path before its text.
+fn answer_at(out: &mut Output, row: &str) {
+    let Some((path, text)) = row.split_once('\t') else {
+        return out.refuse();
+    };
+    let text = unescaped(out, text, Escapes::Named);
+    print_place(out, path, text.as_str());
 }

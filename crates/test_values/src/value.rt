@@ -13,9 +13,9 @@ mod elements;
 mod scripts;
 mod texts;
 
-use crate::row::RowError;
-use elements::{groups_answer, read, read_name, required_thread_count, test_thread_count};
-use nextest_documents::tree_from_text;
+use crate::row::{Output, RowError};
+use elements::{read, read_groups, read_name, required_thread_count, test_thread_count};
+use nextest_documents::{TextFault, tree_from_text};
 use nextest_elements::{
     BenchConfig, BenchOverride, CustomTestGroup, Element, FinalStatusLevel, FlakyResult,
     GlobalTimeout, Ignored, JunitFlakyFailStatus, JunitImpl, JunitOverride, LeakTimeout, MaxFail,
@@ -23,81 +23,98 @@ use nextest_elements::{
     TestOutputDisplay, TestPriority, TestThreads, ThreadsRequired, Tree, Walk,
 };
 use nextest_scripts::{ScriptCommand, SetupScriptConfig, WrapperScriptConfig};
-use scripts::{no_capture_answer, program_answer, unique_id_answer};
-use std::alloc::Global;
+use scripts::{print_no_capture, print_program, print_unique_id};
+use std::alloc::{AllocError, Global};
 use std::fmt::Display;
-use texts::{document_answer, merged, text_answer};
+use texts::{merged, print_document, read_text};
 
-/// The row, and the result of reading its value by the reader that it names.
-pub fn answer_to(alloc: Global, row: &str) -> Result<String, RowError> {
-    let (reader, value) = row.split_once(' ').ok_or(RowError::NoRow)?;
-    let document = format!(in alloc; "value = {value}")?;
-    let document = tree_from_text(alloc, document.as_str())?;
-    let tree = document.get("value").ok_or(RowError::NoRow)?;
-    let mut walk = Walk::new(alloc);
-    walk.path = String::from_str(alloc, reader)?;
-    let answer = answer(alloc, reader, tree, &mut walk)?;
-    Ok(format!(in alloc; "{row} => {answer}")?)
+/// Prints the row, and the result of reading its value by the reader that it names.
+pub fn answer_to(out: &mut Output, row: &str) {
+    let Some((reader, value)) = row.split_once(' ') else {
+        return out.refuse();
+    };
+    out.push_str(row);
+    out.push_str(" => ");
+    let Some(document) = out.taken(document_of(out.alloc, value)) else {
+        return;
+    };
+    match document.get("value") {
+        Some(tree) => print_value(out, reader, tree),
+        None => out.refuse(),
+    }
 }
 
-/// What the reader of a name makes of a tree.
-fn answer(alloc: Global, reader: &str, tree: &Tree, walk: &mut Walk) -> Result<String, RowError> {
+/// The document whose one key is `value`, with this value.
+fn document_of(alloc: Global, value: &str) -> Result<Tree, TextFault> {
+    let text = format!(in alloc; "value = {value}")?;
+    tree_from_text(alloc, text.as_str())
+}
+
+/// Prints what the reader of a name makes of a tree.
+fn print_value(out: &mut Output, reader: &str, tree: &Tree) {
+    let mut walk = Walk::new(out.alloc);
+    if walk.path.push_str(reader).is_err() {
+        out.fail(RowError::Memory);
+    }
+    read_by(out, reader, tree, &mut walk);
+}
+
+/// Reads a tree by the reader of a name, and prints what it makes of it.
+fn read_by(out: &mut Output, reader: &str, tree: &Tree, walk: &mut Walk) {
     match reader {
-        "any" => read::<Ignored>(alloc, tree, walk),
-        "bool" => read::<bool>(alloc, tree, walk),
-        "text" => read::<String>(alloc, tree, walk),
-        "texts" => read::<Vec<String>>(alloc, tree, walk),
-        "positive" => read::<Positive>(alloc, tree, walk),
-        "priority" => read::<TestPriority>(alloc, tree, walk),
-        "retries" => read::<RetryPolicy>(alloc, tree, walk),
-        "fail-fast" => read::<MaxFail>(alloc, tree, walk),
-        "slow-timeout" => read::<SlowTimeout>(alloc, tree, walk),
-        "leak-timeout" => read::<LeakTimeout>(alloc, tree, walk),
-        "global-timeout" => read::<GlobalTimeout>(alloc, tree, walk),
-        "bench" => read::<BenchConfig>(alloc, tree, walk),
-        "override-bench" => read::<BenchOverride>(alloc, tree, walk),
-        "junit" => read::<JunitImpl>(alloc, tree, walk),
-        "override-junit" => read::<JunitOverride>(alloc, tree, walk),
-        "test-threads" => read::<TestThreads>(alloc, tree, walk),
-        "command" => read::<ScriptCommand>(alloc, tree, walk),
-        "setup-script" => read::<SetupScriptConfig>(alloc, tree, walk),
-        "wrapper-script" => read::<WrapperScriptConfig>(alloc, tree, walk),
-        "flaky-result" => read_name::<FlakyResult>(alloc, tree, walk),
-        "status-level" => read_name::<StatusLevel>(alloc, tree, walk),
-        "final-status-level" => read_name::<FinalStatusLevel>(alloc, tree, walk),
-        "success-output" => read_name::<TestOutputDisplay>(alloc, tree, walk),
-        "report-skipped" => read_name::<ReportSkipPolicy>(alloc, tree, walk),
-        "flaky-fail-status" => read_name::<JunitFlakyFailStatus>(alloc, tree, walk),
-        "threads-required" => read_name::<ThreadsRequired>(alloc, tree, walk),
-        "test-group" => shown(alloc, TestGroup::read(alloc, tree, walk)),
-        "custom-group" => shown(alloc, CustomTestGroup::read(alloc, tree, walk)),
-        "test-groups" => groups_answer(alloc, tree, walk),
-        "test-thread-count" => test_thread_count(alloc, tree, walk),
-        "required-thread-count" => required_thread_count(alloc, tree, walk),
-        "program" => program_answer(alloc, tree, walk),
-        "no-capture" => no_capture_answer(alloc, tree, walk),
-        "unique-id" => unique_id_answer(alloc, tree),
+        "any" => read::<Ignored>(out, tree, walk),
+        "bool" => read::<bool>(out, tree, walk),
+        "text" => read::<String>(out, tree, walk),
+        "texts" => read::<Vec<String>>(out, tree, walk),
+        "positive" => read::<Positive>(out, tree, walk),
+        "priority" => read::<TestPriority>(out, tree, walk),
+        "retries" => read::<RetryPolicy>(out, tree, walk),
+        "fail-fast" => read::<MaxFail>(out, tree, walk),
+        "slow-timeout" => read::<SlowTimeout>(out, tree, walk),
+        "leak-timeout" => read::<LeakTimeout>(out, tree, walk),
+        "global-timeout" => read::<GlobalTimeout>(out, tree, walk),
+        "bench" => read::<BenchConfig>(out, tree, walk),
+        "override-bench" => read::<BenchOverride>(out, tree, walk),
+        "junit" => read::<JunitImpl>(out, tree, walk),
+        "override-junit" => read::<JunitOverride>(out, tree, walk),
+        "test-threads" => read::<TestThreads>(out, tree, walk),
+        "command" => read::<ScriptCommand>(out, tree, walk),
+        "setup-script" => read::<SetupScriptConfig>(out, tree, walk),
+        "wrapper-script" => read::<WrapperScriptConfig>(out, tree, walk),
+        "flaky-result" => read_name::<FlakyResult>(out, tree, walk),
+        "status-level" => read_name::<StatusLevel>(out, tree, walk),
+        "final-status-level" => read_name::<FinalStatusLevel>(out, tree, walk),
+        "success-output" => read_name::<TestOutputDisplay>(out, tree, walk),
+        "report-skipped" => read_name::<ReportSkipPolicy>(out, tree, walk),
+        "flaky-fail-status" => read_name::<JunitFlakyFailStatus>(out, tree, walk),
+        "threads-required" => read_name::<ThreadsRequired>(out, tree, walk),
+        "test-group" => print_read(out, TestGroup::read(out.alloc, tree, walk)),
+        "custom-group" => print_read(out, CustomTestGroup::read(out.alloc, tree, walk)),
+        "test-groups" => read_groups(out, tree, walk),
+        "test-thread-count" => test_thread_count(out, tree, walk),
+        "required-thread-count" => required_thread_count(out, tree, walk),
+        "program" => print_program(out, tree, walk),
+        "no-capture" => print_no_capture(out, tree, walk),
+        "unique-id" => print_unique_id(out, tree),
         _ => match tree {
-            Tree::Text(text) => text_answer(alloc, reader, text.as_str()),
+            Tree::Text(text) => read_text(out, reader, text.as_str()),
             Tree::Array(layers) if reader == "merged" => {
-                document_answer(alloc, merged(alloc, layers))
+                print_document(out, merged(out.alloc, layers));
             }
-            _ => Err(RowError::NoRow),
+            _ => out.refuse(),
         },
     }
 }
 
-/// How the value is written, or the cause of the refusal.
-fn shown<T: Display + Drop, E: Display + Drop>(
-    alloc: Global,
-    read: Result<T, E>,
-) -> Result<String, RowError> {
+/// Prints how the value is written, or the cause of the refusal.
+fn print_read<T: Display + Drop, E: Display + Drop>(out: &mut Output, read: Result<T, E>) {
     match read {
-        Ok(value) => Ok(value.to_string(alloc)?),
-        Err(cause) => refusal(alloc, &cause),
+        Ok(value) => out.add(value.to_string(out.alloc)),
+        Err(cause) => print_refusal(out, &cause),
     }
 }
 
-fn refusal<E: Display>(alloc: Global, cause: &E) -> Result<String, RowError> {
-    Ok(format!(in alloc; "refused: {cause}")?)
+/// Prints why a value is refused.
+fn print_refusal<E: Display>(out: &mut Output, cause: &E) {
+    out.add(format!(in out.alloc; "refused: {cause}"));
 }

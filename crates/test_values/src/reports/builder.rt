@@ -1,14 +1,15 @@
 //! Puts a report together, line by line.
 use crate::reports::found::{complete, finding_of};
 use crate::reports::line::Line;
-use crate::reports::parts::{answer_of, origin_of, scalar_of, verdict_of, written_of};
-use crate::row::RowError;
+use crate::reports::parts::{ANSWERS, VERDICTS, origin_of, scalar_of, written_of};
+use crate::reports::steps::{STEPS, Step};
+use crate::row::found;
 use rinqebo_report::{
     Asked, BuiltFor, Condition, ConditionAnswer, Content, Entry, Finding, ListScripts, ListWrapper,
     Origin, Report, Rule, RunMode, Scalar, SettingRow, Source, SourceKind, TableMember, TestId,
-    TestRows, Unreached, Value,
+    TestRows, Unreached, Value, Verdict,
 };
-use std::alloc::{AllocError, Global};
+use std::alloc::Global;
 use std::mem;
 
 /// The command of a report: `check`, unless another one is named.
@@ -20,8 +21,13 @@ enum Command {
     ShowConfig,
 }
 
+/// The word of each mode.
+static MODES: [(&str, RunMode); 2] = [("test", RunMode::Test), ("benchmark", RunMode::Benchmark)];
+
+/// The word of each platform that a test is built for.
+static PLATFORMS: [(&str, BuiltFor); 2] = [("host", BuiltFor::Host), ("target", BuiltFor::Target)];
+
 /// A report as far as it is put together.
-#[derive(Drop)]
 pub struct Builder {
     alloc: Global,
     pub name: String,
@@ -36,6 +42,27 @@ pub struct Builder {
     scripts: ListScripts,
     findings: Vec<Finding>,
     unreached: Vec<Unreached>,
+}
+
+// Written out, so that the proof of a caller sees one call and not the drop of each part.
+impl Drop for Builder {
+    fn drop(self) {
+        let Builder {
+            alloc: _alloc,
+            name: _name,
+            root: _root,
+            sources: _sources,
+            command: _command,
+            asked: _asked,
+            tests: _tests,
+            rules: _rules,
+            entries: _entries,
+            unused: _unused,
+            scripts: _scripts,
+            findings: _findings,
+            unreached: _unreached,
+        } = self;
+    }
 }
 
 /// No words yet, for a condition.
@@ -54,13 +81,13 @@ fn no_scripts(alloc: Global) -> ListScripts {
     }
 }
 
-/// The row of a test that runs, which has no origin yet.
-fn runs_row(alloc: Global) -> Result<SettingRow, AllocError> {
-    Ok(SettingRow {
-        key: String::from_str(alloc, "runs")?,
+/// The row of whether a test runs, which has no origin yet.
+fn runs_row(line: &mut Line<'_>) -> SettingRow {
+    SettingRow {
+        key: line.copy("runs"),
         value: Some(Value::Scalar(Scalar::Boolean(true))),
-        origins: Vec::new(alloc),
-    })
+        origins: Vec::new(line.alloc),
+    }
 }
 
 impl Builder {
@@ -83,11 +110,11 @@ impl Builder {
         }
     }
 
-    /// The report that is put together. None is there after it.
-    pub fn take_report(&mut self) -> Result<Report, RowError> {
+    /// The report that is put together, if it has all its parts. None is there after it.
+    pub fn take_report(&mut self) -> Option<Report> {
         let alloc = self.alloc;
         let content = self.take_content()?;
-        Ok(Report {
+        Some(Report {
             root: mem::replace(&mut self.root, String::new(alloc)),
             sources: mem::replace(&mut self.sources, Vec::new(alloc)),
             findings: mem::replace(&mut self.findings, Vec::new(alloc)),
@@ -96,377 +123,314 @@ impl Builder {
         })
     }
 
-    fn take_content(&mut self) -> Result<Content, RowError> {
-        let Some(asked) = self.asked.take() else {
-            return Ok(Content::Check);
-        };
+    fn take_content(&mut self) -> Option<Content> {
         let alloc = self.alloc;
-        match self.command.take() {
-            Some(Command::Explain) => Ok(Content::Explain {
-                asked,
-                test: self.tests.pop().ok_or(RowError::NoRow)?,
-            }),
-            Some(Command::Why(key)) => Ok(Content::Why {
-                asked,
-                is_ignored: self.is_ignored(),
-                test: self.take_test_id()?,
-                key,
-                rules: mem::replace(&mut self.rules, Vec::new(alloc)),
-            }),
-            Some(Command::List) => Ok(Content::List {
+        match (self.asked.take(), self.command.take()) {
+            (None, _) => Some(Content::Check),
+            (Some(asked), Some(Command::Explain)) => self.take_explained(asked),
+            (Some(asked), Some(Command::Why(key))) => self.take_why(asked, key),
+            (Some(asked), Some(Command::List)) => Some(Content::List {
                 asked,
                 tests: mem::replace(&mut self.tests, Vec::new(alloc)),
                 unused: mem::replace(&mut self.unused, Vec::new(alloc)),
                 scripts: mem::replace(&mut self.scripts, no_scripts(alloc)),
                 objects: None,
             }),
-            Some(Command::ShowConfig) => Ok(Content::ShowConfig {
+            (Some(asked), Some(Command::ShowConfig)) => Some(Content::ShowConfig {
                 asked,
                 entries: mem::replace(&mut self.entries, Vec::new(alloc)),
             }),
-            None => Err(RowError::NoRow),
+            (Some(_), None) => None,
         }
     }
 
-    /// Whether a list marks the last test as ignored.
-    fn is_ignored(&self) -> bool {
-        match self.tests.last() {
-            Some(test) => test.is_ignored,
-            None => false,
+    /// The settings of the last test.
+    fn take_explained(&mut self, asked: Asked) -> Option<Content> {
+        match self.tests.pop() {
+            Some(test) => Some(Content::Explain { asked, test }),
+            None => None,
         }
     }
 
-    /// The names of the last test.
-    fn take_test_id(&mut self) -> Result<TestId, RowError> {
-        let test = self.tests.pop().ok_or(RowError::NoRow)?;
-        Ok(TestId {
-            binary: test.binary,
-            name: test.name,
-            platform: test.platform,
-        })
+    /// The rules of a setting of the last test.
+    fn take_why(&mut self, asked: Asked, key: String) -> Option<Content> {
+        match self.tests.pop() {
+            Some(test) => Some(Content::Why {
+                asked,
+                is_ignored: test.is_ignored,
+                test: TestId {
+                    binary: test.binary,
+                    name: test.name,
+                    platform: test.platform,
+                },
+                key,
+                rules: mem::replace(&mut self.rules, Vec::new(self.alloc)),
+            }),
+            None => None,
+        }
     }
 
     /// Takes a line of a report.
-    pub fn take(&mut self, line: &Line) -> Result<(), RowError> {
-        match line.word(0)? {
-            "case" => self.begin(line),
-            "source" => self.add_source(line),
-            "asked" => self.set_requested(line),
-            "assumed" => self.assume_host(),
-            "explain" | "why" | "list" | "show-config" => self.set_command(line),
-            "test" => self.add_test(line),
-            "runs" => self.show_runs(line),
-            "ignored" => self.ignore_test(),
-            "setting" => self.add_setting(line),
-            "rule" => self.add_rule(line),
-            "entry" | "hidden" => self.add_entry(line),
-            "unused" => self.add_unused(line),
-            "setup" => self.set_setup(line),
-            "list-wrapper" => self.add_list_wrapper(line),
-            "host" | "target" | "filter" => self.set_condition(line),
-            "value" | "texts" | "table" => self.set_value(line),
-            "field" => self.add_field(line),
-            "built-in" | "default-table" | "profile" | "override" | "script" | "file" => {
-                self.add_origin(line)
+    pub fn take(&mut self, line: &mut Line<'_>) {
+        let Some(step) = found(&STEPS, line.word(0)) else {
+            return line.refuse();
+        };
+        match step {
+            Step::Begin => self.begin(line),
+            Step::Source => self.add_source(line),
+            Step::Asked => self.set_requested(line),
+            Step::Assumed => self.assume_host(line),
+            Step::Command => self.set_command(line),
+            Step::Test => self.add_test(line),
+            Step::Runs => self.show_runs(line),
+            Step::Ignored => self.ignore_test(line),
+            Step::Setting => self.add_setting(line),
+            Step::Rule => self.add_rule(line),
+            Step::Entry => self.add_entry(line),
+            Step::Unused => {
+                let origin = written_of(line, 1);
+                line.push(&mut self.unused, origin);
             }
-            "finding" => self.add_finding(line),
-            "findings" => self.add_findings(line),
-            "at"
-            | "path"
-            | "line"
-            | "part"
-            | "expression"
-            | "expected"
-            | "upstream"
-            | "note"
-            | "help"
-            | "help-beside" => self.complete_finding(line),
-            "unreached" => self.add_unreached(line),
-            _ => Err(RowError::NoRow),
+            Step::Setup => self.scripts.setup = line.texts(1),
+            Step::ListWrapper => self.add_list_wrapper(line),
+            Step::Condition => self.set_condition(line),
+            Step::Value => self.set_value(line),
+            Step::Field => self.add_field(line),
+            Step::Origin => self.add_origin(line),
+            Step::Finding => self.add_finding(line),
+            Step::Findings => self.add_findings(line),
+            Step::PartOfFinding => match self.findings.last_mut() {
+                Some(finding) => complete(finding, line),
+                None => line.refuse(),
+            },
+            Step::Unreached => self.add_unreached(line),
         }
     }
 
-    fn begin(&mut self, line: &Line) -> Result<(), RowError> {
-        let mut fresh = Builder::new(self.alloc);
-        fresh.name = line.text(self.alloc, 1)?;
-        fresh.root = line.text(self.alloc, 2)?;
-        *self = fresh;
-        Ok(())
+    fn begin(&mut self, line: &mut Line<'_>) {
+        *self = Builder::new(line.alloc);
+        self.name = line.text(1);
+        self.root = line.text(2);
     }
 
-    fn add_source(&mut self, line: &Line) -> Result<(), RowError> {
-        let kind = match line.word(1)? {
+    fn add_source(&mut self, line: &mut Line<'_>) {
+        let kind = match line.word(1) {
             "default" => SourceKind::Default,
-            "tool" => SourceKind::Tool(line.text(self.alloc, 2)?),
+            "tool" => SourceKind::Tool(line.text(2)),
             "organisation" => SourceKind::Organisation,
             "explicit" => SourceKind::Explicit,
             "discovered" => SourceKind::Discovered,
-            _ => return Err(RowError::NoRow),
+            _ => return line.refuse(),
         };
-        let path = line.optional_text(self.alloc, 3)?;
-        self.sources
-            .push(Source { kind, path })
-            .map_err(AllocError::from)?;
-        Ok(())
+        let path = line.optional_text(3);
+        line.push(&mut self.sources, Source { kind, path });
     }
 
-    fn set_requested(&mut self, line: &Line) -> Result<(), RowError> {
-        let mut chain = Vec::new(self.alloc);
-        for profile in line.word(2)?.split(' ') {
-            let profile = String::from_str(self.alloc, profile)?;
-            chain.push(profile).map_err(AllocError::from)?;
-        }
-        let mode = match line.word(3)? {
-            "test" => RunMode::Test,
-            "benchmark" => RunMode::Benchmark,
-            _ => return Err(RowError::NoRow),
-        };
+    fn set_requested(&mut self, line: &mut Line<'_>) {
+        let mode = found(&MODES, line.word(3));
         self.asked = Some(Asked {
-            profile: line.text(self.alloc, 1)?,
-            chain,
-            mode,
-            host: line.text(self.alloc, 4)?,
+            profile: line.text(1),
+            chain: line.parts(2),
+            mode: line.kept(mode, RunMode::Test),
+            host: line.text(4),
             assumes_host: false,
-            target: line.optional_text(self.alloc, 5)?,
+            target: line.optional_text(5),
         });
-        Ok(())
     }
 
-    fn assume_host(&mut self) -> Result<(), RowError> {
-        let Some(asked) = &mut self.asked else {
-            return Err(RowError::NoRow);
-        };
-        asked.assumes_host = true;
-        Ok(())
+    fn assume_host(&mut self, line: &mut Line<'_>) {
+        match &mut self.asked {
+            Some(asked) => asked.assumes_host = true,
+            None => line.refuse(),
+        }
     }
 
-    fn add_test(&mut self, line: &Line) -> Result<(), RowError> {
-        let platform = match line.word(3)? {
-            "host" => BuiltFor::Host,
-            "target" => BuiltFor::Target,
-            _ => return Err(RowError::NoRow),
-        };
+    fn add_test(&mut self, line: &mut Line<'_>) {
+        let platform = found(&PLATFORMS, line.word(3));
         let test = TestRows {
-            binary: line.text(self.alloc, 1)?,
-            name: line.text(self.alloc, 2)?,
-            platform,
-            runs: runs_row(self.alloc)?,
+            binary: line.text(1),
+            name: line.text(2),
+            platform: line.kept(platform, BuiltFor::Host),
+            runs: runs_row(line),
             is_ignored: false,
             shows_runs: false,
-            settings: Vec::new(self.alloc),
+            settings: Vec::new(line.alloc),
         };
-        self.tests.push(test).map_err(AllocError::from)?;
-        Ok(())
+        line.push(&mut self.tests, test);
     }
 
-    fn set_command(&mut self, line: &Line) -> Result<(), RowError> {
-        let command = match line.word(0)? {
+    fn set_command(&mut self, line: &mut Line<'_>) {
+        self.command = Some(match line.word(0) {
             "explain" => Command::Explain,
-            "why" => Command::Why(line.text(self.alloc, 1)?),
+            "why" => Command::Why(line.text(1)),
             "list" => Command::List,
             _ => Command::ShowConfig,
-        };
-        self.command = Some(command);
-        Ok(())
+        });
     }
 
-    fn show_runs(&mut self, line: &Line) -> Result<(), RowError> {
-        let runs = match line.word(1)? {
+    fn show_runs(&mut self, line: &mut Line<'_>) {
+        let runs = match line.word(1) {
             "true" => true,
             "false" => false,
-            _ => return Err(RowError::NoRow),
+            _ => return line.refuse(),
         };
-        let Some(test) = self.tests.last_mut() else {
-            return Err(RowError::NoRow);
-        };
-        test.runs.value = Some(Value::Scalar(Scalar::Boolean(runs)));
-        test.shows_runs = true;
-        Ok(())
+        match self.tests.last_mut() {
+            Some(test) => {
+                test.runs.value = Some(Value::Scalar(Scalar::Boolean(runs)));
+                test.shows_runs = true;
+            }
+            None => line.refuse(),
+        }
     }
 
-    fn ignore_test(&mut self) -> Result<(), RowError> {
-        let Some(test) = self.tests.last_mut() else {
-            return Err(RowError::NoRow);
-        };
-        test.is_ignored = true;
-        Ok(())
+    fn ignore_test(&mut self, line: &mut Line<'_>) {
+        match self.tests.last_mut() {
+            Some(test) => test.is_ignored = true,
+            None => line.refuse(),
+        }
     }
 
-    fn add_setting(&mut self, line: &Line) -> Result<(), RowError> {
-        let key = line.text(self.alloc, 1)?;
-        let origins = Vec::new(self.alloc);
-        let Some(test) = self.tests.last_mut() else {
-            return Err(RowError::NoRow);
-        };
+    fn add_setting(&mut self, line: &mut Line<'_>) {
         let row = SettingRow {
-            key,
+            key: line.text(1),
             value: None,
-            origins,
+            origins: Vec::new(line.alloc),
         };
-        test.settings.push(row).map_err(AllocError::from)?;
-        Ok(())
+        match self.tests.last_mut() {
+            Some(test) => line.push(&mut test.settings, row),
+            None => line.refuse(),
+        }
     }
 
-    fn add_rule(&mut self, line: &Line) -> Result<(), RowError> {
-        let verdict = verdict_of(line.word(1)?).ok_or(RowError::NoRow)?;
+    fn add_rule(&mut self, line: &mut Line<'_>) {
+        let verdict = found(&VERDICTS, line.word(1));
         let rule = Rule {
-            verdict,
+            verdict: line.kept(verdict, Verdict::Fallback),
             origin: Origin::BuiltIn,
-            others: Vec::new(self.alloc),
-            host: absent(self.alloc),
-            target: absent(self.alloc),
-            filter: absent(self.alloc),
+            others: Vec::new(line.alloc),
+            host: absent(line.alloc),
+            target: absent(line.alloc),
+            filter: absent(line.alloc),
             value: None,
         };
-        self.rules.push(rule).map_err(AllocError::from)?;
-        Ok(())
+        line.push(&mut self.rules, rule);
     }
 
-    fn add_entry(&mut self, line: &Line) -> Result<(), RowError> {
+    fn add_entry(&mut self, line: &mut Line<'_>) {
         let entry = Entry {
-            key: line.text(self.alloc, 1)?,
-            value: Value::Table(Vec::new(self.alloc)),
+            key: line.text(1),
+            value: Value::Table(Vec::new(line.alloc)),
             origin: Origin::BuiltIn,
-            is_hidden: line.word(0)? == "hidden",
+            is_hidden: line.word(0) == "hidden",
         };
-        self.entries.push(entry).map_err(AllocError::from)?;
-        Ok(())
+        line.push(&mut self.entries, entry);
     }
 
-    fn add_unused(&mut self, line: &Line) -> Result<(), RowError> {
-        let origin = written_of(self.alloc, line, 1)?;
-        self.unused.push(origin).map_err(AllocError::from)?;
-        Ok(())
-    }
-
-    fn set_setup(&mut self, line: &Line) -> Result<(), RowError> {
-        self.scripts.setup = line.texts(self.alloc, 1)?;
-        Ok(())
-    }
-
-    fn add_list_wrapper(&mut self, line: &Line) -> Result<(), RowError> {
+    fn add_list_wrapper(&mut self, line: &mut Line<'_>) {
         let wrapper = ListWrapper {
-            binary: line.text(self.alloc, 1)?,
-            value: line.text(self.alloc, 2)?,
+            binary: line.text(1),
+            value: line.text(2),
         };
-        let wrappers = &mut self.scripts.list_wrappers;
-        wrappers.push(wrapper).map_err(AllocError::from)?;
-        Ok(())
+        line.push(&mut self.scripts.list_wrappers, wrapper);
     }
 
-    fn set_condition(&mut self, line: &Line) -> Result<(), RowError> {
-        let answer = answer_of(line.word(1)?).ok_or(RowError::NoRow)?;
-        let text = line.text(self.alloc, 2)?;
-        let Some(rule) = self.rules.last_mut() else {
-            return Err(RowError::NoRow);
+    fn set_condition(&mut self, line: &mut Line<'_>) {
+        let answer = found(&ANSWERS, line.word(1));
+        let condition = Condition {
+            text: line.text(2),
+            answer: line.kept(answer, ConditionAnswer::Absent),
         };
-        let condition = Condition { text, answer };
-        match line.word(0)? {
+        let Some(rule) = self.rules.last_mut() else {
+            return line.refuse();
+        };
+        match line.word(0) {
             "host" => rule.host = condition,
             "target" => rule.target = condition,
             _ => rule.filter = condition,
         }
-        Ok(())
     }
 
-    fn set_value(&mut self, line: &Line) -> Result<(), RowError> {
-        let value = match line.word(0)? {
-            "value" => Value::Scalar(scalar_of(self.alloc, line, 1)?),
-            "texts" => Value::Texts(line.texts(self.alloc, 1)?),
-            _ => Value::Table(Vec::new(self.alloc)),
+    fn set_value(&mut self, line: &mut Line<'_>) {
+        let value = match line.word(0) {
+            "value" => Value::Scalar(scalar_of(line, 1)),
+            "texts" => Value::Texts(line.texts(1)),
+            _ => Value::Table(Vec::new(line.alloc)),
         };
         if let Some(entry) = self.entries.last_mut() {
             entry.value = value;
         } else if let Some(rule) = self.rules.last_mut() {
             rule.value = Some(value);
+        } else if let Some(setting) = self.last_setting() {
+            setting.value = Some(value);
         } else {
-            self.last_setting()?.value = Some(value);
+            line.refuse();
         }
-        Ok(())
     }
 
     /// The last setting of the last test, or else the row of whether it runs.
-    fn last_setting(&mut self) -> Result<&mut SettingRow, RowError> {
+    fn last_setting(&mut self) -> Option<&mut SettingRow> {
         match self.tests.last_mut() {
-            Some(test) if test.settings.is_empty() => Ok(&mut test.runs),
-            Some(test) => test.settings.last_mut().ok_or(RowError::NoRow),
-            None => Err(RowError::NoRow),
+            Some(test) if test.settings.is_empty() => Some(&mut test.runs),
+            Some(test) => test.settings.last_mut(),
+            None => None,
         }
     }
 
-    fn add_field(&mut self, line: &Line) -> Result<(), RowError> {
-        let field = TableMember {
-            key: line.text(self.alloc, 1)?,
-            value: scalar_of(self.alloc, line, 2)?,
-        };
+    /// The value that a line completes, if there is one.
+    fn last_value(&mut self) -> Option<&mut Value> {
         if let Some(entry) = self.entries.last_mut() {
-            push_field(&mut entry.value, field)
+            Some(&mut entry.value)
         } else if let Some(rule) = self.rules.last_mut() {
-            push_optional_field(&mut rule.value, field)
+            rule.value.as_mut()
+        } else if let Some(setting) = self.last_setting() {
+            setting.value.as_mut()
         } else {
-            push_optional_field(&mut self.last_setting()?.value, field)
+            None
         }
     }
 
-    fn add_origin(&mut self, line: &Line) -> Result<(), RowError> {
-        let origin = origin_of(self.alloc, line)?;
+    /// Adds a member to a table.
+    fn add_field(&mut self, line: &mut Line<'_>) {
+        let field = TableMember {
+            key: line.text(1),
+            value: scalar_of(line, 2),
+        };
+        match self.last_value() {
+            Some(Value::Table(fields)) => line.push(fields, field),
+            _ => line.refuse(),
+        }
+    }
+
+    fn add_origin(&mut self, line: &mut Line<'_>) {
+        let origin = origin_of(line);
         if let Some(entry) = self.entries.last_mut() {
             entry.origin = origin;
         } else if let Some(rule) = self.rules.last_mut() {
             rule.origin = origin;
+        } else if let Some(setting) = self.last_setting() {
+            line.push(&mut setting.origins, origin);
         } else {
-            let row = self.last_setting()?;
-            row.origins.push(origin).map_err(AllocError::from)?;
+            line.refuse();
         }
-        Ok(())
     }
 
-    fn add_finding(&mut self, line: &Line) -> Result<(), RowError> {
-        let finding = finding_of(self.alloc, line)?;
-        self.findings.push(finding).map_err(AllocError::from)?;
-        Ok(())
+    fn add_finding(&mut self, line: &mut Line<'_>) {
+        let finding = finding_of(line);
+        line.push(&mut self.findings, finding);
     }
 
     /// Adds as many findings as the number behind the message says.
-    fn add_findings(&mut self, line: &Line) -> Result<(), RowError> {
-        for _index in 0..line.number(4)? {
-            self.add_finding(line)?;
-        }
-        Ok(())
-    }
-
-    fn complete_finding(&mut self, line: &Line) -> Result<(), RowError> {
-        match self.findings.last_mut() {
-            Some(finding) => complete(self.alloc, finding, line),
-            None => Err(RowError::NoRow),
+    fn add_findings(&mut self, line: &mut Line<'_>) {
+        for _index in 0..line.number(4) {
+            self.add_finding(line);
         }
     }
 
-    fn add_unreached(&mut self, line: &Line) -> Result<(), RowError> {
+    fn add_unreached(&mut self, line: &mut Line<'_>) {
         let unreached = Unreached {
-            source: line.number(1)? as usize,
-            checks: line.texts(self.alloc, 2)?,
+            source: line.number(1) as usize,
+            checks: line.texts(2),
         };
-        self.unreached.push(unreached).map_err(AllocError::from)?;
-        Ok(())
-    }
-}
-
-/// Adds a member to a value, which is to be a table.
-fn push_field(value: &mut Value, field: TableMember) -> Result<(), RowError> {
-    match value {
-        Value::Table(fields) => {
-            fields.push(field).map_err(AllocError::from)?;
-            Ok(())
-        }
-        Value::Scalar(_) | Value::Texts(_) => Err(RowError::NoRow),
-    }
-}
-
-/// Adds a member to a value, which is to be there.
-fn push_optional_field(value: &mut Option<Value>, field: TableMember) -> Result<(), RowError> {
-    match value {
-        Some(value) => push_field(value, field),
-        None => Err(RowError::NoRow),
+        line.push(&mut self.unreached, unreached);
     }
 }

@@ -1,101 +1,87 @@
 //! Findings, by the words of lines.
 use crate::reports::line::Line;
 use crate::reports::parts::{expression_of, place_of};
-use crate::row::RowError;
+use crate::row::found;
 use rinqebo_report::{CharSpan, Finding, HelpPlace, Level, LinePart, Sign, SourceLine};
-use std::alloc::{AllocError, Global};
 
-/// The level of a word.
-fn level_of(word: &str) -> Result<Level, RowError> {
-    match word {
-        "error" => Ok(Level::Error),
-        "warning" => Ok(Level::Warning),
-        _ => Err(RowError::NoRow),
-    }
-}
+/// The word of each level.
+static LEVELS: [(&str, Level); 2] = [("error", Level::Error), ("warning", Level::Warning)];
+
+/// The word of each sign.
+static SIGNS: [(&str, Sign); 3] = [
+    ("blank", Sign::Blank),
+    ("fault", Sign::Fault),
+    ("related", Sign::Related),
+];
 
 /// The finding of a line: its level, its code and its message.
-pub fn finding_of(alloc: Global, line: &Line) -> Result<Finding, RowError> {
-    let level = level_of(line.word(1)?)?;
-    let code = line.text(alloc, 2)?;
-    let message = line.text(alloc, 3)?;
-    Ok(Finding::new(alloc, level, code, message))
+pub fn finding_of(line: &mut Line<'_>) -> Finding {
+    let level = found(&LEVELS, line.word(1));
+    let level = line.kept(level, Level::Error);
+    let code = line.text(2);
+    let message = line.text(3);
+    Finding::new(line.alloc, level, code, message)
 }
 
 /// The source line of a line: its number and its text.
-fn source_line(alloc: Global, line: &Line) -> Result<SourceLine, RowError> {
-    Ok(SourceLine {
-        number: line.number(1)?,
-        text: line.text(alloc, 2)?,
-        parts: Vec::new(alloc),
-    })
-}
-
-/// The sign of a word.
-fn sign_of(word: &str) -> Result<Sign, RowError> {
-    match word {
-        "blank" => Ok(Sign::Blank),
-        "fault" => Ok(Sign::Fault),
-        "related" => Ok(Sign::Related),
-        _ => Err(RowError::NoRow),
+fn source_line(line: &mut Line<'_>) -> SourceLine {
+    SourceLine {
+        number: line.number(1),
+        text: line.text(2),
+        parts: Vec::new(line.alloc),
     }
 }
 
 /// The part of a source line of a line: its sign and its characters.
-fn part_of(line: &Line) -> Result<LinePart, RowError> {
-    Ok(LinePart {
-        sign: sign_of(line.word(1)?)?,
+fn part_of(line: &mut Line<'_>) -> LinePart {
+    let sign = found(&SIGNS, line.word(1));
+    LinePart {
+        sign: line.kept(sign, Sign::Blank),
         span: CharSpan {
-            from: line.number(2)? as usize,
-            to: line.number(3)? as usize,
+            from: line.number(2) as usize,
+            to: line.number(3) as usize,
         },
-    })
+    }
 }
 
-/// Adds a part to the last source line of a finding.
-fn add_part(finding: &mut Finding, part: LinePart) -> Result<(), RowError> {
-    let Some(last) = finding.lines.last_mut() else {
-        return Err(RowError::NoRow);
-    };
-    last.parts.push(part).map_err(AllocError::from)?;
-    Ok(())
+/// Adds the part of a line to the last source line of a finding.
+fn add_part(finding: &mut Finding, line: &mut Line<'_>) {
+    let part = part_of(line);
+    match finding.lines.last_mut() {
+        Some(last) => line.push(&mut last.parts, part),
+        None => line.refuse(),
+    }
 }
 
 /// Sets the advice of a line.
-fn set_advice(alloc: Global, finding: &mut Finding, line: &Line) -> Result<(), RowError> {
-    let text = line.text(alloc, 1)?;
-    match line.word(0)? {
+fn set_advice(finding: &mut Finding, line: &mut Line<'_>) {
+    let text = line.text(1);
+    match line.word(0) {
         "upstream" => finding.upstream = Some(text),
         "path" => finding.path = Some(text),
         "expected" => finding.expected = Some(text),
-        "note" => finding.notes.push(text).map_err(AllocError::from)?,
+        "note" => line.push(&mut finding.notes, text),
         "help-beside" => {
             finding.help = Some(text);
             finding.help_place = HelpPlace::Beside;
         }
         _ => finding.help = Some(text),
     }
-    Ok(())
 }
 
 /// Sets the part of a finding that a line has.
-pub fn complete(alloc: Global, finding: &mut Finding, line: &Line) -> Result<(), RowError> {
-    match line.word(0)? {
+pub fn complete(finding: &mut Finding, line: &mut Line<'_>) {
+    match line.word(0) {
         "at" => {
-            finding.place = Some(place_of(line, 1, 5)?);
-            finding.column = line.optional_number(4)?;
-            Ok(())
+            finding.place = Some(place_of(line, 1, 5));
+            finding.column = line.optional_number(4);
         }
-        "expression" => {
-            finding.expression = Some(expression_of(alloc, line)?);
-            Ok(())
-        }
+        "expression" => finding.expression = Some(expression_of(line)),
         "line" => {
-            let shown = source_line(alloc, line)?;
-            finding.lines.push(shown).map_err(AllocError::from)?;
-            Ok(())
+            let shown = source_line(line);
+            line.push(&mut finding.lines, shown);
         }
-        "part" => add_part(finding, part_of(line)?),
-        _ => set_advice(alloc, finding, line),
+        "part" => add_part(finding, line),
+        _ => set_advice(finding, line),
     }
 }

@@ -1,102 +1,117 @@
 //! Lines of words with tabs between them.
 use crate::row::RowError;
-use std::alloc::{AllocError, Global};
+use std::alloc::Global;
 
-/// The words of a line.
+/// The words of a line, and the first fault of what was read of them.
+///
+/// A read that finds a fault keeps it, and returns a value that stands for nothing. So a line is
+/// read to its end, and its reader looks at the fault once.
 #[derive(Drop)]
-pub struct Line {
-    words: Vec<String>,
+pub struct Line<'a> {
+    pub alloc: Global,
+    pub words: &'a [String],
+    pub fault: Option<RowError>,
 }
 
-/// The text with characters in place of its escapes.
-fn unescaped(alloc: Global, text: &str) -> Result<String, RowError> {
-    let mut read = String::new(alloc);
-    let mut is_escape = false;
-    for c in text.chars() {
-        if is_escape {
-            read.push(named(c).ok_or(RowError::NoRow)?)?;
-            is_escape = false;
-        } else if c == '\\' {
-            is_escape = true;
-        } else {
-            read.push(c)?;
+impl<'a> Line<'a> {
+    /// Keeps a fault, unless there was one before.
+    fn fail(&mut self, fault: RowError) {
+        if self.fault.is_none() {
+            self.fault = Some(fault);
         }
     }
-    if is_escape {
-        Err(RowError::NoRow)
-    } else {
-        Ok(read)
-    }
-}
 
-/// The character that this one means behind a backslash.
-fn named(c: char) -> Option<char> {
-    match c {
-        'n' => Some('\n'),
-        't' => Some('\t'),
-        'e' => Some('\u{1b}'),
-        '\\' => Some('\\'),
-        _ => None,
+    /// Keeps that the line is not of its form.
+    pub fn refuse(&mut self) {
+        self.fail(RowError::NoRow);
     }
-}
 
-impl Line {
-    /// Reads the words of a line.
-    pub fn read(alloc: Global, line: &str) -> Result<Line, RowError> {
-        let mut words = Vec::new(alloc);
-        for word in line.split('\t') {
-            let word = unescaped(alloc, word)?;
-            words.push(word).map_err(AllocError::from)?;
+    /// What was read, or else a value that stands for it in a line that is not of its form.
+    pub fn kept<T: Drop>(&mut self, read: Option<T>, otherwise: T) -> T {
+        match read {
+            Some(value) => value,
+            None => {
+                self.refuse();
+                otherwise
+            }
         }
-        Ok(Line { words })
     }
 
     /// The word at a place.
-    pub fn word(&self, place: usize) -> Result<&str, RowError> {
+    pub fn word(&mut self, place: usize) -> &'a str {
         match self.words.get(place) {
-            Some(word) => Ok(word.as_str()),
-            None => Err(RowError::NoRow),
+            Some(word) => word.as_str(),
+            None => {
+                self.refuse();
+                ""
+            }
+        }
+    }
+
+    /// A copy of a text.
+    pub fn copy(&mut self, text: &str) -> String {
+        match String::from_str(self.alloc, text) {
+            Ok(copy) => copy,
+            Err(_) => {
+                self.fail(RowError::Memory);
+                String::new(self.alloc)
+            }
         }
     }
 
     /// A copy of the word at a place.
-    pub fn text(&self, alloc: Global, place: usize) -> Result<String, RowError> {
-        Ok(String::from_str(alloc, self.word(place)?)?)
+    pub fn text(&mut self, place: usize) -> String {
+        let word = self.word(place);
+        self.copy(word)
     }
 
     /// A copy of the word at a place, unless it means nothing.
-    pub fn optional_text(&self, alloc: Global, place: usize) -> Result<Option<String>, RowError> {
-        match self.word(place)? {
-            "-" => Ok(None),
-            word => Ok(Some(String::from_str(alloc, word)?)),
+    pub fn optional_text(&mut self, place: usize) -> Option<String> {
+        match self.word(place) {
+            "-" => None,
+            word => Some(self.copy(word)),
         }
     }
 
     /// The number at a place.
-    pub fn number(&self, place: usize) -> Result<u64, RowError> {
-        self.word(place)?.parse::<u64>().ok().ok_or(RowError::NoRow)
+    pub fn number(&mut self, place: usize) -> u64 {
+        let word = self.word(place);
+        self.kept(word.parse::<u64>().ok(), 0)
     }
 
     /// The number at a place, unless the word means nothing.
-    pub fn optional_number(&self, place: usize) -> Result<Option<u64>, RowError> {
-        match self.word(place)? {
-            "-" => Ok(None),
-            _ => Ok(Some(self.number(place)?)),
+    pub fn optional_number(&mut self, place: usize) -> Option<u64> {
+        if self.word(place) == "-" {
+            None
+        } else {
+            Some(self.number(place))
+        }
+    }
+
+    /// Adds an item to a list.
+    pub fn push<T: Drop>(&mut self, list: &mut Vec<T>, item: T) {
+        if list.push(item).is_err() {
+            self.fail(RowError::Memory);
         }
     }
 
     /// Copies of the words from a place on.
-    pub fn texts(&self, alloc: Global, place: usize) -> Result<Vec<String>, RowError> {
-        let mut texts = Vec::new(alloc);
+    pub fn texts(&mut self, place: usize) -> Vec<String> {
+        let mut texts = Vec::new(self.alloc);
         for word in self.words.iter().skip(place) {
-            let copy = word.clone()?;
-            texts.push(copy).map_err(AllocError::from)?;
+            let copy = self.copy(word.as_str());
+            self.push(&mut texts, copy);
         }
-        Ok(texts)
+        texts
     }
 
-    /// The words from a place on.
-    pub fn words(&self) -> &[String] {
-        &self.words
+    /// Copies of the parts of the word at a place, with spaces between them.
+    pub fn parts(&mut self, place: usize) -> Vec<String> {
+        let mut parts = Vec::new(self.alloc);
+        for part in self.word(place).split(' ') {
+            let copy = self.copy(part);
+            self.push(&mut parts, copy);
+        }
+        parts
     }
 }

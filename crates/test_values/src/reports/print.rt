@@ -1,112 +1,116 @@
 //! What is printed of a line.
 use crate::reports::builder::Builder;
-use crate::reports::codes::{all_codes, page_of};
+use crate::reports::codes::{print_code, print_codes};
 use crate::reports::line::Line;
-use crate::row::RowError;
+use crate::row::{Output, RowError, found};
 use rinqebo_report::{Colour, Format, Paper, Report, nearest_name, render, render_findings};
-use std::alloc::{AllocError, Global};
+use std::alloc::AllocError;
 
-/// What is printed of a line: of most, nothing.
-pub fn printed(alloc: Global, builder: &mut Builder, line: &Line) -> Result<String, RowError> {
-    match line.word(0)? {
-        "print" => printed_report(alloc, builder, line),
-        "nearest" => nearest(alloc, line),
-        "codes" => Ok(all_codes(alloc)?),
-        "code" => Ok(page_of(alloc, line.word(1)?)?),
-        _ => {
-            builder.take(line)?;
-            Ok(String::new(alloc))
-        }
+/// Prints the result of a line. Most lines have none.
+pub fn print_line(out: &mut Output, builder: &mut Builder, line: &mut Line<'_>) {
+    match line.word(0) {
+        "print" => print_report(out, builder, line),
+        "nearest" => print_nearest(out, line),
+        "codes" => print_codes(out),
+        "code" => print_code(out, line.word(1)),
+        _ => builder.take(line),
     }
 }
 
-/// The report in the forms of a line.
-fn printed_report(alloc: Global, builder: &mut Builder, line: &Line) -> Result<String, RowError> {
-    let mut shown = String::new(alloc);
-    let report = builder.take_report()?;
-    for form in line.words().iter().skip(1) {
-        let text = in_form(alloc, &report, form.as_str())?;
-        let heading = format!(in alloc; "{name}: {form}\n", name = builder.name)?;
-        shown.push_str(heading.as_str())?;
-        add_lines(&mut shown, text.as_str())?;
-    }
-    Ok(shown)
-}
-
-/// The known name of a line that is nearest to a name.
-fn nearest(alloc: Global, line: &Line) -> Result<String, RowError> {
-    let name = line.word(1)?;
-    let mut known: Vec<&str> = Vec::new(alloc);
-    for word in line.words().iter().skip(2) {
-        known.push(word.as_str()).map_err(AllocError::from)?;
-    }
-    let text = match nearest_name(alloc, name, &known)? {
-        Some(nearest) => format!(in alloc; "{name}: nearest {nearest}\n")?,
-        None => format!(in alloc; "{name}: none is near\n")?,
+/// Prints the report in the forms of a line.
+fn print_report(out: &mut Output, builder: &mut Builder, line: &mut Line<'_>) {
+    let Some(report) = builder.take_report() else {
+        return line.refuse();
     };
-    Ok(text)
+    for form in line.words.iter().skip(1) {
+        out.push_str(builder.name.as_str());
+        out.push_str(": ");
+        out.push_str(form.as_str());
+        out.push('\n');
+        print_form(out, &report, form.as_str());
+    }
+}
+
+/// Prints the known name of a line that is nearest to a name.
+fn print_nearest(out: &mut Output, line: &mut Line<'_>) {
+    let name = line.word(1);
+    let mut known: Vec<&str> = Vec::new(out.alloc);
+    for word in line.words.iter().skip(2) {
+        out.keep(&mut known, word.as_str());
+    }
+    match nearest_name(out.alloc, name, &known) {
+        Ok(Some(nearest)) => out.add(format!(in out.alloc; "{name}: nearest {nearest}\n")),
+        Ok(None) => out.add(format!(in out.alloc; "{name}: none is near\n")),
+        Err(_) => out.fail(RowError::Memory),
+    }
 }
 
 /// How many columns a page has, if its form has no number.
 const COLUMNS: usize = 200;
 
+/// The forms of pages and documents, each with its colours.
+static FORMS: [(&str, (Format<'static>, Colour)); 6] = [
+    ("text", (Format::Text, Colour::Plain)),
+    ("colour", (Format::Text, Colour::Coloured)),
+    ("grouped", (Format::Grouped, Colour::Plain)),
+    ("json", (Format::Json, Colour::Plain)),
+    ("concise", (Format::Concise, Colour::Plain)),
+    ("coloured-concise", (Format::Concise, Colour::Coloured)),
+];
+
 /// The name of a form and the number of columns behind it, as in `text:40`.
-fn parted(form: &str) -> Result<(&str, usize), RowError> {
+fn parted(form: &str) -> Option<(&str, usize)> {
     match form.split_once(':') {
-        Some((name, columns)) => Ok((name, columns.parse::<usize>().ok().ok_or(RowError::NoRow)?)),
-        None => Ok((form, COLUMNS)),
+        Some((name, columns)) => Some((name, columns.parse::<usize>().ok()?)),
+        None => Some((form, COLUMNS)),
     }
 }
 
-/// A report in a form.
-fn in_form(alloc: Global, report: &Report, form: &str) -> Result<String, RowError> {
+/// Prints a report in a form.
+fn print_form(out: &mut Output, report: &Report, form: &str) {
     if let Some(folder) = form.strip_prefix("github:") {
-        return Ok(render(alloc, report, Format::Github(folder), plain(COLUMNS))?);
+        let format = Format::Github(folder);
+        return print_in(out, report, format, Colour::Plain, COLUMNS);
     }
-    let (name, columns) = parted(form)?;
-    let text = match name {
-        "text" => render(alloc, report, Format::Text, plain(columns))?,
-        "colour" => render(alloc, report, Format::Text, coloured(columns))?,
-        "grouped" => render(alloc, report, Format::Grouped, plain(columns))?,
-        "json" => render(alloc, report, Format::Json, plain(columns))?,
-        "findings" => render_findings(alloc, report, Colour::Plain)?,
-        "concise" => render(alloc, report, Format::Concise, plain(columns))?,
-        "coloured-concise" => render(alloc, report, Format::Concise, coloured(columns))?,
-        _ => return Err(RowError::NoRow),
+    if form == "findings" {
+        return print_page(out, render_findings(out.alloc, report, Colour::Plain));
+    }
+    let Some((name, columns)) = parted(form) else {
+        return out.refuse();
     };
-    Ok(text)
-}
-
-/// Paper without colours.
-fn plain(columns: usize) -> Paper {
-    Paper {
-        colour: Colour::Plain,
-        columns,
+    match found(&FORMS, name) {
+        Some((format, colour)) => print_in(out, report, format, colour, columns),
+        None => out.refuse(),
     }
 }
 
-/// Paper with colours.
-fn coloured(columns: usize) -> Paper {
-    Paper {
-        colour: Colour::Coloured,
-        columns,
+/// Prints a report in a format, on paper of so many columns.
+fn print_in(out: &mut Output, report: &Report, format: Format<'_>, colour: Colour, columns: usize) {
+    let paper = Paper { colour, columns };
+    print_page(out, render(out.alloc, report, format, paper));
+}
+
+/// Prints a page, if there was memory for it.
+fn print_page(out: &mut Output, page: Result<String, AllocError>) {
+    match page {
+        Ok(page) => print_lines(out, page.as_str()),
+        Err(_) => out.fail(RowError::Memory),
     }
 }
 
-/// Adds the lines of a text, each behind two spaces, with `\e` in place of an escape.
-fn add_lines(shown: &mut String, text: &str) -> Result<(), AllocError> {
+/// Prints the lines of a text, each behind two spaces, with `\e` in place of an escape.
+fn print_lines(out: &mut Output, text: &str) {
     for line in text.lines() {
-        shown.push_str("  ")?;
-        for c in line.chars() {
-            match c {
-                '\u{1b}' => shown.push_str("\\e")?,
-                _ => shown.push(c)?,
+        out.push_str("  ");
+        for character in line.chars() {
+            match character {
+                '\u{1b}' => out.push_str("\\e"),
+                other => out.push(other),
             }
         }
-        shown.push_str("\n")?;
+        out.push('\n');
     }
     if !text.is_empty() && !text.ends_with("\n") {
-        shown.push_str("  without a newline at the end\n")?;
+        out.push_str("  without a newline at the end\n");
     }
-    Ok(())
 }

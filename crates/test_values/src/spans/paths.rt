@@ -4,23 +4,22 @@
 //! prints the lines, the bytes of the key and those of the value, or `-` if there are none:
 //! `2..2 key 13..20 value 23..24`. A path without a place prints `none`.
 
-use nextest_places::{Lines, PathSpans, Span, Step};
-use std::alloc::{AllocError, Global};
+use crate::row::Output;
+use nextest_places::{PathSpan, PathSpans, Span, Step};
 
-/// Where the value at a path is written in a text.
-pub fn shown_at(alloc: Global, path: &str, text: &str) -> Result<String, AllocError> {
-    let mut steps = Vec::new(alloc);
+/// Prints where the value at a path is written in a text.
+pub fn print_place(out: &mut Output, path: &str, text: &str) {
+    let mut steps = Vec::new(out.alloc);
     for word in path.split(' ') {
-        steps.push(step_of(word))?;
+        out.keep(&mut steps, step_of(word));
     }
-    let spans = PathSpans::of(alloc, text)?;
-    let Some(found) = spans.at(&steps) else {
-        return String::from_str(alloc, "none");
+    let Some(spans) = out.taken(PathSpans::of(out.alloc, text)) else {
+        return;
     };
-    let Lines { first, last } = found.lines;
-    let key = shown_span(alloc, found.key)?;
-    let value = shown_span(alloc, found.value)?;
-    format!(in alloc; "{first}..{last} key {key} value {value}")
+    match spans.at(&steps) {
+        Some(found) => print_found(out, &found),
+        None => out.push_str("none"),
+    }
 }
 
 /// The step that a word writes.
@@ -31,9 +30,18 @@ fn step_of(word: &str) -> Step<'_> {
     }
 }
 
-fn shown_span(alloc: Global, span: Option<Span>) -> Result<String, AllocError> {
+/// Prints the lines of a place, and the bytes of its key and its value.
+fn print_found(out: &mut Output, found: &PathSpan) {
+    let (first, last) = (found.lines.first, found.lines.last);
+    out.add(format!(in out.alloc; "{first}..{last} key "));
+    print_span(out, found.key);
+    out.push_str(" value ");
+    print_span(out, found.value);
+}
+
+fn print_span(out: &mut Output, span: Option<Span>) {
     match span {
-        Some(Span { start, end }) => format!(in alloc; "{start}..{end}"),
-        None => String::from_str(alloc, "-"),
+        Some(Span { start, end }) => out.add(format!(in out.alloc; "{start}..{end}")),
+        None => out.push('-'),
     }
 }

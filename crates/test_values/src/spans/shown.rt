@@ -7,106 +7,116 @@
 //! name with other characters than those of a key without quotes is written in double quotes. One that
 //! reads as no key is `?`.
 
+use crate::row::{Output, RowError};
 use nextest_places::{
     Container, Item, KeyKind, Role, Token, TokenKind, ValueKind, items_of, nodes_of, reads_as,
     tokens_of,
 };
-use std::alloc::{AllocError, Global};
 use toml::Value;
 
-/// The items of a text.
-pub fn shown_items(alloc: Global, text: &str) -> Result<String, AllocError> {
-    let items = items_of(alloc, text)?;
-    let mut line = String::new(alloc);
-    let mut paths = Vec::new(alloc);
-    for item in &items {
-        let path = path_of(alloc, item, &paths)?;
-        if !line.is_empty() {
-            line.push_str("; ")?;
+/// Prints the items of a text.
+pub fn print_items(out: &mut Output, text: &str) {
+    let Some(items) = out.taken(items_of(out.alloc, text)) else {
+        return;
+    };
+    let mut paths = Vec::new(out.alloc);
+    for (place, item) in items.iter().enumerate() {
+        if place > 0 {
+            out.push_str("; ");
         }
-        line.push_str(shown_item(alloc, item, path.as_str())?.as_str())?;
-        paths.push(below(alloc, item, path)?)?;
+        let mut path = path_of(out, item, &paths);
+        print_item(out, item, path.text.as_str());
+        go_below(&mut path, item);
+        let path = out.text_of(path);
+        out.keep(&mut paths, path);
     }
-    Ok(line)
 }
 
 /// The path of an item, given those below the items before it.
-fn path_of(alloc: Global, item: &Item, paths: &[String]) -> Result<String, AllocError> {
-    let mut path = String::new(alloc);
+fn path_of(out: &Output, item: &Item, paths: &[String]) -> Output {
+    let mut path = Output::new(out.alloc);
     if let Some(parent) = item.parent
         && let Some(base) = paths.get(parent)
     {
-        path.push_str(base.as_str())?;
+        path.push_str(base.as_str());
     }
     match &item.role {
         Role::Key { name, .. } => {
-            dot(&mut path)?;
-            match name {
-                Some(name) => push_name(&mut path, name.as_str())?,
-                None => path.push('?')?,
-            }
+            push_dot(&mut path);
+            push_name(&mut path, name);
         }
         Role::Value { position, .. } => {
             if let Some(position) = position {
-                dot(&mut path)?;
-                path.push_str(format!(in alloc; "{position}")?.as_str())?;
+                push_dot(&mut path);
+                path.add(position.to_string(out.alloc));
             }
         }
     }
-    Ok(path)
+    path
 }
 
-/// The path of what is inside an item.
-fn below(alloc: Global, item: &Item, path: String) -> Result<String, AllocError> {
-    match &item.role {
-        Role::Key {
-            element: Some(position),
-            ..
-        } => format!(in alloc; "{path}.{position}"),
-        _ => Ok(path),
+/// Makes the path of an item that of what is inside it.
+fn go_below(path: &mut Output, item: &Item) {
+    if let Role::Key {
+        element: Some(position),
+        ..
+    } = &item.role
+    {
+        path.push('.');
+        path.add(position.to_string(path.alloc));
     }
 }
 
-fn dot(path: &mut String) -> Result<(), AllocError> {
-    if path.is_empty() {
-        Ok(())
-    } else {
-        path.push('.')
+fn push_dot(path: &mut Output) {
+    if !path.text.is_empty() {
+        path.push('.');
     }
 }
 
-fn push_name(path: &mut String, name: &str) -> Result<(), AllocError> {
-    let is_bare = !name.is_empty()
-        && name.bytes().all(|byte| byte.is_ascii_alphanumeric() || byte == b'_' || byte == b'-');
-    if is_bare {
-        return path.push_str(name);
+/// Adds the name of a part of a key, if it reads as one.
+fn push_name(path: &mut Output, name: &Option<String>) {
+    match name {
+        Some(name) if is_bare(name.as_str()) => path.push_str(name.as_str()),
+        Some(name) => push_quoted(path, name.as_str()),
+        None => path.push('?'),
     }
-    path.push('"')?;
+}
+
+/// Whether a key of this name has no quotes.
+fn is_bare(name: &str) -> bool {
+    !name.is_empty()
+        && name.bytes().all(|byte| byte.is_ascii_alphanumeric() || byte == b'_' || byte == b'-')
+}
+
+/// Adds a name in double quotes.
+fn push_quoted(path: &mut Output, name: &str) {
+    path.push('"');
     for character in name.chars() {
         match character {
-            '\n' => path.push_str("\\n")?,
-            '"' => path.push_str("\\\"")?,
-            '\\' => path.push_str("\\\\")?,
-            other => path.push(other)?,
+            '\n' => path.push_str("\\n"),
+            '"' => path.push_str("\\\""),
+            '\\' => path.push_str("\\\\"),
+            other => path.push(other),
         }
     }
-    path.push('"')
+    path.push('"');
 }
 
-fn shown_item(alloc: Global, item: &Item, path: &str) -> Result<String, AllocError> {
-    let start = item.span.start;
-    let end = item.span.end;
+fn print_item(out: &mut Output, item: &Item, path: &str) {
+    out.push_str(path);
+    let (start, end) = (item.span.start, item.span.end);
     match &item.role {
         Role::Key { kind, element, .. } => {
             let word = key_word(*kind);
-            match element {
-                Some(position) => format!(in alloc; "{path} {start}..{end} {word} {position}"),
-                None => format!(in alloc; "{path} {start}..{end} {word}"),
+            out.add(format!(in out.alloc; " {start}..{end} {word}"));
+            if let Some(position) = element {
+                out.push(' ');
+                out.add(position.to_string(out.alloc));
             }
         }
         Role::Value { .. } => {
             let word = value_word(item.kind);
-            format!(in alloc; "{path} = {start}..{end} {word}")
+            out.add(format!(in out.alloc; " = {start}..{end} {word}"));
         }
     }
 }
@@ -132,30 +142,27 @@ fn value_word(kind: Option<ValueKind>) -> &'static str {
     }
 }
 
-/// The tokens of a text, each as its kind, where it is and, of a part of a key, its name.
-pub fn shown_tokens(alloc: Global, text: &str) -> Result<String, AllocError> {
-    let mut line = String::new(alloc);
-    for token in &tokens_of(alloc, text)? {
-        if !line.is_empty() {
-            line.push_str(", ")?;
+/// Prints the tokens of a text, each as its kind, where it is and, of a part of a key, its name.
+pub fn print_tokens(out: &mut Output, text: &str) {
+    let Some(tokens) = out.taken(tokens_of(out.alloc, text)) else {
+        return;
+    };
+    for (place, token) in tokens.iter().enumerate() {
+        if place > 0 {
+            out.push_str(", ");
         }
-        line.push_str(shown_token(alloc, token)?.as_str())?;
+        print_token(out, token);
     }
-    Ok(line)
 }
 
-fn shown_token(alloc: Global, token: &Token) -> Result<String, AllocError> {
-    let start = token.span.start;
-    let end = token.span.end;
+fn print_token(out: &mut Output, token: &Token) {
+    let (start, end) = (token.span.start, token.span.end);
     let word = token_word(&token.kind);
-    let mut shown = format!(in alloc; "{word} {start}..{end}")?;
+    out.add(format!(in out.alloc; "{word} {start}..{end}"));
     match &token.kind {
         TokenKind::Key(name) | TokenKind::Dotted(name) => {
-            shown.push(' ')?;
-            match name {
-                Some(name) => push_name(&mut shown, name.as_str())?,
-                None => shown.push('?')?,
-            }
+            out.push(' ');
+            push_name(out, name);
         }
         TokenKind::TableHeader
         | TokenKind::ElementHeader
@@ -165,7 +172,6 @@ fn shown_token(alloc: Global, token: &Token) -> Result<String, AllocError> {
         | TokenKind::Word
         | TokenKind::Other => {}
     }
-    Ok(shown)
 }
 
 fn token_word(kind: &TokenKind) -> &'static str {
@@ -184,61 +190,61 @@ fn token_word(kind: &TokenKind) -> &'static str {
     }
 }
 
-/// Of each item of a document `+` or `-`: whether a part of a key leads to a node, and whether a
-/// value reads as its node. A text that is not a document prints `none`.
-pub fn shown_nodes(alloc: Global, text: &str) -> Result<String, AllocError> {
-    let root = match toml::table_from_str(alloc, text) {
-        Ok(table) => Value::Table(table),
-        Err(error) => {
-            if error.is_memory() {
-                return Err(AllocError);
-            }
-            return String::from_str(alloc, "none");
-        }
-    };
-    let items = items_of(alloc, text)?;
-    let nodes = nodes_of(alloc, &root, &items)?;
-    let mut line = String::new(alloc);
-    for (item, node) in items.iter().zip(nodes.iter()) {
-        if !line.is_empty() {
-            line.push(' ')?;
-        }
-        line.push(if is_right(alloc, text, item, *node)? {
-            '+'
-        } else {
-            '-'
-        })?;
-    }
-    Ok(line)
-}
-
-fn is_right(
-    alloc: Global,
-    text: &str,
-    item: &Item,
-    node: Option<&Value>,
-) -> Result<bool, AllocError> {
-    let Some(node) = node else {
-        return Ok(false);
-    };
-    match &item.role {
-        Role::Key { .. } => Ok(true),
-        Role::Value { .. } => reads_as(alloc, text, item, node),
+/// Prints of each item of a document `+` or `-`: whether a part of a key leads to a node, and
+/// whether a value reads as its node. A text that is not a document prints `none`.
+pub fn print_nodes(out: &mut Output, text: &str) {
+    match toml::table_from_str(out.alloc, text) {
+        Ok(table) => print_nodes_of(out, text, &Value::Table(table)),
+        Err(error) if error.is_memory() => out.fail(RowError::Memory),
+        Err(_) => out.push_str("none"),
     }
 }
 
-/// How many items each front of a text has that ends between two characters.
-pub fn cuts_of(alloc: Global, text: &str) -> Result<String, AllocError> {
-    let mut line = String::new(alloc);
+/// Prints the marks of the items of a document whose root is known.
+fn print_nodes_of(out: &mut Output, text: &str, root: &Value) {
+    let Some(items) = out.taken(items_of(out.alloc, text)) else {
+        return;
+    };
+    let Some(nodes) = out.taken(nodes_of(out.alloc, root, &items)) else {
+        return;
+    };
+    for (place, (item, node)) in items.iter().zip(nodes.iter()).enumerate() {
+        if place > 0 {
+            out.push(' ');
+        }
+        print_mark(out, text, item, *node);
+    }
+}
+
+/// Prints whether an item has its node, and reads as it if it is a value.
+fn print_mark(out: &mut Output, text: &str, item: &Item, node: Option<&Value>) {
+    let is_right = match (node, &item.role) {
+        (None, _) => Ok(false),
+        (Some(_), Role::Key { .. }) => Ok(true),
+        (Some(node), Role::Value { .. }) => reads_as(out.alloc, text, item, node),
+    };
+    match is_right {
+        Ok(true) => out.push('+'),
+        Ok(false) => out.push('-'),
+        Err(_) => out.fail(RowError::Memory),
+    }
+}
+
+/// Prints how many items each front of a text has that ends between two characters.
+pub fn print_cuts(out: &mut Output, text: &str) {
     for len in 0..=text.len() {
-        let Some(front) = text.get(..len) else {
-            continue;
-        };
-        let count = items_of(alloc, front)?.len();
-        if len > 0 {
-            line.push(' ')?;
+        if let Some(front) = text.get(..len) {
+            if len > 0 {
+                out.push(' ');
+            }
+            print_count(out, front);
         }
-        line.push_str(format!(in alloc; "{count}")?.as_str())?;
     }
-    Ok(line)
+}
+
+/// Prints how many items a text has.
+fn print_count(out: &mut Output, text: &str) {
+    if let Some(items) = out.taken(items_of(out.alloc, text)) {
+        out.add(items.len().to_string(out.alloc));
+    }
 }

@@ -1,99 +1,82 @@
 //! What readers of settings read.
-use super::refusal;
-use crate::row::RowError;
+use super::print_refusal;
+use crate::row::Output;
 use nextest_elements::{
     CustomTestGroup, Element, TestGroupConfig, TestThreads, ThreadsRequired, Tree, Walk,
 };
-use std::alloc::{AllocError, Global};
-use std::collections::{BTreeMap, BTreeSet};
+use std::collections::BTreeMap;
 use std::fmt::{Debug, Display};
 
-/// The value, and the paths that no schema knows, or the fault.
-pub fn read<T: Element + Debug>(
-    alloc: Global,
-    tree: &Tree,
-    walk: &mut Walk,
-) -> Result<String, RowError> {
-    match T::read(alloc, tree, walk) {
+/// Prints the value, and the paths that no schema knows, or the fault.
+pub fn read<T: Element + Debug>(out: &mut Output, tree: &Tree, walk: &mut Walk) {
+    match T::read(out.alloc, tree, walk) {
         Ok(value) => {
-            let text = format!(in alloc; "{value:?}")?;
-            Ok(with_unknown(text, &walk.unknown)?)
+            out.add(format!(in out.alloc; "{value:?}"));
+            print_unknown(out, walk);
         }
-        Err(fault) => refusal(alloc, &fault),
+        Err(fault) => print_refusal(out, &fault),
     }
 }
 
-/// The text, and the paths that no schema knows.
-fn with_unknown(text: String, unknown: &BTreeSet<String>) -> Result<String, AllocError> {
-    let mut text = text;
-    for path in unknown.iter() {
-        text.push_str(", unknown ")?;
-        text.push_str(path.as_str())?;
-    }
-    Ok(text)
-}
-
-/// The value and how it is written, or the fault.
-pub fn read_name<T: Element + Debug + Display>(
-    alloc: Global,
-    tree: &Tree,
-    walk: &mut Walk,
-) -> Result<String, RowError> {
-    match T::read(alloc, tree, walk) {
-        Ok(value) => Ok(format!(in alloc; "{value:?}, written {value}")?),
-        Err(fault) => refusal(alloc, &fault),
+/// Prints the paths that no schema knows.
+fn print_unknown(out: &mut Output, walk: &Walk) {
+    for path in walk.unknown.iter() {
+        out.push_str(", unknown ");
+        out.push_str(path.as_str());
     }
 }
 
-/// How each group is written, with its number of threads, or the fault.
-pub fn groups_answer(alloc: Global, tree: &Tree, walk: &mut Walk) -> Result<String, RowError> {
-    match BTreeMap::<CustomTestGroup, TestGroupConfig>::read(alloc, tree, walk) {
+/// Prints the value and how it is written, or the fault.
+pub fn read_name<T: Element + Debug + Display>(out: &mut Output, tree: &Tree, walk: &mut Walk) {
+    match T::read(out.alloc, tree, walk) {
+        Ok(value) => out.add(format!(in out.alloc; "{value:?}, written {value}")),
+        Err(fault) => print_refusal(out, &fault),
+    }
+}
+
+/// Prints how each group is written, with its number of threads, or the fault.
+pub fn read_groups(out: &mut Output, tree: &Tree, walk: &mut Walk) {
+    match BTreeMap::<CustomTestGroup, TestGroupConfig>::read(out.alloc, tree, walk) {
         Ok(groups) => {
-            let mut text = String::new(alloc);
             for (group, config) in groups.iter() {
-                let line = format!(in alloc; "[{group}: {:?}]", config.max_threads)?;
-                text.push_str(line.as_str())?;
+                out.add(format!(in out.alloc; "[{group}: {:?}]", config.max_threads));
             }
-            Ok(text)
         }
-        Err(fault) => refusal(alloc, &fault),
+        Err(fault) => print_refusal(out, &fault),
     }
 }
 
-/// How many tests run at a time by the `threads` of a table, on a machine with its `cpus`, or the
-/// fault.
-pub fn test_thread_count(alloc: Global, table: &Tree, walk: &mut Walk) -> Result<String, RowError> {
-    match TestThreads::read(alloc, member(table, "threads")?, walk) {
-        Ok(threads) => Ok(threads.compute(count(table, "cpus")?).to_string(alloc)?),
-        Err(fault) => refusal(alloc, &fault),
+/// Prints how many tests run at a time by the `threads` of a table, on a machine with its `cpus`,
+/// or the fault.
+pub fn test_thread_count(out: &mut Output, table: &Tree, walk: &mut Walk) {
+    let (Some(threads), Some(cpus)) = (table.get("threads"), count(table, "cpus")) else {
+        return out.refuse();
+    };
+    match TestThreads::read(out.alloc, threads, walk) {
+        Ok(threads) => out.add(threads.compute(cpus).to_string(out.alloc)),
+        Err(fault) => print_refusal(out, &fault),
     }
 }
 
-/// How many threads a test takes up by the `threads` of a table, where there are its `cpus` and its
-/// `test-threads`, or the fault.
-pub fn required_thread_count(
-    alloc: Global,
-    table: &Tree,
-    walk: &mut Walk,
-) -> Result<String, RowError> {
-    match ThreadsRequired::read(alloc, member(table, "threads")?, walk) {
-        Ok(threads) => {
-            let count = threads.compute(count(table, "cpus")?, count(table, "test-threads")?);
-            Ok(count.to_string(alloc)?)
-        }
-        Err(fault) => refusal(alloc, &fault),
+/// Prints how many threads a test takes up by the `threads` of a table, where there are its `cpus`
+/// and its `test-threads`, or the fault.
+pub fn required_thread_count(out: &mut Output, table: &Tree, walk: &mut Walk) {
+    let (Some(threads), Some(cpus)) = (table.get("threads"), count(table, "cpus")) else {
+        return out.refuse();
+    };
+    let Some(test_threads) = count(table, "test-threads") else {
+        return out.refuse();
+    };
+    match ThreadsRequired::read(out.alloc, threads, walk) {
+        Ok(threads) => out.add(threads.compute(cpus, test_threads).to_string(out.alloc)),
+        Err(fault) => print_refusal(out, &fault),
     }
-}
-
-/// The value of a key of a table.
-fn member<'a>(table: &'a Tree, key: &str) -> Result<&'a Tree, RowError> {
-    table.get(key).ok_or(RowError::NoRow)
 }
 
 /// The number of a key of a table.
-fn count(table: &Tree, key: &str) -> Result<u64, RowError> {
-    match member(table, key)? {
-        Tree::Int(count) => u64::try_from(*count).ok().ok_or(RowError::NoRow),
-        _ => Err(RowError::NoRow),
+fn count(table: &Tree, key: &str) -> Option<u64> {
+    match table.get(key)? {
+        Tree::Int(count) => u64::try_from(*count).ok(),
+        _ => None,
     }
 }

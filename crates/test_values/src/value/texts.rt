@@ -1,52 +1,64 @@
 //! What readers of texts read.
-use super::{refusal, shown};
-use crate::row::RowError;
+use super::{print_read, print_refusal};
+use crate::row::{Output, RowError};
 use nextest_documents::{TextFault, lay_over, tree_from_text};
 use nextest_elements::{ConfigIdentifier, InvalidIdentifier, Key, ToolName, Tree, parse_duration};
 use nextest_places::ids_in_order;
 use nextest_scripts::{ScriptId, ShellWordsError, split_shell_words, validate_env_var_key};
 use std::alloc::{AllocError, Global};
 
-/// What the reader of a name makes of a text.
-pub fn text_answer(alloc: Global, reader: &str, text: &str) -> Result<String, RowError> {
+/// Reads a text by the reader of a name, and prints what it makes of it.
+pub fn read_text(out: &mut Output, reader: &str, text: &str) {
     match reader {
-        "duration" => duration_answer(alloc, text),
-        "identifier" => identifier_answer(alloc, text),
-        "tool-name" => shown(alloc, ToolName::new(alloc, text)),
-        "script-id" => shown(alloc, ScriptId::new(alloc, text)),
-        "shell-words" => words_answer(alloc, text),
-        "env-key" => key_answer(alloc, text),
-        "document" => document_answer(alloc, tree_from_text(alloc, text)),
-        "setup-order" => order_answer(alloc, text, Key::Setup),
-        "wrapper-order" => order_answer(alloc, text, Key::Wrapper),
-        _ => Err(RowError::NoRow),
+        "duration" => print_duration(out, text),
+        "identifier" => print_identifier(out, text),
+        "tool-name" => print_read(out, ToolName::new(out.alloc, text)),
+        "script-id" => print_read(out, ScriptId::new(out.alloc, text)),
+        "shell-words" => print_words(out, text),
+        "env-key" => print_key(out, text),
+        "document" => print_document(out, tree_from_text(out.alloc, text)),
+        "setup-order" => print_order(out, text, Key::Setup),
+        "wrapper-order" => print_order(out, text, Key::Wrapper),
+        _ => out.refuse(),
     }
 }
 
-fn duration_answer(alloc: Global, text: &str) -> Result<String, RowError> {
+fn print_duration(out: &mut Output, text: &str) {
     match parse_duration(text) {
-        Ok(nanoseconds) => Ok(format!(in alloc; "{nanoseconds}ns")?),
-        Err(cause) => Ok(format!(in alloc; "refused: {cause:?}")?),
+        Ok(nanoseconds) => out.add(format!(in out.alloc; "{nanoseconds}ns")),
+        Err(cause) => out.add(format!(in out.alloc; "refused: {cause:?}")),
     }
 }
 
-/// The identifier and its parts, or the cause of the refusal.
-fn identifier_answer(alloc: Global, text: &str) -> Result<String, RowError> {
-    let read = match ConfigIdentifier::new(alloc, text) {
-        Err(InvalidIdentifier::Memory) => ConfigIdentifier::new(alloc, text),
+/// Prints the identifier and its parts, or the cause of the refusal.
+fn print_identifier(out: &mut Output, text: &str) {
+    let read = match ConfigIdentifier::new(out.alloc, text) {
+        Err(InvalidIdentifier::Memory) => ConfigIdentifier::new(out.alloc, text),
         read => read,
     };
     match read {
-        Ok(identifier) => match identifier.clone() {
-            Ok(copy) => Ok(parts_answer(alloc, &copy)?),
-            Err(_) => Ok(parts_answer(alloc, &identifier.clone()?)?),
-        },
-        Err(cause) => refusal(alloc, &cause),
+        Ok(identifier) => print_copy(out, &identifier),
+        Err(cause) => print_refusal(out, &cause),
+    }
+}
+
+/// Prints a copy of an identifier.
+fn print_copy(out: &mut Output, identifier: &ConfigIdentifier) {
+    match copy_of(identifier) {
+        Ok(copy) => out.add(parts_of(out.alloc, &copy)),
+        Err(_) => out.fail(RowError::Memory),
+    }
+}
+
+fn copy_of(identifier: &ConfigIdentifier) -> Result<ConfigIdentifier, AllocError> {
+    match identifier.clone() {
+        Ok(copy) => Ok(copy),
+        Err(_) => Ok(identifier.clone()?),
     }
 }
 
 /// An identifier, and its parts if it is one of a tool or of the organisation.
-fn parts_answer(alloc: Global, identifier: &ConfigIdentifier) -> Result<String, AllocError> {
+fn parts_of(alloc: Global, identifier: &ConfigIdentifier) -> Result<String, AllocError> {
     if let Some((tool, name)) = identifier.tool_components() {
         return format!(in alloc; "{identifier}, `{name}` of tool `{tool}`");
     }
@@ -56,44 +68,47 @@ fn parts_answer(alloc: Global, identifier: &ConfigIdentifier) -> Result<String, 
     }
 }
 
-/// The words of a line, or the cause of the refusal.
-fn words_answer(alloc: Global, text: &str) -> Result<String, RowError> {
-    let read = match split_shell_words(alloc, text) {
-        Err(ShellWordsError::Memory) => split_shell_words(alloc, text),
+/// Prints the words of a line, or the cause of the refusal.
+fn print_words(out: &mut Output, text: &str) {
+    let read = match split_shell_words(out.alloc, text) {
+        Err(ShellWordsError::Memory) => split_shell_words(out.alloc, text),
         read => read,
     };
     match read {
-        Ok(words) => Ok(format!(in alloc; "{words:?}")?),
-        Err(cause) => refusal(alloc, &cause),
+        Ok(words) => out.add(format!(in out.alloc; "{words:?}")),
+        Err(cause) => print_refusal(out, &cause),
     }
 }
 
-fn key_answer(alloc: Global, text: &str) -> Result<String, RowError> {
-    match validate_env_var_key(alloc, text) {
-        Ok(()) => Ok(String::from_str(alloc, "accepted")?),
-        Err(cause) => refusal(alloc, &cause),
+fn print_key(out: &mut Output, text: &str) {
+    match validate_env_var_key(out.alloc, text) {
+        Ok(()) => out.push_str("accepted"),
+        Err(cause) => print_refusal(out, &cause),
     }
 }
 
-/// The tree of a document. The cause of a refusal is the message of the reader of TOML.
-pub fn document_answer(alloc: Global, read: Result<Tree, TextFault>) -> Result<String, RowError> {
+/// Prints the tree of a document. The cause of a refusal is the message of the reader of TOML.
+pub fn print_document(out: &mut Output, read: Result<Tree, TextFault>) {
     match read {
-        Ok(tree) => Ok(format!(in alloc; "{tree:?}")?),
-        Err(TextFault::NotDocument(_)) => Ok(String::from_str(alloc, "refused: no document")?),
-        Err(TextFault::Memory) => Err(RowError::Memory),
+        Ok(tree) => out.add(format!(in out.alloc; "{tree:?}")),
+        Err(TextFault::NotDocument(_)) => out.push_str("refused: no document"),
+        Err(TextFault::Memory) => out.fail(RowError::Memory),
+    }
+}
+
+/// Prints the ids of scripts of a kind, in the order in which a document defines them.
+fn print_order(out: &mut Output, text: &str, kind: Key) {
+    match ids_of(out.alloc, text, kind) {
+        Ok(ids) => out.add(format!(in out.alloc; "{ids:?}")),
+        Err(TextFault::NotDocument(_)) => out.push_str("refused: no document"),
+        Err(TextFault::Memory) => out.fail(RowError::Memory),
     }
 }
 
 /// The ids of scripts of a kind, in the order in which a document defines them.
-fn order_answer(alloc: Global, text: &str, kind: Key) -> Result<String, RowError> {
-    match tree_from_text(alloc, text) {
-        Ok(tree) => {
-            let ids = ids_in_order(alloc, text, &tree, &[Key::Scripts, kind])?;
-            Ok(format!(in alloc; "{ids:?}")?)
-        }
-        Err(TextFault::NotDocument(_)) => Ok(String::from_str(alloc, "refused: no document")?),
-        Err(TextFault::Memory) => Err(RowError::Memory),
-    }
+fn ids_of(alloc: Global, text: &str, kind: Key) -> Result<Vec<String>, TextFault> {
+    let tree = tree_from_text(alloc, text)?;
+    Ok(ids_in_order(alloc, text, &tree, &[Key::Scripts, kind])?)
 }
 
 /// The tree that documents merge to, the lowest first.
