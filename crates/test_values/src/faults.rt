@@ -15,7 +15,7 @@ use nextest_tables::default_tree;
 use std::alloc::Global;
 
 /// Prints the faults of a row's file.
-pub fn answer_to(out: &mut Output, row: &str) {
+pub fn print_row(out: &mut Output, row: &str) {
     let text = unescaped(out, row, Escapes::Named);
     let Some(tree) = out.taken(tree_of(out.alloc, text.as_str())) else {
         return;

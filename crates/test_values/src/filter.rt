@@ -37,7 +37,7 @@ static PLATFORMS: [(&str, BuildPlatform); 2] = [
 ];
 
 /// Prints the result of a row, unless it is of packages.
-pub fn answer_to(out: &mut Output, filters: &mut NextestFilters, row: &str) {
+pub fn print_row(out: &mut Output, filters: &mut NextestFilters, row: &str) {
     match row.strip_prefix("graph\t") {
         Some(metadata) => match PackageGraph::from_metadata(out.alloc, metadata) {
             Ok(graph) => *filters = NextestFilters::with_graph(graph),

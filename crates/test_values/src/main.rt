@@ -72,19 +72,19 @@ struct Defined<'a> {
 
 impl<'a> Defined<'a> {
     /// Prints the lines of a row: none, if it defines something.
-    fn answer_to(&mut self, out: &mut Output, line: &'a str) {
+    fn print_line(&mut self, out: &mut Output, line: &'a str) {
         let Some((word, row)) = line.split_once('\t') else {
             return out.refuse();
         };
         match found(&KINDS, word) {
-            Some(Kind::Value) => value::answer_to(out, row),
-            Some(Kind::Faults) => faults::answer_to(out, row),
-            Some(Kind::Place) => place::answer_to(out, row),
-            Some(Kind::Schema) => schema::answer_to(out, row),
-            Some(Kind::Spans) => spans::answer_to(out, row),
-            Some(Kind::Platform) => return platform::answer_to(out, &mut self.platforms, row),
-            Some(Kind::Filter) => return filter::answer_to(out, &mut self.filters, row),
-            Some(Kind::Report) => return reports::answer_to(out, &mut self.builder, row),
+            Some(Kind::Value) => value::print_row(out, row),
+            Some(Kind::Faults) => faults::print_row(out, row),
+            Some(Kind::Place) => place::print_row(out, row),
+            Some(Kind::Schema) => schema::print_row(out, row),
+            Some(Kind::Spans) => spans::print_row(out, row),
+            Some(Kind::Platform) => return platform::print_row(out, &mut self.platforms, row),
+            Some(Kind::Filter) => return filter::print_row(out, &mut self.filters, row),
+            Some(Kind::Report) => return reports::print_row(out, &mut self.builder, row),
             None => return out.refuse(),
         }
         out.push('\n');
@@ -113,7 +113,7 @@ fn main(rt: HostRuntime) -> io::Result<ExitCode> {
             continue;
         }
         let mut out = Output::new(alloc);
-        defined.answer_to(&mut out, line);
+        defined.print_line(&mut out, line);
         if let Some(fault) = out.fault {
             print_fault(&rt, line, fault)?;
             return Ok(ExitCode::from(2));

@@ -10,7 +10,7 @@ use crate::row::Output;
 use nextest_places::{Places, Step};
 
 /// Prints the place of a row's path in its text.
-pub fn answer_to(out: &mut Output, row: &str) {
+pub fn print_row(out: &mut Output, row: &str) {
     let Some((text, words)) = row.split_once('\t') else {
         return out.refuse();
     };

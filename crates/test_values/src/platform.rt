@@ -22,7 +22,7 @@ use platform_language::{
 use std::alloc::{AllocError, Global};
 
 /// Prints the result of a row, if it defines no triple.
-pub fn answer_to<'a>(out: &mut Output, defined: &mut Vec<TargetRow<'a>>, row: &'a str) {
+pub fn print_row<'a>(out: &mut Output, defined: &mut Vec<TargetRow<'a>>, row: &'a str) {
     match defined_row(out.alloc, row) {
         Ok(Some(target)) => out.keep(defined, target),
         Ok(None) => print_result(out, defined, row),

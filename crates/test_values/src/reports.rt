@@ -61,7 +61,7 @@ use line::Line;
 use print::print_line;
 
 /// Prints the result of a row. Most rows have none.
-pub fn answer_to(out: &mut Output, builder: &mut Builder, row: &str) {
+pub fn print_row(out: &mut Output, builder: &mut Builder, row: &str) {
     let words = words_of(out, row);
     let mut line = Line {
         alloc: out.alloc,

@@ -35,8 +35,11 @@ impl From<TextFault> for RowError {
 /// that has one.
 #[derive(Drop)]
 pub struct Output {
+    /// Where texts and lists are allocated.
     pub alloc: Global,
+    /// What is printed.
     pub text: String,
+    /// The first fault, if there is one.
     pub fault: Option<RowError>,
 }
 

@@ -9,7 +9,7 @@ use crate::row::Output;
 use nextest_shape::{Shape, file_shape, json_schema, keys_of, schema_page};
 
 /// Prints the shape of a file at a row's place.
-pub fn answer_to(out: &mut Output, row: &str) {
+pub fn print_row(out: &mut Output, row: &str) {
     if row == "page" {
         return print_page(out);
     }

@@ -19,12 +19,12 @@ use paths::print_place;
 use shown::{print_cuts, print_items, print_nodes, print_tokens};
 
 /// Prints the result of a row.
-pub fn answer_to(out: &mut Output, row: &str) {
+pub fn print_row(out: &mut Output, row: &str) {
     let Some((word, row)) = row.split_once('\t') else {
         return out.refuse();
     };
     if word == "at" {
-        return answer_at(out, row);
+        return print_at(out, row);
     }
     let text = unescaped(out, row, Escapes::Named);
     match word {
@@ -37,7 +37,7 @@ pub fn answer_to(out: &mut Output, row: &str) {
 }
 
 /// Prints where the value at a path is written. The row has the path before its text.
-fn answer_at(out: &mut Output, row: &str) {
+fn print_at(out: &mut Output, row: &str) {
     let Some((path, text)) = row.split_once('\t') else {
         return out.refuse();
     };

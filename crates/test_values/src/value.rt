@@ -29,7 +29,7 @@ use std::fmt::Display;
 use texts::{merged, print_document, read_text};
 
 /// Prints the row, and the result of reading its value by the reader that it names.
-pub fn answer_to(out: &mut Output, row: &str) {
+pub fn print_row(out: &mut Output, row: &str) {
     let Some((reader, value)) = row.split_once(' ') else {
         return out.refuse();
     };

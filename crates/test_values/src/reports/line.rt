@@ -8,8 +8,11 @@ use std::alloc::Global;
 /// read to its end, and its reader looks at the fault once.
 #[derive(Drop)]
 pub struct Line<'a> {
+    /// Where texts and lists are allocated.
     pub alloc: Global,
+    /// The words, without the tabs between them.
     pub words: &'a [String],
+    /// The first fault, if there is one.
     pub fault: Option<RowError>,
 }
 

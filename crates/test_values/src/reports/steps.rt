@@ -3,27 +3,49 @@
 /// What a line does with a report.
 #[derive(Clone, Copy)]
 pub enum Step {
+    /// It begins another report.
     Begin,
+    /// It adds a source.
     Source,
+    /// It sets what was requested.
     Asked,
+    /// It sets that the triple of the host is only assumed.
     Assumed,
+    /// It sets the command.
     Command,
+    /// It adds a test.
     Test,
+    /// It sets whether the last test runs.
     Runs,
+    /// It marks the last test as ignored.
     Ignored,
+    /// It adds a setting to the last test.
     Setting,
+    /// It adds a rule.
     Rule,
+    /// It adds a leaf of the configuration.
     Entry,
+    /// It adds a rule that holds for no test.
     Unused,
+    /// It sets the setup scripts of a list.
     Setup,
+    /// It adds the list wrapper of a binary.
     ListWrapper,
+    /// It sets a condition of the last rule.
     Condition,
+    /// It sets the value of the last setting, rule or leaf.
     Value,
+    /// It adds a member to the table that is the last value.
     Field,
+    /// It sets where the last setting, rule or leaf comes from.
     Origin,
+    /// It adds a finding.
     Finding,
+    /// It adds findings that are alike.
     Findings,
+    /// It sets a part of the last finding.
     PartOfFinding,
+    /// It adds checks that were not reached.
     Unreached,
 }
 
