@@ -1,4 +1,7 @@
 //! The lines of a text that show parts of it.
+ghost use Rattle.std.specs.Prelude.{◌≡◌, IfOk, map, ◌≤◌, All};
+ghost use Rattle.rinqebo_faults.specs.Lines.{character_at, indent_of, last_shown, parts_on, shown_line, shown_lines, span_on, with_part};
+
 use rinqebo_report::{CharSpan, LinePart, Range, Sign, SourceLine};
 use std::alloc::{AllocError, Global};
 
@@ -15,7 +18,9 @@ pub struct Mark {
 }
 
 /// Returns the last line that is shown of a range: its first one, if it has too many.
-fn last_shown(range: Range) -> u64 {
+fn last_shown(range: Range) -> u64
+    ensures { result ≡ last_shown range }
+{
     let lines = range.end.line.saturating_sub(range.start.line);
     if lines < MOST_LINES as u64 {
         range.end.line
@@ -25,17 +30,23 @@ fn last_shown(range: Range) -> u64 {
 }
 
 /// Returns the place of a column, which counts from 1, among the characters of a line.
-fn character_at(column: u64) -> usize {
+fn character_at(column: u64) -> usize
+    ensures { result ≡ character_at column }
+{
     column.saturating_sub(1) as usize
 }
 
 /// Returns how many characters of a line are before the first that is not white space.
-pub fn indent_of(line: &str) -> usize {
+pub fn indent_of(line: &str) -> usize
+    ensures { result ≡ indent_of line.now }
+{
     line.chars().take_while(|c| c.is_whitespace()).count()
 }
 
 /// Returns the characters of a line that lie in a range, if it reaches the line and is shown there.
-fn span_on(range: Range, number: u64, line: &str) -> Option<CharSpan> {
+fn span_on(range: Range, number: u64, line: &str) -> Option<CharSpan>
+    ensures { result ≡ span_on range number line.now }
+{
     if number < range.start.line || number > last_shown(range) {
         return None;
     }
@@ -54,7 +65,11 @@ fn span_on(range: Range, number: u64, line: &str) -> Option<CharSpan> {
 
 /// Adds a part of a line, and the blank part before it, unless the parts so far reach behind its
 /// start.
-fn add_part(parts: &mut Vec<LinePart>, end: usize, part: LinePart) -> Result<usize, AllocError> {
+fn add_part(parts: &mut Vec<LinePart>, end: usize, part: LinePart) -> Result<usize, AllocError>
+    ensures { IfOk result (λ reached.
+        with_part (record { parts = parts.old.items; end = end }) part
+        ≡ record { parts = parts.new.items; end = reached }) }
+{
     let span = part.span;
     if span.from < end {
         return Ok(end);
@@ -79,7 +94,9 @@ fn parts_of(
     marks: &[Mark],
     number: u64,
     line: &str,
-) -> Result<Vec<LinePart>, AllocError> {
+) -> Result<Vec<LinePart>, AllocError>
+    ensures { IfOk result (λ parts. parts.items ≡ (parts_on marks.now number line.now).parts) }
+{
     let mut parts = Vec::new(alloc);
     let mut end = 0usize;
     for mark in marks {
@@ -92,7 +109,9 @@ fn parts_of(
 }
 
 /// Returns the last line that is shown of some parts of a file.
-fn last_line(marks: &[Mark]) -> u64 {
+fn last_line(marks: &[Mark]) -> u64
+    ensures { All (λ mark. last_shown mark.range ≤ result) marks.now }
+{
     let mut last = 0u64;
     for mark in marks {
         last = last.max(last_shown(mark.range));
@@ -102,7 +121,9 @@ fn last_line(marks: &[Mark]) -> u64 {
 
 /// Returns the lines of a text that show marks, three at most. Marks come in the order of their
 /// starts.
-pub fn lines_of(alloc: Global, text: &str, marks: &[Mark]) -> Result<Vec<SourceLine>, AllocError> {
+pub fn lines_of(alloc: Global, text: &str, marks: &[Mark]) -> Result<Vec<SourceLine>, AllocError>
+    ensures { IfOk result (λ shown. map shown_line shown.items ≡ shown_lines marks.now text.now) }
+{
     let mut shown = Vec::new(alloc);
     let last = last_line(marks);
     let mut number = 0u64;

@@ -1,5 +1,9 @@
 //! What is wrong with lines that are not TOML, in words: what is there, what is expected, and what
 //! is meant, where that is plain.
+ghost use Rattle.std.specs.Prelude.{◌≡◌, IfOk, option_map, string_bytes};
+ghost use Rattle.std.specs.Option.{option_copied};
+ghost use Rattle.rinqebo_faults.specs.BadLines.{defined, defines, expected_of, first_definition, is_second, len_there, line_front, line_rest, there, wanted_in, word_at, wrong, is_end};
+
 use crate::worded::first_of;
 use crate::words::owned;
 use std::alloc::{AllocError, Global};
@@ -39,7 +43,10 @@ pub struct LineWords {
 
 impl<'t> BadLine<'t> {
     /// The line before the fault, and from there on.
-    fn parted(self) -> (&'t str, &'t str) {
+    fn parted(self) -> (&'t str, &'t str)
+        ensures front { result.0.now ≡ line_front self.entry.line.now self.entry.column }
+        ensures rest { result.1.now ≡ line_rest self.entry.line.now self.entry.column }
+    {
         match self.line.char_indices().nth(self.column) {
             Some((at, _)) => (
                 self.line.get(..at).unwrap_or(""),
@@ -50,13 +57,17 @@ impl<'t> BadLine<'t> {
     }
 
     /// What is expected, as the reader of TOML words it.
-    fn expected(self) -> Option<&'t str> {
+    fn expected(self) -> Option<&'t str>
+        ensures { option_copied result ≡ expected_of self.entry.reason.now }
+    {
         let (_wrong, expected) = self.reason.split_once(", expected ")?;
         Some(expected)
     }
 
     /// What is wrong, as the reader of TOML words it.
-    fn wrong(self) -> &'t str {
+    fn wrong(self) -> &'t str
+        ensures { result.now ≡ wrong self.entry.reason.now }
+    {
         match self.reason.split_once(", expected ") {
             Some((wrong, _expected)) => wrong,
             None => self.reason,
@@ -64,12 +75,16 @@ impl<'t> BadLine<'t> {
     }
 
     /// Whether the line defines what is defined before it.
-    pub fn is_second(self) -> bool {
+    pub fn is_second(self) -> bool
+        ensures { result ≡ is_second self.entry.reason.now }
+    {
         self.reason == "duplicate key"
     }
 
     /// What the line defines: a header with its brackets, or the key at the fault.
-    pub fn defined(self) -> &'t str {
+    pub fn defined(self) -> &'t str
+        ensures { result.now ≡ defined self.entry.line.now self.entry.column }
+    {
         let start = self.line.trim();
         if start.starts_with('[') {
             return start;
@@ -88,12 +103,16 @@ fn is_curly(c: char) -> bool {
 }
 
 /// Whether a character ends a word of a line.
-fn is_end(c: char) -> bool {
+fn is_end(c: char) -> bool
+    ensures { result ≡ is_end c }
+{
     c.is_whitespace() || c == ',' || c == ']' || c == '}' || c == '#'
 }
 
 /// The word that a text begins with, or its first character.
-fn word_at(text: &str) -> &str {
+fn word_at(text: &str) -> &str
+    ensures { result.now ≡ word_at text.now }
+{
     for (at, c) in text.char_indices() {
         if is_end(c) {
             return text.get(..at.max(first_of(text).len())).unwrap_or(text);
@@ -180,7 +199,10 @@ fn line_help(alloc: Global, bad: BadLine<'_>) -> Result<Option<String>, AllocErr
 }
 
 /// What is there that is wrong, in words, given the line from the fault on.
-fn there(alloc: Global, bad: BadLine<'_>, rest: &str) -> Result<String, AllocError> {
+fn there(alloc: Global, bad: BadLine<'_>, rest: &str) -> Result<String, AllocError>
+    ensures { IfOk result (λ message. string_bytes message
+        ≡ there bad.entry.line.now bad.entry.column bad.entry.reason.now rest.now) }
+{
     let wrong = bad.wrong();
     if rest.is_empty() {
         return format!(in alloc; "{wrong} at the end of the line");
@@ -198,7 +220,10 @@ fn there(alloc: Global, bad: BadLine<'_>, rest: &str) -> Result<String, AllocErr
 }
 
 /// How many characters are wrong, given the line from the fault on.
-fn len_there(bad: BadLine<'_>, rest: &str) -> usize {
+fn len_there(bad: BadLine<'_>, rest: &str) -> usize
+    ensures { result
+        ≡ len_there bad.entry.line.now bad.entry.column bad.entry.reason.now rest.now }
+{
     if rest.is_empty() || bad.wrong() == ESCAPE {
         return 1;
     }
@@ -209,7 +234,9 @@ fn len_there(bad: BadLine<'_>, rest: &str) -> usize {
 }
 
 /// What is expected in a line.
-fn wanted<'t>(bad: BadLine<'t>) -> Option<&'t str> {
+fn wanted<'t>(bad: BadLine<'t>) -> Option<&'t str>
+    ensures { option_copied result ≡ wanted_in bad.entry.reason.now }
+{
     match bad.reason {
         "duplicate key" => Some("one definition"),
         "invalid escape sequence" => Some("an escape of TOML, as `\\\\` for a backslash"),
@@ -219,7 +246,15 @@ fn wanted<'t>(bad: BadLine<'t>) -> Option<&'t str> {
 }
 
 /// What is wrong with a line, in words.
-pub fn line_words(alloc: Global, bad: BadLine<'_>) -> Result<LineWords, AllocError> {
+pub fn line_words(alloc: Global, bad: BadLine<'_>) -> Result<LineWords, AllocError>
+    ensures len { IfOk result (λ words. words.len ≡ len_there bad.entry.line.now bad.entry.column
+        bad.entry.reason.now (line_rest bad.entry.line.now bad.entry.column)) }
+    ensures message { IfOk result (λ words. string_bytes words.message
+        ≡ there bad.entry.line.now bad.entry.column bad.entry.reason.now
+        (line_rest bad.entry.line.now bad.entry.column)) }
+    ensures expected { IfOk result (λ words. option_map string_bytes words.expected
+        ≡ wanted_in bad.entry.reason.now) }
+{
     let (_before, rest) = bad.parted();
     Ok(LineWords {
         len: len_there(bad, rest),
@@ -230,7 +265,9 @@ pub fn line_words(alloc: Global, bad: BadLine<'_>) -> Result<LineWords, AllocErr
 }
 
 /// Whether a line defines a key.
-fn defines(line: &str, key: &str) -> bool {
+fn defines(line: &str, key: &str) -> bool
+    ensures { result ≡ defines line.now key.now }
+{
     match line.split_once('=') {
         Some((own, _value)) => own.trim() == key,
         None => false,
@@ -239,7 +276,9 @@ fn defines(line: &str, key: &str) -> bool {
 
 /// The place, among the lines of a text before another one, of the one that first defines a header
 /// or a key. A key is defined in the same table.
-pub fn first_definition(text: &str, end: usize, defined: &str) -> Option<usize> {
+pub fn first_definition(text: &str, end: usize, defined: &str) -> Option<usize>
+    ensures { result ≡ first_definition text.now end defined.now }
+{
     let is_header = defined.starts_with('[');
     let mut first = None;
     for (place, line) in text.lines().enumerate() {

@@ -1,11 +1,16 @@
 //! Positions in texts, and the parts of refused texts, as reports have them.
+ghost use Rattle.std.specs.Prelude.{◌≡◌, IfOk, IfSome};
+ghost use Rattle.rinqebo_faults.specs.Positions.{char_span, characters_before, IsExpression, IsRangeIn, IsWrittenAt, position_behind};
+
 use nextest_places::offsets_of;
 use rinqebo_report::{CharSpan, Position, Range as ReportRange, RefusedExpression};
 use std::alloc::{AllocError, Global};
 use std::ops::Range;
 
 /// How many characters are before a byte of a text.
-fn characters_before(text: &str, byte: usize) -> usize {
+fn characters_before(text: &str, byte: usize) -> usize
+    ensures { result ≡ characters_before text.now byte }
+{
     text.char_indices().filter(|(at, _)| *at < byte).count()
 }
 
@@ -14,7 +19,10 @@ pub fn expression(
     alloc: Global,
     text: &str,
     bytes: &Range<usize>,
-) -> Result<RefusedExpression, AllocError> {
+) -> Result<RefusedExpression, AllocError>
+    ensures { IfOk result (λ expression. IsExpression text.now bytes.now.start bytes.now.end
+        expression) }
+{
     Ok(RefusedExpression {
         text: String::from_str(alloc, text)?,
         span: Some(CharSpan {
@@ -25,7 +33,9 @@ pub fn expression(
 }
 
 /// Returns the position behind a text that starts at a position.
-fn position_behind(start: Position, text: &str) -> Position {
+fn position_behind(start: Position, text: &str) -> Position
+    ensures { result ≡ position_behind start text.now }
+{
     let mut behind = start;
     for c in text.chars() {
         behind = match c {
@@ -44,7 +54,9 @@ fn position_behind(start: Position, text: &str) -> Position {
 
 /// Returns the position at which a token writes the character of its string at a place, given the
 /// bytes at which it writes each.
-fn position_of(start: Position, token: &str, offsets: &[usize], place: usize) -> Option<Position> {
+fn position_of(start: Position, token: &str, offsets: &[usize], place: usize) -> Option<Position>
+    ensures { IfSome result (λ at. IsWrittenAt start token.now offsets.now place at) }
+{
     Some(position_behind(start, token.get(..*offsets.get(place)?)?))
 }
 
@@ -55,7 +67,9 @@ pub fn range_in(
     start: Position,
     token: &str,
     span: CharSpan,
-) -> Result<Option<ReportRange>, AllocError> {
+) -> Result<Option<ReportRange>, AllocError>
+    ensures { IfOk result (λ found. IfSome found (λ range. IsRangeIn start token.now span range)) }
+{
     let Some(offsets) = offsets_of(alloc, token)? else {
         return Ok(None);
     };
@@ -69,7 +83,9 @@ pub fn range_in(
 }
 
 /// The characters of a text between two bytes.
-pub fn char_span(text: &str, start: usize, end: usize) -> CharSpan {
+pub fn char_span(text: &str, start: usize, end: usize) -> CharSpan
+    ensures { result ≡ char_span text.now start end }
+{
     CharSpan {
         from: characters_before(text, start),
         to: characters_before(text, end),
