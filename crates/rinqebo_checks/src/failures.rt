@@ -81,6 +81,7 @@ fn test_report(
 ) -> Result<Report, AllocError> {
     let mut found = request_finding(alloc, code, &[], message)?;
     found.path = None;
+    found.steps = Vec::new(alloc);
     found.help = help;
     let mut findings = Vec::new(alloc);
     findings.push(found)?;
