@@ -23,10 +23,10 @@ behind_text part (b ∷ bs) =
 -- ---- the line
 
 -- a line before so many characters, and from there on
-abbrev pub line_front : List ℕ → ℕ → List ℕ
+unfoldable pub line_front : List ℕ → ℕ → List ℕ
 line_front line column = encode_utf8_all (take column (chars line))
 
-abbrev pub line_rest : List ℕ → ℕ → List ℕ
+unfoldable pub line_rest : List ℕ → ℕ → List ℕ
 line_rest line column = encode_utf8_all (drop column (chars line))
 
 -- the bytes of `=`, `[` and `"`
@@ -41,28 +41,28 @@ abbrev pub defined_by : (line rest : List ℕ) → List ℕ
 defined_by line rest =
     if is_header line then line else trim (before_first is_equals rest)
 
-abbrev pub defined : (line : List ℕ) → (column : ℕ) → List ℕ
+unfoldable pub defined : (line : List ℕ) → (column : ℕ) → List ℕ
 defined line column = defined_by (trim line) (line_rest line column)
 
 -- a reason is that something is defined a second time, or a bad escape, as the reader of TOML words
 -- these
-abbrev pub is_second : List ℕ → Bool
+unfoldable pub is_second : List ℕ → Bool
 is_second reason = bytes_eq reason (codes "duplicate key")
 
 abbrev pub bad_escape : List ℕ
 bad_escape = codes "invalid escape sequence"
 
 -- what is wrong and what is expected, as the reader of TOML words it
-abbrev pub wrong : List ℕ → List ℕ
+unfoldable pub wrong : List ℕ → List ℕ
 wrong reason = before_text (codes ", expected ") reason
 
-abbrev pub expected_of : List ℕ → Option (List ℕ)
+unfoldable pub expected_of : List ℕ → Option (List ℕ)
 expected_of reason = behind_text (codes ", expected ") reason
 
 -- ---- where it is defined first
 
 -- a line defines a key
-abbrev pub defines : (line key : List ℕ) → Bool
+unfoldable pub defines : (line key : List ℕ) → Bool
 defines line key =
     list_any is_equals line && bytes_eq (trim (before_first is_equals line)) key
 
@@ -86,7 +86,7 @@ key_place first place key (line ∷ lines) =
 
 -- the place, among so many first lines of a text, of the one that first defines a header or a key:
 -- a key is defined in the same table
-abbrev pub first_definition : (text : List ℕ) → (end : ℕ) → (defined : List ℕ) → Option ℕ
+unfoldable pub first_definition : (text : List ℕ) → (end : ℕ) → (defined : List ℕ) → Option ℕ
 first_definition text end defined =
     if is_header defined then header_place 0 defined (map trim (take end (lines text)))
     else key_place None 0 defined (map trim (take end (lines text)))
@@ -100,7 +100,7 @@ earlier_definition text place line column reason =
 -- ---- words
 
 -- a character ends a word of a line
-abbrev pub is_end : ℕ → Bool
+unfoldable pub is_end : ℕ → Bool
 is_end c = is_whitespace c || (c == 44 || (c == 93 || (c == 125 || c == 35)))
 
 -- how many characters a word has: one at least
@@ -109,11 +109,11 @@ word_len cs =
     if prefix_len (λ c. not (is_end c)) cs == 0 then 1 else prefix_len (λ c. not (is_end c)) cs
 
 -- the word that a text begins with, or its first character
-abbrev pub word_at : List ℕ → List ℕ
+unfoldable pub word_at : List ℕ → List ℕ
 word_at text = encode_utf8_all (take (word_len (chars text)) (chars text))
 
 -- what is there that is wrong, in words, given the line from the fault on
-abbrev pub there : (line : List ℕ) → (column : ℕ) → (reason rest : List ℕ) → List ℕ
+unfoldable pub there : (line : List ℕ) → (column : ℕ) → (reason rest : List ℕ) → List ℕ
 there line column reason rest =
     if length rest == 0 then wrong reason ++ codes " at the end of the line"
     else if is_second reason
@@ -123,14 +123,14 @@ there line column reason rest =
     else wrong reason ++ (codes ": " ++ backquoted (word_at rest))
 
 -- how many characters are wrong, given the line from the fault on
-abbrev pub len_there : (line : List ℕ) → (column : ℕ) → (reason rest : List ℕ) → ℕ
+unfoldable pub len_there : (line : List ℕ) → (column : ℕ) → (reason rest : List ℕ) → ℕ
 len_there line column reason rest =
     if length rest == 0 || bytes_eq (wrong reason) bad_escape then 1
     else if is_second reason then length (chars (defined line column))
     else length (chars (word_at rest))
 
 -- what is expected in a line
-abbrev pub wanted_in : List ℕ → Option (List ℕ)
+unfoldable pub wanted_in : List ℕ → Option (List ℕ)
 wanted_in reason =
     if is_second reason then Some (codes "one definition")
     else if bytes_eq reason bad_escape

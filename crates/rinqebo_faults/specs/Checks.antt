@@ -83,5 +83,5 @@ is_after None check = true
 is_after (Some reached) check = nat_lt (check_place reached) (check_place check)
 
 -- the checks after the last one that was reached
-abbrev pub checks_after : Option Check → List Check
+unfoldable pub checks_after : Option Check → List Check
 checks_after reached = filter (is_after reached) all_checks

@@ -10,13 +10,13 @@ use Rattle.rinqebo_faults.specs.declared.left_out.LeftOut.{LeftOut}
 use Rattle.rinqebo_faults.specs.declared.left_out.Names.{Names}
 
 -- a path below another one, both as marks
-abbrev pub mark_below : List ℕ → PathStep → List ℕ
+unfoldable pub mark_below : List ℕ → PathStep → List ℕ
 mark_below mark (paths.key key) =
     mark ++ (codes "/" ++ (decimal (length key) ++ (codes ":" ++ key)))
 mark_below mark (paths.position place) = mark ++ (codes "/" ++ decimal place)
 
 -- the mark of a path in the source at a place among the layers
-abbrev pub mark_of : ℕ → List PathStep → List ℕ
+unfoldable pub mark_of : ℕ → List PathStep → List ℕ
 mark_of place path = fold mark_below (decimal place) path
 
 -- names: whether any may be one of these, and which are
@@ -25,7 +25,7 @@ pub record NamesView : Type 0 where
   pub named : List ℕ → Bool
 
 -- the names that `Names` are
-abbrev pub names_view : Names → NamesView
+unfoldable pub names_view : Names → NamesView
 names_view names = record { any = names.is_any; named = contains_text names.names }
 
 -- no names
@@ -33,7 +33,7 @@ abbrev pub no_names : NamesView
 no_names = record { any = false; named = λ name. false }
 
 -- one name more
-abbrev pub with_name : List ℕ → NamesView → NamesView
+unfoldable pub with_name : List ℕ → NamesView → NamesView
 with_name name names =
     record { any = names.any; named = λ other. cond (bytes_eq name other) true (names.named other) }
 
@@ -52,7 +52,7 @@ pub record LeftOutView : Type 0 where
   pub scripts : NamesView
   pub rules : NamesView
 
-abbrev pub left_out_view : LeftOut → LeftOutView
+unfoldable pub left_out_view : LeftOut → LeftOutView
 left_out_view left_out =
     record {
       groups = names_view left_out.groups;
@@ -73,7 +73,7 @@ pub record EditsView : Type 0 where
   pub left_out : LeftOutView
 
 -- the edits that `Edits` are
-abbrev pub edits_view : Edits → EditsView
+unfoldable pub edits_view : Edits → EditsView
 edits_view edits =
     record {
       removed = contains_text edits.removed;
@@ -121,7 +121,7 @@ entries_with entry None = entry
 entries_with entry (Some entries) = entry ++ (codes ", " ++ entries)
 
 -- edits, and one more
-abbrev pub with_edit : EditsView → Edit → EditsView
+unfoldable pub with_edit : EditsView → Edit → EditsView
 with_edit edits (remove mark) =
     record edits { removed = λ other. cond (bytes_eq mark other) true (edits.removed other) }
 with_edit edits (replace mark text) =

@@ -24,11 +24,11 @@ abbrev pub no_settings : List ℕ
 no_settings = codes "{}"
 
 -- a key is one of two
-abbrev pub is_either : List ℕ → (one other : List ℕ) → Bool
+unfoldable pub is_either : List ℕ → (one other : List ℕ) → Bool
 is_either key one other = bytes_eq key one || bytes_eq key other
 
 -- a value that a key takes which tables have to have
-abbrev pub sound_value : List ℕ → Option (List ℕ)
+unfoldable pub sound_value : List ℕ → Option (List ℕ)
 sound_value key =
     if is_either key (codes "max-threads") (codes "count") then Some (codes "1")
     else if is_either key (codes "command") (codes "command-line") then Some (codes "\"true\"")
@@ -39,7 +39,7 @@ sound_value key =
     else None
 
 -- a key that tables have to have, with a value that it takes
-abbrev pub sound_entry : List ℕ → Option (List ℕ)
+unfoldable pub sound_entry : List ℕ → Option (List ℕ)
 sound_entry key =
     if bytes_eq key (codes "max-threads") then Some (codes "max-threads = 1")
     else if bytes_eq key (codes "command") then Some (codes "command = \"true\"")
@@ -65,14 +65,14 @@ sound_edit place path (Some text) = replacement place path text
 
 -- a value is read in place of one that its table has to have, or the one at the path is left out:
 -- the path is cut before a place, if it reaches that
-abbrev pub needed_edit : ℕ → List Step → ℕ → Edit
+unfoldable pub needed_edit : ℕ → List Step → ℕ → Edit
 needed_edit place path end =
     if nat_lt (length path) end then removal place path
     else sound_edit place (take end path)
     (option_and_then sound_value (key_at (take end path) (length (take end path) - 1)))
 
 -- the last key of a path is this text
-abbrev pub ends_with_key : List Step → List ℕ → Bool
+unfoldable pub ends_with_key : List Step → List ℕ → Bool
 ends_with_key path text = not (length path == 0) && has_key path (length path - 1) text
 
 -- the last key of a path is a name that is refused
@@ -81,12 +81,12 @@ is_bad_name (causes.BadValue given expected) path = ends_with_key path (string_b
 is_bad_name cause path = false
 
 -- a group or a script is left out, or a sound one is read in its place
-abbrev pub table_edit : ℕ → ElementCause → List Step → List ℕ → Edit
+unfoldable pub table_edit : ℕ → ElementCause → List Step → List ℕ → Edit
 table_edit place cause path sound =
     if is_bad_name cause path then removal place path else replacement place path sound
 
 -- a value of a script whose path has so many steps
-abbrev pub script_edits : ℕ → ElementCause → List Step → ℕ → List Edit
+unfoldable pub script_edits : ℕ → ElementCause → List Step → ℕ → List Edit
 script_edits place cause path steps =
     if nat_lt (length path) steps then omit_scripts ∷ removal place path ∷ []
     else if length path == steps then table_edit place cause path sound_script ∷ []
@@ -94,24 +94,24 @@ script_edits place cause path steps =
     else needed_edit place path (length path) ∷ []
 
 -- a value of a group, or of all
-abbrev pub group_edits : ℕ → ElementCause → List Step → List Edit
+unfoldable pub group_edits : ℕ → ElementCause → List Step → List Edit
 group_edits place cause path =
     if length path == 1 then omit_groups ∷ removal place path ∷ []
     else if length path == 2 then table_edit place cause path sound_group ∷ []
     else needed_edit place path (length path) ∷ []
 
 -- a key of a rule is one of its conditions
-abbrev pub is_condition : List Step → Bool
+unfoldable pub is_condition : List Step → Bool
 is_condition path =
     has_key path 4 (codes "filter") || (has_key path 4 (codes "default-filter")
     || has_key path 4 (codes "platform"))
 
 -- a path is one into the rules of a profile
-abbrev pub is_in_rules : List Step → Bool
+unfoldable pub is_in_rules : List Step → Bool
 is_in_rules path = has_key path 2 (codes "overrides") || has_key path 2 (codes "scripts")
 
 -- a value of a profile
-abbrev pub profile_edits : ℕ → List Step → List Edit
+unfoldable pub profile_edits : ℕ → List Step → List Edit
 profile_edits place path =
     if length path == 2 then replacement place path no_settings ∷ []
     else if is_in_rules path && length path == 4 then replacement place path sound_rule ∷ []
@@ -119,7 +119,7 @@ profile_edits place path =
     else needed_edit place path (length path) ∷ []
 
 -- a value that is refused is left out, or a sound one is read in its place
-abbrev pub value_edits : ℕ → ElementCause → List Step → List Edit
+unfoldable pub value_edits : ℕ → ElementCause → List Step → List Edit
 value_edits place cause path =
     if has_key path 0 (codes "test-groups") then group_edits place cause path
     else if has_key path 0 (codes "scripts") then script_edits place cause path 3
@@ -135,7 +135,7 @@ missing_edit place path (Some entry) =
     else add (mark_of place (map path_step path)) entry
 
 -- the script rules of a profile are noted, if a value of them is refused
-abbrev pub rules_note : List Step → List Edit
+unfoldable pub rules_note : List Step → List Edit
 rules_note path =
     if has_key path 0 (codes "profile") && (is_some (key_at path 1)
     && has_key path 2 (codes "scripts"))
@@ -153,7 +153,7 @@ abbrev pub element_edits : ℕ → ElementCause → List Step → List Edit
 element_edits place cause path = rules_note path ++ cause_edits place cause path
 
 -- how many steps lead to the setting that a path is in
-abbrev pub setting_steps : List Step → ℕ
+unfoldable pub setting_steps : List Step → ℕ
 setting_steps path =
     if has_key path 0 (codes "profile") && is_in_rules path then 5
     else if has_key path 0 (codes "profile") || has_key path 0 (codes "scripts") then 3
@@ -161,7 +161,7 @@ setting_steps path =
     else 1
 
 -- the setting that a path is in is left out, or what is at the path, if that is shorter
-abbrev pub setting_edit : ℕ → List Step → Edit
+unfoldable pub setting_edit : ℕ → List Step → Edit
 setting_edit place path =
     if nat_lt (length path) (setting_steps path) then removal place path
     else removal place (take (setting_steps path) path)

@@ -48,7 +48,7 @@ text_there name given =
     else name ++ (codes " is " ++ backquoted given)
 
 -- a text that is not taken: the text, or the name that it is
-abbrev pub bad_text : List ℕ → List ℕ → Option Node → List ℕ
+unfoldable pub bad_text : List ℕ → List ℕ → Option Node → List ℕ
 bad_text name given found =
     if is_text found given then text_there name given
     else backquoted given ++ codes " is not a valid name here"
@@ -71,7 +71,7 @@ words_or (Some words) other = words
 
 -- what is expected in place of a text that is refused, as the shape of a file has it, or else as a
 -- reader words it: the text is the value at the path, or else the key that ends it
-abbrev pub wanted_text : Option Node → List Step → (given expected : List ℕ) → List ℕ
+unfoldable pub wanted_text : Option Node → List Step → (given expected : List ℕ) → List ℕ
 wanted_text found path given expected =
     words_or (if is_text found given then expected_text path else expected_name path) expected
 
@@ -87,7 +87,7 @@ as_list None = []
 as_list (Some note) = note ∷ []
 
 -- the notes about the key at the end of a path, which its table refuses
-abbrev pub refused_notes : List Step → List (List ℕ)
+unfoldable pub refused_notes : List Step → List (List ℕ)
 refused_notes path =
     if length path == 0 then [] else as_list (keys_note (take (length path - 1) path))
 
@@ -115,7 +115,7 @@ spelled_by None path form = None
 spelled_by (Some node) path form = spelling form node (header_text path)
 
 -- how the value at a path is meant to be spelled, where that is plain
-abbrev pub spelled : Option Node → List Step → Option (List ℕ)
+unfoldable pub spelled : Option Node → List Step → Option (List ℕ)
 spelled found path = option_and_then (spelled_by found path) (wanted_at path)
 
 -- What to do about a text that is refused: a word that is near is meant, or else the text is meant

@@ -129,11 +129,11 @@ expected_by causes.UnknownField form = None
 expected_by causes.Memory form = None
 
 -- what is expected at a path in place of a value that is refused, if the shape of a file has it
-abbrev pub expected_at : ElementCause → List Step → Option (List ℕ)
+unfoldable pub expected_at : ElementCause → List Step → Option (List ℕ)
 expected_at cause path = option_and_then (expected_by cause) (wanted_at path)
 
 -- what is expected at a path in place of a string that is refused, if the shape of a file has it
-abbrev pub expected_text : List Step → Option (List ℕ)
+unfoldable pub expected_text : List Step → Option (List ℕ)
 expected_text path = option_and_then all_words (wanted_at path)
 
 -- what a name of a map is, in words
@@ -147,7 +147,7 @@ name_below table name = option_and_then name_words (wanted_at table)
 
 -- what is expected in place of the key at the end of a path, which is a name, if the shape of a
 -- file has it
-abbrev pub expected_name : List Step → Option (List ℕ)
+unfoldable pub expected_name : List Step → Option (List ℕ)
 expected_name path =
     option_and_then (name_below (take (length path - 1) path))
     (option_and_then key_of (slice_get path (length path - 1)))

@@ -13,7 +13,7 @@ abbrev pub value_at : Option Node → List ℕ → Option Node
 value_at file key = option_and_then (member_of key) file
 
 -- the kind of scripts that a feature switches on
-abbrev pub kind_of_feature : List ℕ → List ℕ
+unfoldable pub kind_of_feature : List ℕ → List ℕ
 kind_of_feature feature =
     if ends_with nat_eq feature (codes "-scripts") then take (length feature - 8) feature
     else feature
@@ -45,7 +45,7 @@ listed_features (Some (Node.array ns)) = texts_of ns
 listed_features listed = []
 
 -- a list of TOML, and one name more
-abbrev pub with_quoted : List ℕ → List ℕ → List ℕ
+unfoldable pub with_quoted : List ℕ → List ℕ → List ℕ
 with_quoted list name =
     (if length list == 0 then [] else list ++ codes ", ") ++ (codes "\"" ++ (name ++ codes "\""))
 
@@ -54,7 +54,7 @@ abbrev pub quoted_list : List (List ℕ) → List ℕ
 quoted_list names = fold with_quoted [] names
 
 -- the features that a file lists, and those that it lacks, as a list of TOML has them
-abbrev pub feature_list : Option Node → List ConfigExperimental → List ℕ
+unfoldable pub feature_list : Option Node → List ConfigExperimental → List ℕ
 feature_list listed missing =
     quoted_list (listed_features listed ++ map experimental_text missing)
 

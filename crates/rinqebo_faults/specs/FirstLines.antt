@@ -8,7 +8,7 @@ use Rattle.rinqebo_faults.specs.Lines.{indent_of, ShownLine, shown_lines}
 use Rattle.rinqebo_faults.specs.TomlLines.{from_one, range_from}
 
 -- the range of a line, from 0, without the blanks around it
-abbrev pub line_range : List ℕ → ℕ → Range
+unfoldable pub line_range : List ℕ → ℕ → Range
 line_range line place =
     range_from (record { line = from_one place; column = from_one (indent_of line) })
     (length (chars (trim line)))

@@ -15,11 +15,11 @@ abbrev pub is_special : ℕ → Bool
 is_special c = c == 34 || c == 92
 
 -- a key is written without quotes
-abbrev pub is_bare_key : List ℕ → Bool
+unfoldable pub is_bare_key : List ℕ → Bool
 is_bare_key key = not (length key == 0) && list_all is_bare (chars key)
 
 -- a key as a header has it: in quotes, where it needs some
-abbrev pub header_key : List ℕ → List ℕ
+unfoldable pub header_key : List ℕ → List ℕ
 header_key key =
     if is_bare_key key then key
     else if list_any is_special (chars key) then codes "'" ++ (key ++ codes "'")
@@ -31,7 +31,7 @@ dotted_keys [] = []
 dotted_keys (key ∷ keys) = codes "." ++ (header_key key ++ dotted_keys keys)
 
 -- keys with dots between them
-abbrev pub header_of : List (List ℕ) → List ℕ
+unfoldable pub header_of : List (List ℕ) → List ℕ
 header_of [] = []
 header_of (key ∷ keys) = header_key key ++ dotted_keys keys
 

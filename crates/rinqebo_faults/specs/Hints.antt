@@ -9,7 +9,7 @@ use Rattle.rinqebo_report.specs.Hints.{distance, reach, IsNearest}
 use Rattle.rinqebo_faults.specs.Shapes.{wanted_at}
 
 -- one of two texts, which has three bytes at least, begins the other
-abbrev pub begins : (one other : List ℕ) → Bool
+unfoldable pub begins : (one other : List ℕ) → Bool
 begins one other =
     nat_le 3 (min (length one) (length other))
     && (starts_with nat_eq one other || starts_with nat_eq other one)
@@ -25,13 +25,13 @@ abbrev pub are_among : List ℕ → List ℕ → Bool
 are_among cs others = list_all (λ c. list_any (λ d. d == c) others) cs
 
 -- two texts are the same but for two characters that are swapped
-abbrev pub is_swapped : (one other : List ℕ) → Bool
+unfoldable pub is_swapped : (one other : List ℕ) → Bool
 is_swapped one other =
     length one == length other && (differences (chars one) (chars other) == 2
     && (are_among (chars one) (chars other) && are_among (chars other) (chars one)))
 
 -- two names differ as names do that are mistaken: in case, or by swapped characters
-abbrev pub is_mistaken : (name known : List ℕ) → Bool
+unfoldable pub is_mistaken : (name known : List ℕ) → Bool
 is_mistaken name known = str_eq_ignore_ascii_case name known || is_swapped name known
 
 -- the texts behind references

@@ -16,13 +16,13 @@ abbrev pub most_lines : ℕ
 most_lines = 3
 
 -- the last line that is shown of a range: its first one, if it has too many
-abbrev pub last_shown : Range → ℕ
+unfoldable pub last_shown : Range → ℕ
 last_shown range =
     if nat_lt (range.end.line - range.start.line) most_lines then range.end.line
     else range.start.line
 
 -- how many characters of a line are before the first that is not white space
-abbrev pub indent_of : List ℕ → ℕ
+unfoldable pub indent_of : List ℕ → ℕ
 indent_of line = prefix_len is_whitespace (chars line)
 
 -- the place of a column, which counts from 1, among the characters of a line
@@ -39,7 +39,7 @@ span_to range number line =
     if number == range.end.line then character_at range.end.column else length (chars line)
 
 -- the characters of a line that lie in a range, if it reaches the line and is shown there
-abbrev pub span_on : Range → ℕ → List ℕ → Option CharSpan
+unfoldable pub span_on : Range → ℕ → List ℕ → Option CharSpan
 span_on range number line =
     if nat_lt number range.start.line || nat_lt (last_shown range) number then None
     else Some (record { from = span_from range number line; to = span_to range number line })
@@ -56,7 +56,7 @@ blank from to =
     then record { sign = signs.Blank; span = record { from = from; to = to } } ∷ [] else []
 
 -- parts, and one more with the blank before it, unless they reach behind its start
-abbrev pub with_part : Parts → LinePart → Parts
+unfoldable pub with_part : Parts → LinePart → Parts
 with_part parts part =
     if nat_lt part.span.from parts.end then parts
     else record {
@@ -70,7 +70,7 @@ with_span parts mark None = parts
 with_span parts mark (Some span) = with_part parts (record { sign = mark.sign; span = span })
 
 -- the parts of a line that marks show
-abbrev pub parts_on : List Mark → ℕ → List ℕ → Parts
+unfoldable pub parts_on : List Mark → ℕ → List ℕ → Parts
 parts_on marks number line =
     fold (λ parts mark. with_span parts mark (span_on mark.range number line))
     (record { parts = []; end = 0 }) marks
@@ -94,7 +94,7 @@ shown_from marks number (line ∷ lines) =
     line_if number line (parts_on marks number line).parts ++ shown_from marks (number + 1) lines
 
 -- the first lines of a text of which marks show a part, three at most
-abbrev pub shown_lines : List Mark → List ℕ → List ShownLine
+unfoldable pub shown_lines : List Mark → List ℕ → List ShownLine
 shown_lines marks text = take most_lines (shown_from marks 1 (lines text))
 
 -- what a line of a report shows

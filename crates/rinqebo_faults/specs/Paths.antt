@@ -33,7 +33,7 @@ section_path profile (sections.Script index) =
     profile_path profile (codes "scripts") ++ paths.position index ∷ []
 
 -- a file has a script of a kind
-abbrev pub has_script : Node → (kind name : List ℕ) → Bool
+unfoldable pub has_script : Node → (kind name : List ℕ) → Bool
 has_script file kind name =
     is_some (option_and_then (member_of name)
     (option_and_then (member_of kind) (member_of (codes "scripts") file)))

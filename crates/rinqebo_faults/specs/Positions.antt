@@ -15,7 +15,7 @@ starts_from at [] = []
 starts_from at (c ∷ cs) = at ∷ starts_from (at + len_utf8 c) cs
 
 -- how many characters of a text start before a byte
-abbrev pub characters_before : List ℕ → ℕ → ℕ
+unfoldable pub characters_before : List ℕ → ℕ → ℕ
 characters_before text byte = count_by (λ at. nat_lt at byte) (starts_from 0 (chars text))
 
 -- the characters of a text between two bytes
@@ -36,7 +36,7 @@ behind_char position c =
     else record { line = position.line; column = min (position.column + 1) greatest }
 
 -- the position behind a text that starts at a position
-abbrev pub position_behind : Position → List ℕ → Position
+unfoldable pub position_behind : Position → List ℕ → Position
 position_behind start text = fold behind_char start (chars text)
 
 -- A token that starts at a position writes the character of its string at a place at another

@@ -52,13 +52,13 @@ is_out_of_range form (Node.bool b) = false
 is_out_of_range form Node.opaque = false
 
 -- the last key of a path is none that its table knows
-abbrev pub is_unknown : Form → List Step → Bool
+unfoldable pub is_unknown : Form → List Step → Bool
 is_unknown file path =
     not (length path == 0) && (is_some (form_at (map key_of (take (length path - 1) path)) file)
     && is_none (form_at (map key_of path) file))
 
 -- a table has no such key
-abbrev pub lacks : Node → List ℕ → Bool
+unfoldable pub lacks : Node → List ℕ → Bool
 lacks node key = is_some (as_table node) && is_none (member_of key node)
 
 -- the value at the end of a path is refused by a form for a cause

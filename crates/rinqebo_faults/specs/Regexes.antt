@@ -20,7 +20,7 @@ ranged (Some from) c next =
     if next.in_class && nat_lt c from then Err (flaws.Range from c) else Ok next
 
 -- a character of a class is read
-abbrev pub within : Scan → ℕ → Result Scan Flaw
+unfoldable pub within : Scan → ℕ → Result Scan Flaw
 within scan c =
     if c == 45 then Ok (record scan { last = None; from = scan.last })
     else ranged scan.from c (record scan { in_class = not (c == 93); last = Some c; from = None })
@@ -32,7 +32,7 @@ closed scan =
     else Ok (record scan { depth = scan.depth - 1 })
 
 -- a character outside classes is read
-abbrev pub without : Scan → ℕ → Result Scan Flaw
+unfoldable pub without : Scan → ℕ → Result Scan Flaw
 without scan c =
     if c == 91 then Ok (record scan { in_class = true; last = None; from = None })
     else if c == 40 then Ok (record scan { depth = min (scan.depth + 1) greatest })
@@ -40,7 +40,7 @@ without scan c =
     else Ok scan
 
 -- a character is read: behind a backslash it stands for itself
-abbrev pub read : Scan → ℕ → Result Scan Flaw
+unfoldable pub read : Scan → ℕ → Result Scan Flaw
 read scan c =
     if scan.is_escaped || c == 92
     then Ok (record scan { is_escaped = not scan.is_escaped; last = None; from = None })
@@ -48,7 +48,7 @@ read scan c =
     else without scan c
 
 -- what is wrong at the end: a class or a group is open
-abbrev pub end_flaw : Scan → Option Flaw
+unfoldable pub end_flaw : Scan → Option Flaw
 end_flaw scan =
     if scan.in_class then Some flaws.OpenClass
     else if nat_lt 0 scan.depth then Some flaws.OpenGroup

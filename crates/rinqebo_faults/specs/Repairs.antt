@@ -134,7 +134,7 @@ abbrev pub sections_edits : ℕ → List ConfigCompileError → List Edit
 sections_edits place errors = flat_map (error_edits place) errors
 
 -- the text by which a name is found that rules of a profile have at a key
-abbrev pub naming_mark : (profile key name : List ℕ) → List ℕ
+unfoldable pub naming_mark : (profile key name : List ℕ) → List ℕ
 naming_mark profile key name =
     decimal (length profile) ++ (codes ":" ++ (profile ++ (codes " " ++ (key ++ (codes " " ++ name)))))
 

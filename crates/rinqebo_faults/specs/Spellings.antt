@@ -61,7 +61,7 @@ abbrev pub write : List ℕ → List ℕ
 write words = codes "write `" ++ (words ++ codes "`")
 
 -- the milliseconds of up to three digits behind a point
-abbrev pub milliseconds : List ℕ → Option ℕ
+unfoldable pub milliseconds : List ℕ → Option ℕ
 milliseconds digits =
     if length digits == 1 then Some (digits_value 10 digits * 100)
     else if length digits == 2 then Some (digits_value 10 digits * 10)
@@ -69,7 +69,7 @@ milliseconds digits =
     else None
 
 -- a text without the letter `s` at its end
-abbrev pub without_unit : List ℕ → List ℕ
+unfoldable pub without_unit : List ℕ → List ℕ
 without_unit text =
     if ends_with nat_eq text (codes "s") then take (length text - 1) text else text
 
@@ -80,12 +80,12 @@ seconds_and seconds (Some rest) =
     Some (write (codes "\"" ++ (seconds ++ (codes "s " ++ (decimal rest ++ codes "ms\"")))))
 
 -- seconds with digits behind a point, as a duration has them
-abbrev pub seconds_of : (seconds fraction : List ℕ) → Option (List ℕ)
+unfoldable pub seconds_of : (seconds fraction : List ℕ) → Option (List ℕ)
 seconds_of seconds fraction =
     if is_number seconds && is_number fraction then seconds_and seconds (milliseconds fraction)
     else None
 
-abbrev pub parted_seconds : List ℕ → Option (List ℕ)
+unfoldable pub parted_seconds : List ℕ → Option (List ℕ)
 parted_seconds text =
     if nat_lt (position_or_len (λ b. b == 46) (without_unit text)) (length (without_unit text))
     then seconds_of (before_first (λ b. b == 46) (without_unit text))
@@ -93,17 +93,17 @@ parted_seconds text =
     else None
 
 -- how a text is spelled where a duration is wanted
-abbrev pub duration_of : List ℕ → Option (List ℕ)
+unfoldable pub duration_of : List ℕ → Option (List ℕ)
 duration_of text =
     if is_number text then Some (write (codes "\"" ++ (text ++ codes "s\"")))
     else parted_seconds text
 
 -- a text is one of the booleans
-abbrev pub is_truth : List ℕ → Bool
+unfoldable pub is_truth : List ℕ → Bool
 is_truth text = bytes_eq text (codes "true") || bytes_eq text (codes "false")
 
 -- how a text is spelled that a form refuses
-abbrev pub spelled_text : Form → List ℕ → Option (List ℕ)
+unfoldable pub spelled_text : Form → List ℕ → Option (List ℕ)
 spelled_text form text =
     if takes (is_of wanted.Texts) form then Some (write (codes "[\"" ++ (text ++ codes "\"]")))
     else if takes (is_of wanted.Integer) form && is_number text then Some (write text)
@@ -112,13 +112,13 @@ spelled_text form text =
     else None
 
 -- how a number is spelled that a form refuses
-abbrev pub spelled_number : Form → ℤ → Option (List ℕ)
+unfoldable pub spelled_number : Form → ℤ → Option (List ℕ)
 spelled_number form number =
     if takes_duration form && not (int_lt number (pos 0))
     then Some (write (codes "\"" ++ (signed_decimal number ++ codes "s\""))) else None
 
 -- how a table at a header is spelled that a form refuses
-abbrev pub spelled_table : Form → List ℕ → Option (List ℕ)
+unfoldable pub spelled_table : Form → List ℕ → Option (List ℕ)
 spelled_table form header =
     if takes (is_of wanted.Tables) form then Some (write (codes "[[" ++ (header ++ codes "]]"))) else None
 

@@ -14,7 +14,7 @@ use Rattle.rinqebo_faults.specs.Shapes.{key_of}
 use Rattle.rinqebo_faults.specs.Words.{backquoted, quoted}
 
 -- the key of the step at a place of a path, if it is one to a key
-abbrev pub key_at : List Step → ℕ → Option (List ℕ)
+unfoldable pub key_at : List Step → ℕ → Option (List ℕ)
 key_at path place = option_and_then key_of (slice_get path place)
 
 -- a key is this one
@@ -23,11 +23,11 @@ is_key None key = false
 is_key (Some own) key = bytes_eq own key
 
 -- the step at a place of a path is one to this key
-abbrev pub has_key : List Step → ℕ → List ℕ → Bool
+unfoldable pub has_key : List Step → ℕ → List ℕ → Bool
 has_key path place key = is_key (key_at path place) key
 
 -- what a table of a section of files is called
-abbrev pub name_in_section : List Step → Option (List ℕ)
+unfoldable pub name_in_section : List Step → Option (List ℕ)
 name_in_section path =
     if has_key path 0 (codes "profile") then Some (codes "a profile")
     else if has_key path 0 (codes "test-groups") then Some (codes "a test group")
@@ -35,7 +35,7 @@ name_in_section path =
     else None
 
 -- what a table of the scripts of files is called
-abbrev pub name_in_scripts : List Step → Option (List ℕ)
+unfoldable pub name_in_scripts : List Step → Option (List ℕ)
 name_in_scripts path =
     if not (has_key path 0 (codes "scripts")) then None
     else if has_key path 1 (codes "setup") then Some (codes "a setup script")
@@ -43,7 +43,7 @@ name_in_scripts path =
     else None
 
 -- what a table of a list of a profile is called
-abbrev pub name_in_profile : List Step → Option (List ℕ)
+unfoldable pub name_in_profile : List Step → Option (List ℕ)
 name_in_profile path =
     if not (has_key path 0 (codes "profile")) then None
     else if has_key path 2 (codes "overrides") then Some (codes "an override")
@@ -51,7 +51,7 @@ name_in_profile path =
     else None
 
 -- what the table at a path is called, if files have tables of a name there
-abbrev pub table_name : List Step → Option (List ℕ)
+unfoldable pub table_name : List Step → Option (List ℕ)
 table_name path =
     if length path == 0 then Some (codes "a configuration file")
     else if length path == 2 then name_in_section path
@@ -71,7 +71,7 @@ step_called (Some (steps.Key key)) list = backquoted key.now
 step_called (Some (steps.Position place)) list = item_called list
 
 -- what the value at a path is called by the last key of the path
-abbrev pub called_by_key : List Step → List ℕ
+unfoldable pub called_by_key : List Step → List ℕ
 called_by_key path =
     step_called (slice_get path (length path - 1)) (key_at path (length path - 2))
 
@@ -81,7 +81,7 @@ called_so (Some name) path = name
 called_so None path = called_by_key path
 
 -- what the value at a path is called: by the name of such tables, or else by its key
-abbrev pub called : List Step → List ℕ
+unfoldable pub called : List Step → List ℕ
 called path = called_so (table_name path) path
 
 -- a step as the shape of a file has it: any position is that of all items of a list
@@ -90,7 +90,7 @@ part_text (steps.Key key) = key.now
 part_text (steps.Position place) = codes "0"
 
 -- the keys that the table at a path knows
-abbrev pub known_keys : List Step → List (List ℕ)
+unfoldable pub known_keys : List Step → List (List ℕ)
 known_keys path = keys_at file_form (map part_text path)
 
 -- the note that lists the keys of a table
@@ -104,7 +104,7 @@ note_of table [] = None
 note_of table (key ∷ known) = Some (known_note table (key ∷ known))
 
 -- the note that lists the keys which the table at a path knows, if it knows some
-abbrev pub keys_note : List Step → Option (List ℕ)
+unfoldable pub keys_note : List Step → Option (List ℕ)
 keys_note path = note_of (called path) (known_keys path)
 
 -- the keys of a table that it does not know
@@ -137,7 +137,7 @@ unknown_key (Some key) table =
     codes "`" ++ (key ++ (codes "` is not a key of " ++ called table))
 
 -- what is wrong with the key at the end of a path, which its table does not know
-abbrev pub unknown_key_text : List Step → List ℕ
+unfoldable pub unknown_key_text : List Step → List ℕ
 unknown_key_text path =
     unknown_key (key_at path (length path - 1)) (take (length path - 1) path)
 
@@ -153,14 +153,14 @@ member_keys (Some (Node.table members)) = keys members
 member_keys _ = []
 
 -- a path is that of `script.setup` or `script.wrapper`
-abbrev pub is_script_kind : List Step → Bool
+unfoldable pub is_script_kind : List Step → Bool
 is_script_kind path =
     length path == 2 && (has_key path 0 (codes "script")
     && (has_key path 1 (codes "setup") || has_key path 1 (codes "wrapper")))
 
 -- how the script is written that is meant by the first key of a table at `script.setup` or
 -- `script.wrapper`
-abbrev pub script_header : List Step → Option Node → Option (List ℕ)
+unfoldable pub script_header : List Step → Option Node → Option (List ℕ)
 script_header path node =
     if is_script_kind path
     then option_and_then (λ kind. script_line kind (member_keys node)) (key_at path 1) else None

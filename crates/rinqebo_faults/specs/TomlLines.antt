@@ -6,11 +6,11 @@ use Rattle.rinqebo_report.specs.declared.origin.Position.{Position}
 use Rattle.rinqebo_report.specs.declared.origin.Range.{Range}
 
 -- a text, and a line behind it: a space between them, if the text has something
-abbrev pub with_line : List ℕ → List ℕ → List ℕ
+unfoldable pub with_line : List ℕ → List ℕ → List ℕ
 with_line text line = if length text == 0 then line else text ++ (codes " " ++ line)
 
 -- the lines of a text on one line
-abbrev pub on_one_line : List ℕ → List ℕ
+unfoldable pub on_one_line : List ℕ → List ℕ
 on_one_line text = fold with_line [] (lines text)
 
 -- the greatest number that a report counts to
@@ -18,7 +18,7 @@ abbrev pub greatest : ℕ
 greatest = 2 ^ 64 - 1
 
 -- a line or a column as users count it, from 1, of one that is counted from 0
-abbrev pub from_one : ℕ → ℕ
+unfoldable pub from_one : ℕ → ℕ
 from_one count = min (count + 1) greatest
 
 -- the line of a text, from 0, if there is one

@@ -29,7 +29,7 @@ abbrev pub profile_keys : List ℕ → List (List ℕ)
 profile_keys profile = codes "profile" ∷ profile ∷ []
 
 -- where a key belongs that is one of overrides
-abbrev pub in_overrides : (profile key : List ℕ) → Option (List ℕ)
+unfoldable pub in_overrides : (profile key : List ℕ) → Option (List ℕ)
 in_overrides profile key =
     if is_one_of (keys_below (override_parts profile)) key
     then Some (backquoted key ++ (codes " is a setting of overrides: write it in `[["
@@ -37,7 +37,7 @@ in_overrides profile key =
     else None
 
 -- where a key belongs that is one of profiles
-abbrev pub in_profile : (profile key : List ℕ) → Option (List ℕ)
+unfoldable pub in_profile : (profile key : List ℕ) → Option (List ℕ)
 in_profile profile key =
     if is_one_of (keys_below (profile_keys profile)) key
     then Some (backquoted key ++ (codes " is a setting of profiles: write it in `["
@@ -51,12 +51,12 @@ part_help table key part =
     ++ (header_of (filter_map key_of table ++ part ∷ []) ++ (codes "." ++ (key ++ codes "`"))))))
 
 -- a part of a table knows a key, in a file of a form
-abbrev pub part_knows : Form → List Step → (key part : List ℕ) → Bool
+unfoldable pub part_knows : Form → List Step → (key part : List ℕ) → Bool
 part_knows file table key part =
     is_one_of (keys_at file (map part_text table ++ part ∷ [])) key
 
 -- where a key of a table belongs that is one of a table in it: the first that knows it
-abbrev pub in_part : List Step → List ℕ → Option (List ℕ)
+unfoldable pub in_part : List Step → List ℕ → Option (List ℕ)
 in_part table key =
     option_map (part_help table key) (find (part_knows file_form table key) (known_keys table))
 
@@ -66,7 +66,7 @@ or_else (Some help) other = Some help
 or_else None other = other
 
 -- the name of the profile that has a path
-abbrev pub profile_of : List Step → Option (List ℕ)
+unfoldable pub profile_of : List Step → Option (List ℕ)
 profile_of path = if has_key path 0 (codes "profile") then key_at path 1 else None
 
 -- where a key of a table of a profile belongs that another table of the profile knows
@@ -74,11 +74,11 @@ abbrev pub beside_in : List Step → (key profile : List ℕ) → Option (List �
 beside_in table key profile =
     if length table == 2 then in_overrides profile key else in_profile profile key
 
-abbrev pub place_in_profile : List Step → List ℕ → Option (List ℕ)
+unfoldable pub place_in_profile : List Step → List ℕ → Option (List ℕ)
 place_in_profile table key = option_and_then (beside_in table key) (profile_of table)
 
 -- where a key of a file belongs that is one of profiles
-abbrev pub place_in_default : List Step → List ℕ → Option (List ℕ)
+unfoldable pub place_in_default : List Step → List ℕ → Option (List ℕ)
 place_in_default table key = if length table == 0 then in_profile (codes "default") key else None
 
 -- a table of scripts has the kinds of scripts
@@ -87,7 +87,7 @@ script_help key =
     codes "write `[scripts.setup." ++ (key ++ (codes "]` or `[scripts.wrapper." ++ (key ++ codes "]`")))
 
 -- where a key belongs that its table does not know, and another one does
-abbrev pub place_elsewhere : List Step → List ℕ → Option (List ℕ)
+unfoldable pub place_elsewhere : List Step → List ℕ → Option (List ℕ)
 place_elsewhere table key =
     if length table == 1 && has_key table 0 (codes "scripts") then Some (script_help key)
     else or_else (place_in_default table key)
@@ -99,11 +99,11 @@ is_list_form None = false
 is_list_form (Some form) = are_tables form
 
 -- the values of a key of a table are arrays of tables
-abbrev pub is_list : List Step → List ℕ → Bool
+unfoldable pub is_list : List Step → List ℕ → Bool
 is_list table key = is_list_form (form_at (map key_of table ++ Some key ∷ []) file_form)
 
 -- the hint that a key of a table is meant: by its header, where it is that of an array of tables
-abbrev pub key_hint : List Step → List ℕ → List ℕ
+unfoldable pub key_hint : List Step → List ℕ → List ℕ
 key_hint table key =
     if is_list table key
     then codes "did you mean `[[" ++ (header_of (filter_map key_of table ++ key ∷ []) ++ codes "]]`?")

@@ -10,7 +10,7 @@ first_text [] = []
 first_text (c ∷ cs) = encode_utf8 c
 
 -- the character that a text begins with, as a text
-abbrev pub first_of : List ℕ → List ℕ
+unfoldable pub first_of : List ℕ → List ℕ
 first_of text = first_text (chars text)
 
 -- a text may be cut at two bytes
@@ -31,7 +31,7 @@ IsPart text start end part =
     IsBetween text start end part ⊎ (¬ IsCut text start end × (part ≡ []))
 
 -- the place of a part of a text, of some bytes, with which some end of the text begins
-abbrev pub place_of : (text rest : List ℕ) → ℕ → ℕ × ℕ
+unfoldable pub place_of : (text rest : List ℕ) → ℕ → ℕ × ℕ
 place_of text rest len =
     let start = length text - length rest in (start, min (start + len) (2 ^ 64 - 1))
 

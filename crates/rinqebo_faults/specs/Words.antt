@@ -12,7 +12,7 @@ listed_behind last (word ∷ next ∷ words) =
     codes ", " ++ (word ++ listed_behind last (next ∷ words))
 
 -- words with commas between them, and something else before the last one
-abbrev pub listed : List ℕ → List (List ℕ) → List ℕ
+unfoldable pub listed : List ℕ → List (List ℕ) → List ℕ
 listed last [] = []
 listed last (word ∷ words) = word ++ listed_behind last words
 
@@ -25,7 +25,7 @@ abbrev pub quoted : List ℕ → List (List ℕ) → List ℕ
 quoted last words = listed last (map backquoted words)
 
 -- a text has a character, and digits alone
-abbrev pub is_number : List ℕ → Bool
+unfoldable pub is_number : List ℕ → Bool
 is_number text = list_all is_ascii_digit (chars text) && not (length text == 0)
 
 -- what is before an item behind the first one: commas, and something else before the last one

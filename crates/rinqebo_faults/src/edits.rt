@@ -12,6 +12,7 @@ use std::alloc::{AllocError, Global};
 use std::collections::{BTreeMap, BTreeSet};
 
 /// A path below another one, both as marks: texts of which no two paths have the same.
+#[tactic(auto, unfolding(crate::specs::Edits::mark_below))]
 pub fn mark_below(alloc: Global, mark: &str, step: Step<'_>) -> Result<String, AllocError>
     ensures { IfOk result (λ below. string_bytes below ≡ mark_below mark.now (path_step step.entry)) }
 {
@@ -32,6 +33,7 @@ pub fn mark_of_source(alloc: Global, place: usize) -> Result<String, AllocError>
 }
 
 /// The mark of a path in the source at a place among the layers.
+#[tactic(auto, unfolding(crate::specs::Edits::mark_of))]
 pub fn mark_of(alloc: Global, place: usize, path: &[Step<'_>]) -> Result<String, AllocError>
     ensures { IfOk result (λ mark. string_bytes mark ≡ mark_of place (map path_step path.now)) }
 {
@@ -111,8 +113,8 @@ impl Edits {
         ensures { OnOk result (edits_view self.new ≡ with_edit (edits_view self.old)
             (remove (mark_of place (map path_step table.now ++ paths.key key.now ∷ [])))) }
     {
-        let mark = mark_of(self.alloc, place, table)?;
-        let mark = mark_below(self.alloc, mark.as_str(), Step::Key(key))?;
+        let above = mark_of(self.alloc, place, table)?;
+        let mark = mark_below(self.alloc, above.as_str(), Step::Key(key))?;
         self.removed.insert(mark)?;
         Ok(())
     }
@@ -145,6 +147,7 @@ impl Edits {
     }
 
     /// Notes that the definition of a group is left out.
+    #[tactic(auto, unfolding(crate::specs::Edits::edits_view, crate::specs::Edits::with_edit, crate::specs::Edits::left_out_view))]
     pub fn omit_group(&mut self, name: &str) -> Result<(), AllocError>
         ensures { OnOk result (edits_view self.new
             ≡ with_edit (edits_view self.old) (omit_group name.now)) }
@@ -153,6 +156,7 @@ impl Edits {
     }
 
     /// Notes that the definitions of all groups are left out.
+    #[tactic(auto, unfolding(crate::specs::Edits::edits_view, crate::specs::Edits::with_edit, crate::specs::Edits::left_out_view, crate::specs::Edits::names_view))]
     pub fn omit_groups(&mut self)
         ensures { edits_view self.new ≡ with_edit (edits_view self.old) omit_groups }
     {
@@ -160,6 +164,7 @@ impl Edits {
     }
 
     /// Notes that the definition of a script is left out.
+    #[tactic(auto, unfolding(crate::specs::Edits::edits_view, crate::specs::Edits::with_edit, crate::specs::Edits::left_out_view))]
     pub fn omit_script(&mut self, name: &str) -> Result<(), AllocError>
         ensures { OnOk result (edits_view self.new
             ≡ with_edit (edits_view self.old) (omit_script name.now)) }
@@ -168,6 +173,7 @@ impl Edits {
     }
 
     /// Notes that the definitions of all scripts are left out.
+    #[tactic(auto, unfolding(crate::specs::Edits::edits_view, crate::specs::Edits::with_edit, crate::specs::Edits::left_out_view, crate::specs::Edits::names_view))]
     pub fn omit_scripts(&mut self)
         ensures { edits_view self.new ≡ with_edit (edits_view self.old) omit_scripts }
     {
@@ -175,6 +181,7 @@ impl Edits {
     }
 
     /// Notes that a value of the script rules at a path is left out.
+    #[tactic(auto, unfolding(crate::specs::Edits::edits_view, crate::specs::Edits::with_edit, crate::specs::Edits::left_out_view))]
     pub fn omit_rules(&mut self, path: &[Step<'_>]) -> Result<(), AllocError>
         ensures { OnOk result (edits_view self.new
             ≡ with_edit (edits_view self.old) (omit_rule (shown_path path.now))) }
@@ -183,6 +190,7 @@ impl Edits {
     }
 
     /// Whether the value at a mark is left out.
+    #[tactic(auto, unfolding(crate::specs::Edits::edits_view))]
     pub fn removes(&self, mark: &str) -> bool
         ensures { result ≡ (edits_view self.now).removed mark.now }
     {
@@ -190,6 +198,7 @@ impl Edits {
     }
 
     /// What is read in place of the value at a mark.
+    #[tactic(auto, unfolding(crate::specs::Edits::edits_view))]
     pub fn replacement(&self, mark: &str) -> Option<&'static str>
         ensures { option_copied result ≡ (edits_view self.now).replaced mark.now }
     {
@@ -200,6 +209,7 @@ impl Edits {
     }
 
     /// What is read behind the keys of the table at a mark.
+    #[tactic(auto, unfolding(crate::specs::Edits::edits_view))]
     pub fn additions(&self, mark: &str) -> Option<&str>
         ensures { option_copied result ≡ (edits_view self.now).added mark.now }
     {

@@ -24,6 +24,7 @@ const PROFILE: &str = "{}";
 const RULE: &str = "{ platform = \"cfg(unix)\" }";
 
 /// Whether a key is one of two.
+#[tactic(auto, unfolding(crate::specs::ElementRepairs::is_either))]
 fn is_either(key: &str, one: &str, other: &str) -> bool
     ensures { result ≡ is_either key.now one.now other.now }
 {
@@ -31,6 +32,7 @@ fn is_either(key: &str, one: &str, other: &str) -> bool
 }
 
 /// A value that a key takes which tables have to have.
+#[tactic(auto, unfolding(crate::specs::ElementRepairs::sound_value))]
 fn sound_value(key: &str) -> Option<&'static str>
     ensures { option_copied result ≡ sound_value key.now }
 {
@@ -56,6 +58,7 @@ fn sound_value(key: &str) -> Option<&'static str>
 }
 
 /// A key that tables have to have, with a value that it takes.
+#[tactic(auto, unfolding(crate::specs::ElementRepairs::sound_entry))]
 fn sound_entry(key: &str) -> Option<&'static str>
     ensures { option_copied result ≡ sound_entry key.now }
 {
@@ -86,6 +89,7 @@ fn is_bad_name(cause: &ElementCause, path: &[Step<'_>]) -> bool
 }
 
 /// Whether the last step of a path is one to a key.
+#[tactic(auto, unfolding(crate::specs::ElementRepairs::ends_with_key))]
 pub fn ends_with_key(path: &[Step<'_>], key: &str) -> bool
     ensures { result ≡ ends_with_key path.now key.now }
 {
@@ -101,6 +105,7 @@ fn sound_value_at(path: &[Step<'_>]) -> Option<&'static str>
 }
 
 /// Reads a value in place of one that its table has to have, or leaves out the one at a path.
+#[tactic(auto, unfolding(crate::specs::ElementRepairs::needed_edit))]
 fn leave_out_needed(
     edits: &mut Edits,
     place: usize,
@@ -120,6 +125,7 @@ fn leave_out_needed(
 }
 
 /// Leaves out a group or a script whose name is refused, or reads a sound one in its place.
+#[tactic(auto, unfolding(crate::specs::ElementRepairs::table_edit))]
 fn leave_out_table(
     edits: &mut Edits,
     place: usize,
@@ -138,6 +144,7 @@ fn leave_out_table(
 }
 
 /// Leaves out a value of scripts, of which a path to one has some steps.
+#[tactic(auto, unfolding(crate::specs::ElementRepairs::script_edits))]
 fn leave_out_of_script(
     edits: &mut Edits,
     place: usize,
@@ -162,6 +169,7 @@ fn leave_out_of_script(
 }
 
 /// Leaves out a value of groups.
+#[tactic(auto, unfolding(crate::specs::ElementRepairs::group_edits))]
 fn leave_out_of_group(
     edits: &mut Edits,
     place: usize,
@@ -182,6 +190,7 @@ fn leave_out_of_group(
 }
 
 /// Whether a key of a rule is one of its conditions.
+#[tactic(auto, unfolding(crate::specs::ElementRepairs::is_condition))]
 fn is_condition(path: &[Step<'_>]) -> bool
     ensures { result ≡ is_condition path.now }
 {
@@ -189,6 +198,7 @@ fn is_condition(path: &[Step<'_>]) -> bool
 }
 
 /// Whether a path is one into the rules of a profile.
+#[tactic(auto, unfolding(crate::specs::ElementRepairs::is_in_rules))]
 fn is_in_rules(path: &[Step<'_>]) -> bool
     ensures { result ≡ is_in_rules path.now }
 {
@@ -196,6 +206,7 @@ fn is_in_rules(path: &[Step<'_>]) -> bool
 }
 
 /// Leaves out a value of a profile.
+#[tactic(auto, unfolding(crate::specs::ElementRepairs::profile_edits))]
 fn leave_out_of_profile(
     edits: &mut Edits,
     place: usize,
@@ -217,6 +228,7 @@ fn leave_out_of_profile(
 }
 
 /// Leaves out a value that is refused.
+#[tactic(auto, unfolding(crate::specs::ElementRepairs::value_edits))]
 fn leave_out_value(
     edits: &mut Edits,
     place: usize,
@@ -266,6 +278,7 @@ fn is_in_script_rules(path: &[Step<'_>]) -> bool
 }
 
 /// Notes the profile of a script rule of which a value is refused.
+#[tactic(auto, unfolding(crate::specs::ElementRepairs::rules_note))]
 fn note_rules(edits: &mut Edits, path: &[Step<'_>]) -> Result<(), AllocError>
     ensures { OnOk result (edits_view edits.new
         ≡ with_edits (edits_view edits.old) (rules_note path.now)) }
@@ -314,6 +327,7 @@ pub fn leave_out_element(
 }
 
 /// Returns how many steps lead to the setting that a path is in.
+#[tactic(auto, unfolding(crate::specs::ElementRepairs::setting_steps))]
 fn setting_steps(path: &[Step<'_>]) -> usize
     ensures { result ≡ setting_steps path.now }
 {
@@ -330,6 +344,7 @@ fn setting_steps(path: &[Step<'_>]) -> usize
 }
 
 /// Leaves out a setting with an element that is refused although others were left out.
+#[tactic(auto, unfolding(crate::specs::ElementRepairs::setting_edit))]
 pub fn leave_out_setting(
     edits: &mut Edits,
     place: usize,

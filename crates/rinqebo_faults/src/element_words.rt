@@ -60,6 +60,7 @@ pub fn is_text(found: Option<&Tree>, given: &str) -> bool
 }
 
 /// What is wrong with a text that is not taken: the text, or the name that it is.
+#[tactic(auto, unfolding(crate::specs::Elements::bad_text))]
 fn bad_text(
     alloc: Global,
     name: &str,
@@ -102,6 +103,7 @@ pub fn wrong_element(
 
 /// What is expected in place of a text that is refused, as the shape of a file has it, or else as a
 /// reader words it. The text is the value at the path, or else the key that ends it.
+#[tactic(auto, unfolding(crate::specs::Elements::wanted_text))]
 fn wanted_text(
     alloc: Global,
     found: Option<&Tree>,
@@ -146,6 +148,7 @@ pub fn wanted(
 }
 
 /// How the value at a path is meant to be spelled, where that is plain.
+#[tactic(auto, unfolding(crate::specs::Elements::spelled))]
 fn spelled(
     alloc: Global,
     found: Option<&Tree>,
@@ -209,6 +212,7 @@ pub fn advice(
 }
 
 /// The notes about the key at the end of a path, which its table refuses.
+#[tactic(auto, unfolding(crate::specs::Elements::refused_notes))]
 fn refused_notes(alloc: Global, path: &[Step<'_>]) -> Result<Vec<String>, AllocError>
     ensures { IfOk result (λ notes. map string_bytes notes.items ≡ refused_notes path.now) }
 {

@@ -251,6 +251,7 @@ fn expected_by(
 }
 
 /// What is expected at a path in place of a value that is refused, if the shape of a file has it.
+#[tactic(auto, unfolding(crate::specs::Expected::expected_at))]
 pub fn expected_at(
     alloc: Global,
     cause: &ElementCause,
@@ -267,6 +268,7 @@ pub fn expected_at(
 }
 
 /// What is expected at a path in place of a string that is refused, if the shape of a file has it.
+#[tactic(auto, unfolding(crate::specs::Expected::expected_text))]
 pub fn expected_text(alloc: Global, path: &[Step<'_>]) -> Result<Option<String>, AllocError>
     ensures { IfOk result (λ words. option_map string_bytes words ≡ expected_text path.now) }
 {
@@ -279,6 +281,7 @@ pub fn expected_text(alloc: Global, path: &[Step<'_>]) -> Result<Option<String>,
 
 /// What is expected in place of the key at the end of a path, which is a name, if the shape of a
 /// file has it.
+#[tactic(auto, unfolding(crate::specs::Expected::expected_name))]
 pub fn expected_name(alloc: Global, path: &[Step<'_>]) -> Result<Option<String>, AllocError>
     ensures { IfOk result (λ words. option_map string_bytes words ≡ expected_name path.now) }
 {

@@ -18,6 +18,7 @@ fn value_of<'t>(tree: Option<&'t Tree>, key: &str) -> Option<&'t Tree>
 }
 
 /// The kind of scripts that a feature switches on.
+#[tactic(auto, unfolding(crate::specs::Features::kind_of_feature))]
 fn kind_of_feature(feature: &str) -> &str
     ensures { result.now ≡ kind_of_feature feature.now }
 {
@@ -47,6 +48,7 @@ pub fn feature_path<'p>(
 }
 
 /// Adds a name in quotes to a list.
+#[tactic(auto, unfolding(crate::specs::Features::with_quoted))]
 fn add_quoted(alloc: Global, list: &mut String, name: &str) -> Result<(), AllocError>
     ensures { OnOk result (string_bytes list.new ≡ with_quoted (string_bytes list.old) name.now) }
 {
@@ -74,6 +76,7 @@ fn add_listed(alloc: Global, list: &mut String, listed: Option<&Tree>) -> Result
 }
 
 /// The features that a file lists, and those that it lacks, as an array of TOML has them.
+#[tactic(auto, unfolding(crate::specs::Features::feature_list))]
 fn feature_list(
     alloc: Global,
     listed: Option<&Tree>,

@@ -24,6 +24,7 @@ fn is_special(c: char) -> bool
 }
 
 /// Whether a key is written without quotes.
+#[tactic(auto, unfolding(crate::specs::Headers::is_bare_key))]
 fn is_bare_key(key: &str) -> bool
     ensures { result ≡ is_bare_key key.now }
 {
@@ -38,6 +39,7 @@ fn has_special(key: &str) -> bool
 }
 
 /// A key as a header has it: in quotes, where it needs some.
+#[tactic(auto, unfolding(crate::specs::Headers::header_key))]
 fn key_text(alloc: Global, key: &str) -> Result<String, AllocError>
     ensures { IfOk result (λ text. string_bytes text ≡ header_key key.now) }
 {
@@ -64,6 +66,7 @@ fn keys_of<'p>(alloc: Global, path: &[Step<'p>]) -> Result<Vec<&'p str>, AllocEr
 }
 
 /// The keys of a path as a header has them. The items of arrays have the header of their array.
+#[tactic(auto, unfolding(crate::specs::Headers::header_of))]
 pub fn header_text(alloc: Global, path: &[Step<'_>]) -> Result<String, AllocError>
     ensures { IfOk result (λ text. string_bytes text ≡ header_text path.now) }
 {

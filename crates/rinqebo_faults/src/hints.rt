@@ -14,6 +14,7 @@ use std::alloc::{AllocError, Global};
 use std::collections::BTreeSet;
 
 /// Whether one of two texts, which has three bytes at least, begins the other.
+#[tactic(auto, unfolding(crate::specs::Hints::begins))]
 fn begins(one: &str, other: &str) -> bool
     ensures { result ≡ begins one.now other.now }
 {
@@ -50,6 +51,7 @@ fn are_among(text: &str, other: &str) -> bool
 }
 
 /// Whether two texts are the same but for two characters that are swapped.
+#[tactic(auto, unfolding(crate::specs::Hints::is_swapped))]
 fn is_swapped(one: &str, other: &str) -> bool
     ensures { result ≡ is_swapped one.now other.now }
 {
@@ -60,6 +62,7 @@ fn is_swapped(one: &str, other: &str) -> bool
 }
 
 /// Whether two names differ as names do that are mistaken: in case, or by swapped characters.
+#[tactic(auto, unfolding(crate::specs::Hints::is_mistaken))]
 fn is_mistaken(name: &str, known: &str) -> bool
     ensures { result ≡ is_mistaken name.now known.now }
 {

@@ -47,6 +47,7 @@ impl Names {
     }
 
     /// Whether a name may be one of these.
+    #[tactic(auto, unfolding(crate::specs::Edits::names_view))]
     pub fn has(&self, name: &str) -> bool
         ensures { result ≡ may_be (names_view self.now) name.now }
     {
@@ -67,6 +68,7 @@ pub struct LeftOut {
 
 impl LeftOut {
     /// No names.
+    #[tactic(auto, unfolding(crate::specs::Edits::left_out_view))]
     pub fn new(alloc: Global) -> LeftOut
         ensures { left_out_view result ≡ nothing_left_out }
     {

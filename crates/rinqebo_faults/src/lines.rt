@@ -18,6 +18,7 @@ pub struct Mark {
 }
 
 /// Returns the last line that is shown of a range: its first one, if it has too many.
+#[tactic(auto, unfolding(crate::specs::Lines::last_shown))]
 fn last_shown(range: Range) -> u64
     ensures { result ≡ last_shown range }
 {
@@ -37,6 +38,7 @@ fn character_at(column: u64) -> usize
 }
 
 /// Returns how many characters of a line are before the first that is not white space.
+#[tactic(auto, unfolding(crate::specs::Lines::indent_of))]
 pub fn indent_of(line: &str) -> usize
     ensures { result ≡ indent_of line.now }
 {
@@ -44,6 +46,7 @@ pub fn indent_of(line: &str) -> usize
 }
 
 /// Returns the characters of a line that lie in a range, if it reaches the line and is shown there.
+#[tactic(auto, unfolding(crate::specs::Lines::span_on))]
 fn span_on(range: Range, number: u64, line: &str) -> Option<CharSpan>
     ensures { result ≡ span_on range number line.now }
 {
@@ -65,6 +68,7 @@ fn span_on(range: Range, number: u64, line: &str) -> Option<CharSpan>
 
 /// Adds a part of a line, and the blank part before it, unless the parts so far reach behind its
 /// start.
+#[tactic(auto, unfolding(crate::specs::Lines::with_part))]
 fn add_part(parts: &mut Vec<LinePart>, end: usize, part: LinePart) -> Result<usize, AllocError>
     ensures { IfOk result (λ reached.
         with_part (record { parts = parts.old.items; end = end }) part
@@ -89,6 +93,7 @@ fn add_part(parts: &mut Vec<LinePart>, end: usize, part: LinePart) -> Result<usi
 
 /// Returns the parts of a line, up to the last one with a sign. Marks come in the order of their
 /// starts.
+#[tactic(auto, unfolding(crate::specs::Lines::parts_on))]
 fn parts_of(
     alloc: Global,
     marks: &[Mark],
@@ -121,6 +126,7 @@ fn last_line(marks: &[Mark]) -> u64
 
 /// Returns the lines of a text that show marks, three at most. Marks come in the order of their
 /// starts.
+#[tactic(auto, unfolding(crate::specs::Lines::shown_lines))]
 pub fn lines_of(alloc: Global, text: &str, marks: &[Mark]) -> Result<Vec<SourceLine>, AllocError>
     ensures { IfOk result (λ shown. map shown_line shown.items ≡ shown_lines marks.now text.now) }
 {

@@ -43,6 +43,7 @@ pub struct LineWords {
 
 impl<'t> BadLine<'t> {
     /// The line before the fault, and from there on.
+    #[tactic(auto, unfolding(crate::specs::BadLines::line_front, crate::specs::BadLines::line_rest))]
     fn parted(self) -> (&'t str, &'t str)
         ensures front { result.0.now ≡ line_front self.entry.line.now self.entry.column }
         ensures rest { result.1.now ≡ line_rest self.entry.line.now self.entry.column }
@@ -57,6 +58,7 @@ impl<'t> BadLine<'t> {
     }
 
     /// What is expected, as the reader of TOML words it.
+    #[tactic(auto, unfolding(crate::specs::BadLines::expected_of))]
     fn expected(self) -> Option<&'t str>
         ensures { option_copied result ≡ expected_of self.entry.reason.now }
     {
@@ -65,6 +67,7 @@ impl<'t> BadLine<'t> {
     }
 
     /// What is wrong, as the reader of TOML words it.
+    #[tactic(auto, unfolding(crate::specs::BadLines::wrong))]
     fn wrong(self) -> &'t str
         ensures { result.now ≡ wrong self.entry.reason.now }
     {
@@ -75,6 +78,7 @@ impl<'t> BadLine<'t> {
     }
 
     /// Whether the line defines what is defined before it.
+    #[tactic(auto, unfolding(crate::specs::BadLines::is_second))]
     pub fn is_second(self) -> bool
         ensures { result ≡ is_second self.entry.reason.now }
     {
@@ -82,6 +86,7 @@ impl<'t> BadLine<'t> {
     }
 
     /// What the line defines: a header with its brackets, or the key at the fault.
+    #[tactic(auto, unfolding(crate::specs::BadLines::defined))]
     pub fn defined(self) -> &'t str
         ensures { result.now ≡ defined self.entry.line.now self.entry.column }
     {
@@ -103,6 +108,7 @@ fn is_curly(c: char) -> bool {
 }
 
 /// Whether a character ends a word of a line.
+#[tactic(auto, unfolding(crate::specs::BadLines::is_end))]
 fn is_end(c: char) -> bool
     ensures { result ≡ is_end c }
 {
@@ -110,6 +116,7 @@ fn is_end(c: char) -> bool
 }
 
 /// The word that a text begins with, or its first character.
+#[tactic(auto, unfolding(crate::specs::BadLines::word_at))]
 fn word_at(text: &str) -> &str
     ensures { result.now ≡ word_at text.now }
 {
@@ -199,6 +206,7 @@ fn line_help(alloc: Global, bad: BadLine<'_>) -> Result<Option<String>, AllocErr
 }
 
 /// What is there that is wrong, in words, given the line from the fault on.
+#[tactic(auto, unfolding(crate::specs::BadLines::there))]
 fn there(alloc: Global, bad: BadLine<'_>, rest: &str) -> Result<String, AllocError>
     ensures { IfOk result (λ message. string_bytes message
         ≡ there bad.entry.line.now bad.entry.column bad.entry.reason.now rest.now) }
@@ -220,6 +228,7 @@ fn there(alloc: Global, bad: BadLine<'_>, rest: &str) -> Result<String, AllocErr
 }
 
 /// How many characters are wrong, given the line from the fault on.
+#[tactic(auto, unfolding(crate::specs::BadLines::len_there))]
 fn len_there(bad: BadLine<'_>, rest: &str) -> usize
     ensures { result
         ≡ len_there bad.entry.line.now bad.entry.column bad.entry.reason.now rest.now }
@@ -234,6 +243,7 @@ fn len_there(bad: BadLine<'_>, rest: &str) -> usize
 }
 
 /// What is expected in a line.
+#[tactic(auto, unfolding(crate::specs::BadLines::wanted_in))]
 fn wanted<'t>(bad: BadLine<'t>) -> Option<&'t str>
     ensures { option_copied result ≡ wanted_in bad.entry.reason.now }
 {
@@ -265,6 +275,7 @@ pub fn line_words(alloc: Global, bad: BadLine<'_>) -> Result<LineWords, AllocErr
 }
 
 /// Whether a line defines a key.
+#[tactic(auto, unfolding(crate::specs::BadLines::defines))]
 fn defines(line: &str, key: &str) -> bool
     ensures { result ≡ defines line.now key.now }
 {
@@ -276,6 +287,7 @@ fn defines(line: &str, key: &str) -> bool
 
 /// The place, among the lines of a text before another one, of the one that first defines a header
 /// or a key. A key is defined in the same table.
+#[tactic(auto, unfolding(crate::specs::BadLines::first_definition))]
 pub fn first_definition(text: &str, end: usize, defined: &str) -> Option<usize>
     ensures { result ≡ first_definition text.now end defined.now }
 {

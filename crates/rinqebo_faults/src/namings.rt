@@ -51,6 +51,7 @@ fn earlier(first: Option<Naming>, other: Option<Naming>) -> Option<Naming>
 }
 
 /// The text by which a name is found that rules of a profile have at a key.
+#[tactic(auto, unfolding(crate::specs::Repairs::naming_mark))]
 pub fn naming_mark(
     alloc: Global,
     profile: &str,

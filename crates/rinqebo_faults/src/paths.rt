@@ -94,6 +94,7 @@ pub fn section_path<'p>(
 }
 
 /// Whether scripts of a kind have one of a name.
+#[tactic(auto, unfolding(crate::specs::Paths::has_script))]
 fn has_script(tree: &Tree, kind: &str, name: &str) -> bool
     ensures { result ≡ has_script (tree_view tree.now) kind.now name.now }
 {

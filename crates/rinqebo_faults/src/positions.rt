@@ -8,6 +8,7 @@ use std::alloc::{AllocError, Global};
 use std::ops::Range;
 
 /// How many characters are before a byte of a text.
+#[tactic(auto, unfolding(crate::specs::Positions::characters_before))]
 fn characters_before(text: &str, byte: usize) -> usize
     ensures { result ≡ characters_before text.now byte }
 {
@@ -33,6 +34,7 @@ pub fn expression(
 }
 
 /// Returns the position behind a text that starts at a position.
+#[tactic(auto, unfolding(crate::specs::Positions::position_behind))]
 fn position_behind(start: Position, text: &str) -> Position
     ensures { result ≡ position_behind start text.now }
 {

@@ -106,6 +106,7 @@ fn is_out_of_range(shape: &Shape, tree: &Tree) -> bool
 }
 
 /// Whether the last key of a path is none that its table knows.
+#[tactic(auto, unfolding(crate::specs::RefusedValues::is_unknown))]
 fn is_unknown(file: &Shape, path: &[Step<'_>]) -> bool
     ensures { result ≡ is_unknown (shape_view file.now) path.now }
 {
@@ -116,6 +117,7 @@ fn is_unknown(file: &Shape, path: &[Step<'_>]) -> bool
 }
 
 /// Whether a table has no such key.
+#[tactic(auto, unfolding(crate::specs::RefusedValues::lacks))]
 fn lacks(tree: &Tree, key: &str) -> bool
     ensures { result ≡ lacks (tree_view tree.now) key.now }
 {

@@ -34,6 +34,7 @@ struct Scan {
 
 impl Scan {
     /// Reads a character of a class.
+    #[tactic(auto, unfolding(crate::specs::Regexes::within))]
     fn within(self, c: char) -> Result<Scan, Flaw>
         ensures { result ≡ within self c }
     {
@@ -53,6 +54,7 @@ impl Scan {
     }
 
     /// Reads a character outside classes.
+    #[tactic(auto, unfolding(crate::specs::Regexes::without))]
     fn without(self, c: char) -> Result<Scan, Flaw>
         ensures { result ≡ without self c }
     {
@@ -73,6 +75,7 @@ impl Scan {
     }
 
     /// Reads a character.
+    #[tactic(auto, unfolding(crate::specs::Regexes::read))]
     fn read(self, c: char) -> Result<Scan, Flaw>
         ensures { result ≡ read self c }
     {
@@ -91,6 +94,7 @@ impl Scan {
     }
 
     /// What is wrong at the end.
+    #[tactic(auto, unfolding(crate::specs::Regexes::end_flaw))]
     fn end(self) -> Option<Flaw>
         ensures { result ≡ end_flaw self }
     {

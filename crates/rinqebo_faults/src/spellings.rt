@@ -107,6 +107,7 @@ fn takes(wanted: Wanted, shape: &Shape) -> bool
 }
 
 /// The milliseconds of up to three digits behind a point.
+#[tactic(auto, unfolding(crate::specs::Spellings::milliseconds))]
 fn milliseconds(digits: &str) -> Option<u64>
     ensures { IsTrue (is_number digits.now) → result ≡ milliseconds digits.now }
 {
@@ -120,6 +121,7 @@ fn milliseconds(digits: &str) -> Option<u64>
 }
 
 /// Seconds and milliseconds behind a point, as a duration has them.
+#[tactic(auto, unfolding(crate::specs::Spellings::seconds_of))]
 fn seconds_of(alloc: Global, seconds: &str, fraction: &str) -> Result<Option<String>, AllocError>
     ensures { IfOk result (λ text. option_map string_bytes text
         ≡ seconds_of seconds.now fraction.now) }
@@ -134,6 +136,7 @@ fn seconds_of(alloc: Global, seconds: &str, fraction: &str) -> Result<Option<Str
 }
 
 /// A text without the letter `s` at its end.
+#[tactic(auto, unfolding(crate::specs::Spellings::without_unit))]
 fn without_unit(text: &str) -> &str
     ensures { result.now ≡ without_unit text.now }
 {
@@ -141,6 +144,7 @@ fn without_unit(text: &str) -> &str
 }
 
 /// Seconds with digits behind a point, as a duration has them.
+#[tactic(auto, unfolding(crate::specs::Spellings::parted_seconds))]
 fn parted_seconds(alloc: Global, text: &str) -> Result<Option<String>, AllocError>
     ensures { IfOk result (λ parted. option_map string_bytes parted ≡ parted_seconds text.now) }
 {
@@ -151,6 +155,7 @@ fn parted_seconds(alloc: Global, text: &str) -> Result<Option<String>, AllocErro
 }
 
 /// How a text is spelled where a duration is wanted.
+#[tactic(auto, unfolding(crate::specs::Spellings::duration_of))]
 fn duration_of(alloc: Global, text: &str) -> Result<Option<String>, AllocError>
     ensures { IfOk result (λ spelled. option_map string_bytes spelled ≡ duration_of text.now) }
 {
@@ -161,6 +166,7 @@ fn duration_of(alloc: Global, text: &str) -> Result<Option<String>, AllocError>
 }
 
 /// Whether a text is one of the booleans.
+#[tactic(auto, unfolding(crate::specs::Spellings::is_truth))]
 fn is_truth(text: &str) -> bool
     ensures { result ≡ is_truth text.now }
 {
@@ -168,6 +174,7 @@ fn is_truth(text: &str) -> bool
 }
 
 /// How a text is spelled that is refused by a shape.
+#[tactic(auto, unfolding(crate::specs::Spellings::spelled_text))]
 fn spelled_text(alloc: Global, shape: &Shape, text: &str) -> Result<Option<String>, AllocError>
     ensures { IfOk result (λ spelled. option_map string_bytes spelled
         ≡ spelled_text (shape_view shape.now) text.now) }
@@ -188,6 +195,7 @@ fn spelled_text(alloc: Global, shape: &Shape, text: &str) -> Result<Option<Strin
 }
 
 /// How a number is spelled that is refused by a shape.
+#[tactic(auto, unfolding(crate::specs::Spellings::spelled_number))]
 fn spelled_number(alloc: Global, shape: &Shape, number: i64) -> Result<Option<String>, AllocError>
     ensures { IfOk result (λ spelled. option_map string_bytes spelled
         ≡ spelled_number (shape_view shape.now) number) }
@@ -199,6 +207,7 @@ fn spelled_number(alloc: Global, shape: &Shape, number: i64) -> Result<Option<St
 }
 
 /// How a table at a header is spelled that is refused by a shape.
+#[tactic(auto, unfolding(crate::specs::Spellings::spelled_table))]
 fn spelled_table(alloc: Global, shape: &Shape, header: &str) -> Result<Option<String>, AllocError>
     ensures { IfOk result (λ spelled. option_map string_bytes spelled
         ≡ spelled_table (shape_view shape.now) header.now) }

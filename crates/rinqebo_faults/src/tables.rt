@@ -16,6 +16,7 @@ use rinqebo_report::nearest_name;
 use std::alloc::{AllocError, Global};
 
 /// The key of the step at a place of a path, if it is one to a key.
+#[tactic(auto, unfolding(crate::specs::Tables::key_at))]
 pub fn key_at<'p>(path: &[Step<'p>], place: usize) -> Option<&'p str>
     ensures { option_copied result ≡ key_at path.now place }
 {
@@ -26,6 +27,7 @@ pub fn key_at<'p>(path: &[Step<'p>], place: usize) -> Option<&'p str>
 }
 
 /// Whether the step at a place of a path is one to a key.
+#[tactic(auto, unfolding(crate::specs::Tables::has_key))]
 pub fn has_key(path: &[Step<'_>], place: usize, key: &str) -> bool
     ensures { result ≡ has_key path.now place key.now }
 {
@@ -36,6 +38,7 @@ pub fn has_key(path: &[Step<'_>], place: usize, key: &str) -> bool
 }
 
 /// What a table of a section of files is called.
+#[tactic(auto, unfolding(crate::specs::Tables::name_in_section))]
 fn name_in_section(path: &[Step<'_>]) -> Option<&'static str>
     ensures { option_copied result ≡ name_in_section path.now }
 {
@@ -52,6 +55,7 @@ fn name_in_section(path: &[Step<'_>]) -> Option<&'static str>
 }
 
 /// What a table of the scripts of files is called.
+#[tactic(auto, unfolding(crate::specs::Tables::name_in_scripts))]
 fn name_in_scripts(path: &[Step<'_>]) -> Option<&'static str>
     ensures { option_copied result ≡ name_in_scripts path.now }
 {
@@ -68,6 +72,7 @@ fn name_in_scripts(path: &[Step<'_>]) -> Option<&'static str>
 }
 
 /// What a table of a list of a profile is called.
+#[tactic(auto, unfolding(crate::specs::Tables::name_in_profile))]
 fn name_in_profile(path: &[Step<'_>]) -> Option<&'static str>
     ensures { option_copied result ≡ name_in_profile path.now }
 {
@@ -84,6 +89,7 @@ fn name_in_profile(path: &[Step<'_>]) -> Option<&'static str>
 }
 
 /// What the table at a path is called, if files have tables of a name there.
+#[tactic(auto, unfolding(crate::specs::Tables::table_name))]
 fn table_name(path: &[Step<'_>]) -> Option<&'static str>
     ensures { option_copied result ≡ table_name path.now }
 {
@@ -97,6 +103,7 @@ fn table_name(path: &[Step<'_>]) -> Option<&'static str>
 }
 
 /// What the value at a path is called by the last key of the path.
+#[tactic(auto, unfolding(crate::specs::Tables::called_by_key))]
 fn called_by_key(alloc: Global, path: &[Step<'_>]) -> Result<String, AllocError>
     ensures { IfOk result (λ name. string_bytes name ≡ called_by_key path.now) }
 {
@@ -111,6 +118,7 @@ fn called_by_key(alloc: Global, path: &[Step<'_>]) -> Result<String, AllocError>
 }
 
 /// What the value at a path is called: by the name of such tables, or else by its key.
+#[tactic(auto, unfolding(crate::specs::Tables::called))]
 pub fn called(alloc: Global, path: &[Step<'_>]) -> Result<String, AllocError>
     ensures { IfOk result (λ name. string_bytes name ≡ called path.now) }
 {
@@ -147,6 +155,7 @@ pub fn keys_at(
 }
 
 /// The keys that the table at a path knows.
+#[tactic(auto, unfolding(crate::specs::Tables::known_keys))]
 pub fn known_keys(alloc: Global, path: &[Step<'_>]) -> Result<Vec<&'static str>, AllocError>
     ensures { IfOk result (λ keys. map (λ key. key.now) keys.items ≡ known_keys path.now) }
 {
@@ -163,6 +172,7 @@ pub fn known_note(alloc: Global, table: &str, known: &[&str]) -> Result<String, 
 }
 
 /// The note that lists the keys which the table at a path knows, if it knows some.
+#[tactic(auto, unfolding(crate::specs::Tables::keys_note))]
 pub fn keys_note(alloc: Global, path: &[Step<'_>]) -> Result<Option<String>, AllocError>
     ensures { IfOk result (λ note. option_map string_bytes note ≡ keys_note path.now) }
 {
@@ -199,6 +209,7 @@ pub fn stray_key<'t>(
 }
 
 /// Whether a path is that of `script.setup` or `script.wrapper`, which is meant as a table of scripts.
+#[tactic(auto, unfolding(crate::specs::Tables::is_script_kind))]
 pub fn is_script_kind(path: &[Step<'_>]) -> bool
     ensures { result ≡ is_script_kind path.now }
 {
@@ -220,6 +231,7 @@ fn script_kind<'p>(path: &[Step<'p>]) -> Option<&'p str>
 
 /// The header of the script that is meant by the first key of a table at `script.setup` or
 /// `script.wrapper`.
+#[tactic(auto, unfolding(crate::specs::Tables::script_header))]
 pub fn script_header(
     alloc: Global,
     path: &[Step<'_>],
@@ -264,6 +276,7 @@ pub fn knows(alloc: Global, path: &[Step<'_>], key: &str) -> Result<bool, AllocE
 }
 
 /// What is wrong with a key that its table does not know.
+#[tactic(auto, unfolding(crate::specs::Tables::unknown_key_text, crate::specs::Tables::key_at))]
 pub fn unknown_key_text(alloc: Global, path: &[Step<'_>]) -> Result<String, AllocError>
     ensures { IfOk result (λ text. string_bytes text ≡ unknown_key_text path.now) }
 {

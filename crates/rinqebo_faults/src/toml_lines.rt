@@ -13,6 +13,7 @@ use rinqebo_report::{Position, Range, Sign, SourceLine};
 use std::alloc::{AllocError, Global};
 
 /// Adds a line to a text, behind a space if the text has something.
+#[tactic(auto, unfolding(crate::specs::TomlLines::with_line))]
 fn add_line(text: &mut String, line: &str) -> Result<(), AllocError>
     ensures { OnOk result (string_bytes text.new ≡ with_line (string_bytes text.old) line.now) }
 {
@@ -23,6 +24,7 @@ fn add_line(text: &mut String, line: &str) -> Result<(), AllocError>
 }
 
 /// A text on one line.
+#[tactic(auto, unfolding(crate::specs::TomlLines::on_one_line))]
 pub fn on_one_line(alloc: Global, text: &str) -> Result<String, AllocError>
     ensures { IfOk result (λ joined. string_bytes joined ≡ on_one_line text.now) }
 {
@@ -34,6 +36,7 @@ pub fn on_one_line(alloc: Global, text: &str) -> Result<String, AllocError>
 }
 
 /// A line or a column as users count it, from 1, of one that is counted from 0.
+#[tactic(auto, unfolding(crate::specs::TomlLines::from_one))]
 fn from_one(count: usize) -> u64
     ensures { result ≡ from_one count }
 {
@@ -71,6 +74,7 @@ pub fn start_of(position: TextPosition) -> Position
 }
 
 /// The range of a line, from 0, without the blanks around it.
+#[tactic(auto, unfolding(crate::specs::FirstLines::line_range))]
 fn line_range(line: &str, place: usize) -> Range
     ensures { result ≡ line_range line.now place }
 {

@@ -19,6 +19,7 @@ use rinqebo_report::HelpPlace;
 use std::alloc::{AllocError, Global};
 
 /// Where a key of a profile belongs that is one of overrides.
+#[tactic(auto, unfolding(crate::specs::UnknownKeys::in_overrides))]
 fn in_overrides(alloc: Global, profile: &str, key: &str) -> Result<Option<String>, AllocError>
     ensures { IfOk result (λ help. option_map string_bytes help
         ≡ in_overrides profile.now key.now) }
@@ -40,6 +41,7 @@ fn in_overrides(alloc: Global, profile: &str, key: &str) -> Result<Option<String
 }
 
 /// Where a key of another table belongs that is one of a profile.
+#[tactic(auto, unfolding(crate::specs::UnknownKeys::in_profile))]
 fn in_profile(alloc: Global, profile: &str, key: &str) -> Result<Option<String>, AllocError>
     ensures { IfOk result (λ help. option_map string_bytes help ≡ in_profile profile.now key.now) }
 {
@@ -53,6 +55,7 @@ fn in_profile(alloc: Global, profile: &str, key: &str) -> Result<Option<String>,
 }
 
 /// Whether the table at a key of the table at a path knows a key, in a file of a shape.
+#[tactic(auto, unfolding(crate::specs::UnknownKeys::part_knows))]
 fn part_knows(
     alloc: Global,
     file: &Shape,
@@ -87,6 +90,7 @@ fn knowing_part(
 }
 
 /// Where a key of a table belongs that is one of a table in it: the first that knows it.
+#[tactic(auto, unfolding(crate::specs::UnknownKeys::in_part))]
 fn in_part(alloc: Global, table: &[Step<'_>], key: &str) -> Result<Option<String>, AllocError>
     ensures { IfOk result (λ help. option_map string_bytes help ≡ in_part table.now key.now) }
 {
@@ -101,6 +105,7 @@ fn in_part(alloc: Global, table: &[Step<'_>], key: &str) -> Result<Option<String
 }
 
 /// The name of the profile that has a path.
+#[tactic(auto, unfolding(crate::specs::UnknownKeys::profile_of))]
 fn profile_of<'p>(path: &[Step<'p>]) -> Option<&'p str>
     ensures { option_copied result ≡ profile_of path.now }
 {
@@ -112,6 +117,7 @@ fn profile_of<'p>(path: &[Step<'p>]) -> Option<&'p str>
 }
 
 /// Where a key belongs that a table of a profile does not know, and another one does.
+#[tactic(auto, unfolding(crate::specs::UnknownKeys::place_in_profile))]
 fn place_in_profile(
     alloc: Global,
     table: &[Step<'_>],
@@ -128,6 +134,7 @@ fn place_in_profile(
 }
 
 /// Where a key of a file belongs that is one of profiles.
+#[tactic(auto, unfolding(crate::specs::UnknownKeys::place_in_default))]
 fn place_in_default(
     alloc: Global,
     table: &[Step<'_>],
@@ -144,6 +151,7 @@ fn place_in_default(
 }
 
 /// Where a key belongs that its table does not know, and another one does.
+#[tactic(auto, unfolding(crate::specs::UnknownKeys::place_elsewhere))]
 fn place_elsewhere(
     alloc: Global,
     table: &[Step<'_>],
@@ -167,6 +175,7 @@ fn place_elsewhere(
 }
 
 /// Whether the values of a key of a table are arrays of tables.
+#[tactic(auto, unfolding(crate::specs::UnknownKeys::is_list))]
 fn is_list(alloc: Global, table: &[Step<'_>], key: &str) -> Result<bool, AllocError>
     ensures { IfOk result (λ list. list ≡ is_list table.now key.now) }
 {
@@ -179,6 +188,7 @@ fn is_list(alloc: Global, table: &[Step<'_>], key: &str) -> Result<bool, AllocEr
 }
 
 /// The hint that a key of a table is meant: by its header, where it is that of an array of tables.
+#[tactic(auto, unfolding(crate::specs::UnknownKeys::key_hint))]
 fn key_hint(alloc: Global, table: &[Step<'_>], key: &str) -> Result<String, AllocError>
     ensures { IfOk result (λ hint. string_bytes hint ≡ key_hint table.now key.now) }
 {
@@ -227,6 +237,7 @@ fn key_help(
 }
 
 /// What to do about a key that its table does not know, and whether it is that a near one is meant.
+#[tactic(auto, unfolding(crate::specs::Tables::key_at))]
 pub fn unknown_key_help(
     alloc: Global,
     path: &[Step<'_>],

@@ -17,6 +17,7 @@ fn is_after(check: Check, reached: Option<Check>) -> bool
 }
 
 /// The names of the checks after the last one that was reached.
+#[tactic(auto, unfolding(crate::specs::Checks::checks_after))]
 pub fn names_after(alloc: Global, reached: Option<Check>) -> Result<Vec<String>, AllocError>
     ensures { IfOk result (λ names. map string_bytes names.items
         ≡ map check_name (checks_after reached)) }

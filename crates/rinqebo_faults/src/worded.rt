@@ -5,6 +5,7 @@ ghost use Rattle.rinqebo_faults.specs.Worded.{first_of, IsPart, IsWorded, place_
 use std::alloc::{AllocError, Global};
 
 /// The character that a text begins with.
+#[tactic(auto, unfolding(crate::specs::Worded::first_of))]
 pub fn first_of(text: &str) -> &str
     ensures { result.now ≡ first_of text.now }
 {
@@ -58,6 +59,7 @@ impl<'t> Stopped<'t> {
     }
 
     /// Where some text that follows the start is, which ends with the whole text.
+    #[tactic(auto, unfolding(crate::specs::Worded::place_of))]
     pub fn place_of(self, rest: &str, len: usize) -> (usize, usize)
         ensures { result ≡ place_of self.entry.text.now rest.now len }
     {

@@ -15,6 +15,7 @@ fn mark_before(is_last: bool, last: &'static str) -> &'static str
 }
 
 /// Items with commas between them, and something else before the last one.
+#[tactic(auto, unfolding(crate::specs::Words::listed))]
 pub fn listed(alloc: Global, items: &[String], last: &'static str) -> Result<String, AllocError>
     ensures { IfOk result (λ text. string_bytes text
         ≡ listed last.now (map string_bytes items.now)) }
@@ -56,6 +57,7 @@ pub fn is_among(words: &[&str], word: &str) -> bool
 }
 
 /// Whether a text has digits alone.
+#[tactic(auto, unfolding(crate::specs::Words::is_number))]
 pub fn is_number(text: &str) -> bool
     ensures { result ≡ is_number text.now }
 {
