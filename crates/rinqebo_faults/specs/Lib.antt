@@ -1,17 +1,13 @@
-pub mod BadLines
 pub mod Checks
-pub mod Edited
 pub mod Edits
 pub mod ElementRepairs
 pub mod Elements
 pub mod Expected
 pub mod Features
 pub mod Filters
-pub mod FirstLines
 pub mod Given
 pub mod Headers
 pub mod Hints
-pub mod Lines
 pub mod Namings
 pub mod Order
 pub mod Paths

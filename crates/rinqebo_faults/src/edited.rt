@@ -1,10 +1,4 @@
 //! Documents as texts, with edits.
-ghost use Rattle.std.specs.Prelude.{◌≡◌, [], IfOk, OnOk, string_bytes};
-ghost use Rattle.nextest_tree.specs.View.{entries_view, nodes_view, tree_view};
-ghost use Rattle.rinqebo_report.specs.TomlText.{quoted};
-ghost use Rattle.rinqebo_faults.specs.Edited.{behind, edited, edited_document, edited_entries, edited_items, entry_text, leaf_text, with_added};
-ghost use Rattle.rinqebo_faults.specs.Edits.{edits_view};
-
 use crate::edits::{Edits, mark_below, mark_of_source};
 use nextest_places::Step;
 use nextest_tree::Tree;
@@ -13,34 +7,19 @@ use std::alloc::{AllocError, Global};
 use std::collections::BTreeMap;
 
 /// A string, in quotes.
-fn quoted(alloc: Global, text: &str) -> Result<String, AllocError>
-    ensures { IfOk result (λ quoted_text. string_bytes quoted_text ≡ quoted text.now) }
-{
+fn quoted(alloc: Global, text: &str) -> Result<String, AllocError> {
     let text = String::from_str(alloc, text)?;
     value_text(alloc, &Value::Scalar(Scalar::Text(text)))
 }
 
 /// A value that is neither a table nor an array.
-fn scalar_text(alloc: Global, tree: &Tree) -> Result<String, AllocError>
-    ensures { IfOk result (λ text. string_bytes text ≡ leaf_text (tree_view tree.now)) }
-{
+fn scalar_text(alloc: Global, tree: &Tree) -> Result<String, AllocError> {
     match tree {
         Tree::Text(text) => quoted(alloc, text.as_str()),
         Tree::Int(number) => format!(in alloc; "{number}"),
         Tree::Bool(flag) => format!(in alloc; "{flag}"),
         Tree::Opaque | Tree::Table(_) | Tree::Array(_) => String::from_str(alloc, "0.0"),
     }
-}
-
-/// Adds more to a text, behind a separator if it has some.
-fn add_behind(text: &mut String, separator: &str, more: &str) -> Result<(), AllocError>
-    ensures { OnOk result (string_bytes text.new
-        ≡ behind separator.now (string_bytes text.old) more.now) }
-{
-    if !text.is_empty() {
-        text.push_str(separator)?;
-    }
-    text.push_str(more)
 }
 
 /// Adds an entry to a text, behind a separator if it has some.
@@ -50,21 +29,28 @@ fn add_entry(
     separator: &str,
     key: &str,
     value: &str,
-) -> Result<(), AllocError>
-    ensures { OnOk result (string_bytes text.new ≡ behind separator.now (string_bytes text.old)
-        (entry_text key.now value.now)) }
-{
+) -> Result<(), AllocError> {
     let name = quoted(alloc, key)?;
     let entry = format!(in alloc; "{name} = {value}")?;
-    add_behind(text, separator, entry.as_str())
+    if !text.is_empty() {
+        text.push_str(separator)?;
+    }
+    text.push_str(entry.as_str())
+}
+
+/// Returns a text with more, behind a separator if it has some.
+fn added(text: String, separator: &str, more: &str) -> Result<String, AllocError> {
+    let mut text = text;
+    if !text.is_empty() {
+        text.push_str(separator)?;
+    }
+    text.push_str(more)?;
+    Ok(text)
 }
 
 /// A value with the edits at its mark and below.
 #[cycle(edited)]
-fn edited(alloc: Global, tree: &Tree, edits: &Edits, mark: &str) -> Result<String, AllocError>
-    ensures { IfOk result (λ text. string_bytes text
-        ≡ edited (edits_view edits.now) mark.now (tree_view tree.now)) }
-{
+fn edited(alloc: Global, tree: &Tree, edits: &Edits, mark: &str) -> Result<String, AllocError> {
     if let Some(text) = edits.replacement(mark) {
         return String::from_str(alloc, text);
     }
@@ -88,10 +74,7 @@ fn edited_items(
     items: &[Tree],
     edits: &Edits,
     mark: &str,
-) -> Result<String, AllocError>
-    ensures { IfOk result (λ text. string_bytes text
-        ≡ edited_items (edits_view edits.now) mark.now 0 (nodes_view items.now)) }
-{
+) -> Result<String, AllocError> {
     let mut text = String::new(alloc);
     let mut position = 0usize;
     for item in items {
@@ -114,11 +97,7 @@ fn edited_members(
     edits: &Edits,
     mark: &str,
     separator: &str,
-) -> Result<String, AllocError>
-    ensures { IfOk result (λ text. string_bytes text ≡ with_added separator.now
-        (edited_entries (edits_view edits.now) mark.now separator.now []
-        (entries_view members.now.entries)) ((edits_view edits.now).added mark.now)) }
-{
+) -> Result<String, AllocError> {
     let mut text = String::new(alloc);
     for (key, tree) in members.iter() {
         let below = mark_below(alloc, mark, Step::Key(key.as_str()))?;
@@ -127,10 +106,10 @@ fn edited_members(
             add_entry(alloc, &mut text, separator, key.as_str(), value.as_str())?;
         }
     }
-    if let Some(more) = edits.additions(mark) {
-        add_behind(&mut text, separator, more)?;
+    match edits.additions(mark) {
+        Some(more) => added(text, separator, more),
+        None => Ok(text),
     }
-    Ok(text)
 }
 
 /// The document of the source at a place among the layers, with edits.
@@ -139,10 +118,7 @@ pub fn edited_document(
     tree: &Tree,
     edits: &Edits,
     place: usize,
-) -> Result<String, AllocError>
-    ensures { IfOk result (λ text. string_bytes text
-        ≡ edited_document (edits_view edits.now) (tree_view tree.now) place) }
-{
+) -> Result<String, AllocError> {
     let mark = mark_of_source(alloc, place)?;
     match tree {
         Tree::Table(members) => edited_members(alloc, members, edits, mark.as_str(), "\n"),

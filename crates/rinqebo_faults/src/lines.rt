@@ -1,7 +1,4 @@
 //! The lines of a text that show parts of it.
-ghost use Rattle.std.specs.Prelude.{◌≡◌, IfOk, map, ◌≤◌, All};
-ghost use Rattle.rinqebo_faults.specs.Lines.{character_at, indent_of, last_shown, parts_on, shown_line, shown_lines, span_on, with_part};
-
 use rinqebo_report::{CharSpan, LinePart, Range, Sign, SourceLine};
 use std::alloc::{AllocError, Global};
 
@@ -18,10 +15,7 @@ pub struct Mark {
 }
 
 /// Returns the last line that is shown of a range: its first one, if it has too many.
-#[tactic(auto, unfolding(crate::specs::Lines::last_shown))]
-fn last_shown(range: Range) -> u64
-    ensures { result ≡ last_shown range }
-{
+fn last_shown(range: Range) -> u64 {
     let lines = range.end.line.saturating_sub(range.start.line);
     if lines < MOST_LINES as u64 {
         range.end.line
@@ -31,25 +25,17 @@ fn last_shown(range: Range) -> u64
 }
 
 /// Returns the place of a column, which counts from 1, among the characters of a line.
-fn character_at(column: u64) -> usize
-    ensures { result ≡ character_at column }
-{
+fn character_at(column: u64) -> usize {
     column.saturating_sub(1) as usize
 }
 
 /// Returns how many characters of a line are before the first that is not white space.
-#[tactic(auto, unfolding(crate::specs::Lines::indent_of))]
-pub fn indent_of(line: &str) -> usize
-    ensures { result ≡ indent_of line.now }
-{
+pub fn indent_of(line: &str) -> usize {
     line.chars().take_while(|c| c.is_whitespace()).count()
 }
 
 /// Returns the characters of a line that lie in a range, if it reaches the line and is shown there.
-#[tactic(auto, unfolding(crate::specs::Lines::span_on))]
-fn span_on(range: Range, number: u64, line: &str) -> Option<CharSpan>
-    ensures { result ≡ span_on range number line.now }
-{
+fn span_on(range: Range, number: u64, line: &str) -> Option<CharSpan> {
     if number < range.start.line || number > last_shown(range) {
         return None;
     }
@@ -68,12 +54,7 @@ fn span_on(range: Range, number: u64, line: &str) -> Option<CharSpan>
 
 /// Adds a part of a line, and the blank part before it, unless the parts so far reach behind its
 /// start.
-#[tactic(auto, unfolding(crate::specs::Lines::with_part))]
-fn add_part(parts: &mut Vec<LinePart>, end: usize, part: LinePart) -> Result<usize, AllocError>
-    ensures { IfOk result (λ reached.
-        with_part (record { parts = parts.old.items; end = end }) part
-        ≡ record { parts = parts.new.items; end = reached }) }
-{
+fn add_part(parts: &mut Vec<LinePart>, end: usize, part: LinePart) -> Result<usize, AllocError> {
     let span = part.span;
     if span.from < end {
         return Ok(end);
@@ -93,15 +74,12 @@ fn add_part(parts: &mut Vec<LinePart>, end: usize, part: LinePart) -> Result<usi
 
 /// Returns the parts of a line, up to the last one with a sign. Marks come in the order of their
 /// starts.
-#[tactic(auto, unfolding(crate::specs::Lines::parts_on))]
 fn parts_of(
     alloc: Global,
     marks: &[Mark],
     number: u64,
     line: &str,
-) -> Result<Vec<LinePart>, AllocError>
-    ensures { IfOk result (λ parts. parts.items ≡ (parts_on marks.now number line.now).parts) }
-{
+) -> Result<Vec<LinePart>, AllocError> {
     let mut parts = Vec::new(alloc);
     let mut end = 0usize;
     for mark in marks {
@@ -114,9 +92,7 @@ fn parts_of(
 }
 
 /// Returns the last line that is shown of some parts of a file.
-fn last_line(marks: &[Mark]) -> u64
-    ensures { All (λ mark. last_shown mark.range ≤ result) marks.now }
-{
+fn last_line(marks: &[Mark]) -> u64 {
     let mut last = 0u64;
     for mark in marks {
         last = last.max(last_shown(mark.range));
@@ -126,10 +102,7 @@ fn last_line(marks: &[Mark]) -> u64
 
 /// Returns the lines of a text that show marks, three at most. Marks come in the order of their
 /// starts.
-#[tactic(auto, unfolding(crate::specs::Lines::shown_lines))]
-pub fn lines_of(alloc: Global, text: &str, marks: &[Mark]) -> Result<Vec<SourceLine>, AllocError>
-    ensures { IfOk result (λ shown. map shown_line shown.items ≡ shown_lines marks.now text.now) }
-{
+pub fn lines_of(alloc: Global, text: &str, marks: &[Mark]) -> Result<Vec<SourceLine>, AllocError> {
     let mut shown = Vec::new(alloc);
     let last = last_line(marks);
     let mut number = 0u64;

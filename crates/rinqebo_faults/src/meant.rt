@@ -1,9 +1,5 @@
 //! What is wrong with lines that are not TOML, in words: what is there, what is expected, and what
 //! is meant, where that is plain.
-ghost use Rattle.std.specs.Prelude.{◌≡◌, IfOk, option_map, string_bytes};
-ghost use Rattle.std.specs.Option.{option_copied};
-ghost use Rattle.rinqebo_faults.specs.BadLines.{defined, defines, expected_of, first_definition, is_second, len_there, line_front, line_rest, there, wanted_in, word_at, wrong, is_end};
-
 use crate::worded::first_of;
 use crate::words::owned;
 use std::alloc::{AllocError, Global};
@@ -43,11 +39,7 @@ pub struct LineWords {
 
 impl<'t> BadLine<'t> {
     /// The line before the fault, and from there on.
-    #[tactic(auto, unfolding(crate::specs::BadLines::line_front, crate::specs::BadLines::line_rest))]
-    fn parted(self) -> (&'t str, &'t str)
-        ensures front { result.0.now ≡ line_front self.entry.line.now self.entry.column }
-        ensures rest { result.1.now ≡ line_rest self.entry.line.now self.entry.column }
-    {
+    fn parted(self) -> (&'t str, &'t str) {
         match self.line.char_indices().nth(self.column) {
             Some((at, _)) => (
                 self.line.get(..at).unwrap_or(""),
@@ -58,19 +50,13 @@ impl<'t> BadLine<'t> {
     }
 
     /// What is expected, as the reader of TOML words it.
-    #[tactic(auto, unfolding(crate::specs::BadLines::expected_of))]
-    fn expected(self) -> Option<&'t str>
-        ensures { option_copied result ≡ expected_of self.entry.reason.now }
-    {
+    fn expected(self) -> Option<&'t str> {
         let (_wrong, expected) = self.reason.split_once(", expected ")?;
         Some(expected)
     }
 
     /// What is wrong, as the reader of TOML words it.
-    #[tactic(auto, unfolding(crate::specs::BadLines::wrong))]
-    fn wrong(self) -> &'t str
-        ensures { result.now ≡ wrong self.entry.reason.now }
-    {
+    fn wrong(self) -> &'t str {
         match self.reason.split_once(", expected ") {
             Some((wrong, _expected)) => wrong,
             None => self.reason,
@@ -78,18 +64,12 @@ impl<'t> BadLine<'t> {
     }
 
     /// Whether the line defines what is defined before it.
-    #[tactic(auto, unfolding(crate::specs::BadLines::is_second))]
-    pub fn is_second(self) -> bool
-        ensures { result ≡ is_second self.entry.reason.now }
-    {
+    pub fn is_second(self) -> bool {
         self.reason == "duplicate key"
     }
 
     /// What the line defines: a header with its brackets, or the key at the fault.
-    #[tactic(auto, unfolding(crate::specs::BadLines::defined))]
-    pub fn defined(self) -> &'t str
-        ensures { result.now ≡ defined self.entry.line.now self.entry.column }
-    {
+    pub fn defined(self) -> &'t str {
         let start = self.line.trim();
         if start.starts_with('[') {
             return start;
@@ -108,18 +88,12 @@ fn is_curly(c: char) -> bool {
 }
 
 /// Whether a character ends a word of a line.
-#[tactic(auto, unfolding(crate::specs::BadLines::is_end))]
-fn is_end(c: char) -> bool
-    ensures { result ≡ is_end c }
-{
+fn is_end(c: char) -> bool {
     c.is_whitespace() || c == ',' || c == ']' || c == '}' || c == '#'
 }
 
 /// The word that a text begins with, or its first character.
-#[tactic(auto, unfolding(crate::specs::BadLines::word_at))]
-fn word_at(text: &str) -> &str
-    ensures { result.now ≡ word_at text.now }
-{
+fn word_at(text: &str) -> &str {
     for (at, c) in text.char_indices() {
         if is_end(c) {
             return text.get(..at.max(first_of(text).len())).unwrap_or(text);
@@ -206,11 +180,7 @@ fn line_help(alloc: Global, bad: BadLine<'_>) -> Result<Option<String>, AllocErr
 }
 
 /// What is there that is wrong, in words, given the line from the fault on.
-#[tactic(auto, unfolding(crate::specs::BadLines::there))]
-fn there(alloc: Global, bad: BadLine<'_>, rest: &str) -> Result<String, AllocError>
-    ensures { IfOk result (λ message. string_bytes message
-        ≡ there bad.entry.line.now bad.entry.column bad.entry.reason.now rest.now) }
-{
+fn there(alloc: Global, bad: BadLine<'_>, rest: &str) -> Result<String, AllocError> {
     let wrong = bad.wrong();
     if rest.is_empty() {
         return format!(in alloc; "{wrong} at the end of the line");
@@ -228,11 +198,7 @@ fn there(alloc: Global, bad: BadLine<'_>, rest: &str) -> Result<String, AllocErr
 }
 
 /// How many characters are wrong, given the line from the fault on.
-#[tactic(auto, unfolding(crate::specs::BadLines::len_there))]
-fn len_there(bad: BadLine<'_>, rest: &str) -> usize
-    ensures { result
-        ≡ len_there bad.entry.line.now bad.entry.column bad.entry.reason.now rest.now }
-{
+fn len_there(bad: BadLine<'_>, rest: &str) -> usize {
     if rest.is_empty() || bad.wrong() == ESCAPE {
         return 1;
     }
@@ -243,10 +209,7 @@ fn len_there(bad: BadLine<'_>, rest: &str) -> usize
 }
 
 /// What is expected in a line.
-#[tactic(auto, unfolding(crate::specs::BadLines::wanted_in))]
-fn wanted<'t>(bad: BadLine<'t>) -> Option<&'t str>
-    ensures { option_copied result ≡ wanted_in bad.entry.reason.now }
-{
+fn wanted<'t>(bad: BadLine<'t>) -> Option<&'t str> {
     match bad.reason {
         "duplicate key" => Some("one definition"),
         "invalid escape sequence" => Some("an escape of TOML, as `\\\\` for a backslash"),
@@ -256,15 +219,7 @@ fn wanted<'t>(bad: BadLine<'t>) -> Option<&'t str>
 }
 
 /// What is wrong with a line, in words.
-pub fn line_words(alloc: Global, bad: BadLine<'_>) -> Result<LineWords, AllocError>
-    ensures len { IfOk result (λ words. words.len ≡ len_there bad.entry.line.now bad.entry.column
-        bad.entry.reason.now (line_rest bad.entry.line.now bad.entry.column)) }
-    ensures message { IfOk result (λ words. string_bytes words.message
-        ≡ there bad.entry.line.now bad.entry.column bad.entry.reason.now
-        (line_rest bad.entry.line.now bad.entry.column)) }
-    ensures expected { IfOk result (λ words. option_map string_bytes words.expected
-        ≡ wanted_in bad.entry.reason.now) }
-{
+pub fn line_words(alloc: Global, bad: BadLine<'_>) -> Result<LineWords, AllocError> {
     let (_before, rest) = bad.parted();
     Ok(LineWords {
         len: len_there(bad, rest),
@@ -275,10 +230,7 @@ pub fn line_words(alloc: Global, bad: BadLine<'_>) -> Result<LineWords, AllocErr
 }
 
 /// Whether a line defines a key.
-#[tactic(auto, unfolding(crate::specs::BadLines::defines))]
-fn defines(line: &str, key: &str) -> bool
-    ensures { result ≡ defines line.now key.now }
-{
+fn defines(line: &str, key: &str) -> bool {
     match line.split_once('=') {
         Some((own, _value)) => own.trim() == key,
         None => false,
@@ -287,10 +239,7 @@ fn defines(line: &str, key: &str) -> bool
 
 /// The place, among the lines of a text before another one, of the one that first defines a header
 /// or a key. A key is defined in the same table.
-#[tactic(auto, unfolding(crate::specs::BadLines::first_definition))]
-pub fn first_definition(text: &str, end: usize, defined: &str) -> Option<usize>
-    ensures { result ≡ first_definition text.now end defined.now }
-{
+pub fn first_definition(text: &str, end: usize, defined: &str) -> Option<usize> {
     let is_header = defined.starts_with('[');
     let mut first = None;
     for (place, line) in text.lines().enumerate() {

@@ -1,9 +1,8 @@
 //! Where the rules of profiles name groups and scripts.
-ghost use Rattle.std.specs.Prelude.{◌≡◌, IfOk, string_bytes, ◌++◌, Some, map, option_map};
+ghost use Rattle.std.specs.Prelude.{◌≡◌, IfOk, string_bytes, ◌++◌, Some, map};
 ghost use Rattle.rinqebo_faults.specs.Repairs.{naming_mark};
 ghost use Rattle.nextest_places.specs.Spans.Paths.{path_step};
-ghost use Rattle.nextest_tree.specs.View.{tree_view};
-ghost use Rattle.rinqebo_faults.specs.Namings.{AreNamingsOf, earlier, first_naming, naming_path, naming_steps};
+ghost use Rattle.rinqebo_faults.specs.Namings.{earlier, first_naming, naming_path, naming_steps};
 
 use crate::given::profiles_of;
 use crate::paths::profile_path;
@@ -81,10 +80,7 @@ impl Namings {
         tree: Option<&Tree>,
         list: &'static str,
         keys: &[&'static str],
-    ) -> Result<Namings, AllocError>
-        ensures { IfOk result (AreNamingsOf (option_map (λ tree. tree_view tree.now) tree.entry)
-            list.now (map (λ key. key.now) keys.now)) }
-    {
+    ) -> Result<Namings, AllocError> {
         let mut namings = Namings {
             alloc,
             list,

@@ -1,6 +1,6 @@
 //! Positions in texts, and the parts of refused texts, as reports have them.
 ghost use Rattle.std.specs.Prelude.{◌≡◌, IfOk, IfSome};
-ghost use Rattle.rinqebo_faults.specs.Positions.{char_span, characters_before, IsExpression, IsRangeIn, IsWrittenAt, position_behind};
+ghost use Rattle.rinqebo_faults.specs.Positions.{char_span, characters_before, IsRangeIn, IsWrittenAt, position_behind};
 
 use nextest_places::offsets_of;
 use rinqebo_report::{CharSpan, Position, Range as ReportRange, RefusedExpression};
@@ -8,10 +8,7 @@ use std::alloc::{AllocError, Global};
 use std::ops::Range;
 
 /// How many characters are before a byte of a text.
-#[tactic(auto, unfolding(crate::specs::Positions::characters_before))]
-fn characters_before(text: &str, byte: usize) -> usize
-    ensures { result ≡ characters_before text.now byte }
-{
+fn characters_before(text: &str, byte: usize) -> usize {
     text.char_indices().filter(|(at, _)| *at < byte).count()
 }
 
@@ -20,10 +17,7 @@ pub fn expression(
     alloc: Global,
     text: &str,
     bytes: &Range<usize>,
-) -> Result<RefusedExpression, AllocError>
-    ensures { IfOk result (λ expression. IsExpression text.now bytes.now.start bytes.now.end
-        expression) }
-{
+) -> Result<RefusedExpression, AllocError> {
     Ok(RefusedExpression {
         text: String::from_str(alloc, text)?,
         span: Some(CharSpan {
@@ -85,9 +79,7 @@ pub fn range_in(
 }
 
 /// The characters of a text between two bytes.
-pub fn char_span(text: &str, start: usize, end: usize) -> CharSpan
-    ensures { result ≡ char_span text.now start end }
-{
+pub fn char_span(text: &str, start: usize, end: usize) -> CharSpan {
     CharSpan {
         from: characters_before(text, start),
         to: characters_before(text, end),

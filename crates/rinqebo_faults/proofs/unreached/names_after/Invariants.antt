@@ -1,6 +1,6 @@
 use Rattle.std.proofs.Common.{◌≡◌, ◌++◌, drop, map, string_bytes}
 use Rattle.std.specs.Prelude.{filter}
-use Rattle.rinqebo_faults.specs.Checks.{all_checks, check_name, checks_after, is_after}
+use Rattle.rinqebo_faults.specs.Checks.{check_name, checks_after, is_after}
 use Rattle.rinqebo_faults.proofs.unreached.names_after.Given as goal
 
 abbrev pub invariant-loop-check : goal.invariant-loop-check
