@@ -1,7 +1,7 @@
 -- Hints of findings: which known name a wrong one most likely means.
-use Rattle.std.specs.Prelude.{◌≡◌, ◌⊎◌, ◌<◌, ℕ, ◌+◌, ◌==◌, min, nat_eq, nat_le, Bool, ◌&&◌, ◌||◌, List, [], ◌∷◌, ◌++◌, codes, find, length, map, Option, None, Some, option_map, All, if◌then◌else◌}
+use Rattle.std.specs.Prelude.{◌≡◌, ◌⊎◌, ◌<◌, ℕ, ◌+◌, ◌-◌, ◌==◌, count_by, min, not, nat_eq, nat_le, Bool, ◌&&◌, ◌||◌, List, [], ◌++◌, codes, find, length, map, Option, None, Some, option_map, All}
 use Rattle.std.specs.Borrow.{Bor}
-use Rattle.std.specs.List.{list_all, list_any, starts_with}
+use Rattle.std.specs.List.{list_all, list_any, starts_with, zip}
 use Rattle.std.specs.Str.{chars, str_eq_ignore_ascii_case}
 use Rattle.nextest_places.specs.declared.step.Step.{Step}
 use Rattle.nextest_shape.specs.Form.{one_of, Form, a_text, either, Forms, no_forms, or_form}
@@ -14,11 +14,11 @@ begins one other =
     nat_le 3 (min (length one) (length other))
     && (starts_with nat_eq one other || starts_with nat_eq other one)
 
--- how many of some characters are others than those at the same places of other ones
-abbrev pub differences : List ℕ → List ℕ → ℕ
-differences [] others = 0
-differences (c ∷ cs) [] = 1 + differences cs []
-differences (c ∷ cs) (d ∷ ds) = (if c == d then 0 else 1) + differences cs ds
+-- how many of some characters are others than those at the same places of other ones, where these
+-- may be fewer
+unfoldable pub differences : List ℕ → List ℕ → ℕ
+differences cs others =
+    count_by (λ p. not (p.0 == p.1)) (zip cs others) + (length cs - length others)
 
 -- each of some characters is among others
 abbrev pub are_among : List ℕ → List ℕ → Bool

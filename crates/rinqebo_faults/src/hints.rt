@@ -1,8 +1,8 @@
 //! Hints of findings: which known name, or key of the same table, a wrong one most likely means.
-ghost use Rattle.std.specs.Prelude.{◌≡◌, ◌==◌, ◌++◌, IfOk, OnOk, map, option_map, string_bytes};
-ghost use Rattle.std.specs.List.{list_any};
+ghost use Rattle.std.specs.Prelude.{◌≡◌, ◌-◌, ◌^◌, ◌==◌, ◌++◌, IfOk, OnOk, count_by, length, map, min, not, option_map, string_bytes};
+ghost use Rattle.std.specs.List.{list_any, zip};
 ghost use Rattle.std.specs.Option.{option_copied};
-ghost use Rattle.std.specs.Str.{chars};
+ghost use Rattle.std.specs.Str.{chars, str_eq_ignore_ascii_case};
 ghost use Rattle.nextest_shape.specs.View.{shape_view, shapes_view};
 ghost use Rattle.rinqebo_faults.specs.Hints.{are_among, begins, differences, first_mistaken, is_mistaken, is_swapped, IsHint, IsHintAt, IsNear, name_by_front, own_words, texts, words_of, words_of_each};
 
@@ -14,7 +14,7 @@ use std::alloc::{AllocError, Global};
 use std::collections::BTreeSet;
 
 /// Whether one of two texts, which has three bytes at least, begins the other.
-#[tactic(auto, unfolding(crate::specs::Hints::begins))]
+#[tactic(auto, using(std::proofs::lemmas::Str::Pattern::starts_text), unfolding(crate::specs::Hints::begins))]
 fn begins(one: &str, other: &str) -> bool
     ensures { result ≡ begins one.now other.now }
 {
@@ -22,18 +22,31 @@ fn begins(one: &str, other: &str) -> bool
     shorter >= 3 && (one.starts_with(other) || other.starts_with(one))
 }
 
-/// How many characters of two texts of one length are others.
-fn differences(one: &str, other: &str) -> usize
-    ensures { result ≡ differences (chars one.now) (chars other.now) }
+/// How many characters a text has.
+fn char_count(text: &str) -> usize
+    ensures { result ≡ length (chars text.now) }
 {
-    let mut count = 0usize;
-    let mut others = other.chars();
-    for c in one.chars() {
-        if others.next() != Some(c) {
-            count = count.saturating_add(1);
-        }
-    }
-    count
+    text.chars().count()
+}
+
+/// How many characters of two texts are others at the same places.
+fn unlike(one: &str, other: &str) -> usize
+    ensures { result ≡ count_by (λ p. not (p.0 == p.1)) (zip (chars one.now) (chars other.now)) }
+{
+    one.chars()
+        .zip(other.chars())
+        .filter(|(c, d)| c != d)
+        .count()
+}
+
+/// How many characters of a text are others than those at the same places of another one, which may
+/// have fewer.
+#[tactic(auto, unfolding(crate::specs::Hints::differences))]
+fn differences(one: &str, other: &str) -> usize
+    ensures { result ≡ min (differences (chars one.now) (chars other.now)) (2 ^ 64 - 1) }
+{
+    let more = char_count(one).saturating_sub(char_count(other));
+    unlike(one, other).saturating_add(more)
 }
 
 /// Whether a character is one of a text.
@@ -61,12 +74,19 @@ fn is_swapped(one: &str, other: &str) -> bool
         && are_among(other, one)
 }
 
+/// Whether two names are the same but for the case of their letters.
+fn is_same_word(name: &str, known: &str) -> bool
+    ensures { result ≡ str_eq_ignore_ascii_case name.now known.now }
+{
+    name.eq_ignore_ascii_case(known)
+}
+
 /// Whether two names differ as names do that are mistaken: in case, or by swapped characters.
 #[tactic(auto, unfolding(crate::specs::Hints::is_mistaken))]
 fn is_mistaken(name: &str, known: &str) -> bool
     ensures { result ≡ is_mistaken name.now known.now }
 {
-    name.eq_ignore_ascii_case(known) || is_swapped(name, known)
+    is_same_word(name, known) || is_swapped(name, known)
 }
 
 /// The first known name that a slip of the hand makes a name.
