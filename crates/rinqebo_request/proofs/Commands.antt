@@ -27,7 +27,7 @@ pub is_not : (a b : List ℕ) → (a ≡ b → ⊥) → bytes_eq a b ≡ false
 is_not a b other = not_true (bytes_eq a b) (λ is. other ((bytes_eq-Decides a b).0 is))
 
 pub differs : (a b : List ℕ) → bytes_eq a b ≡ false → a ≢ b
-differs a b no same =
+differs a b test same =
     let yes : bytes_eq a b ≡ true = is_text a b same in absurd (cc)
 
 -- the subcommand that was read, by its name and by what it has

@@ -1,5 +1,6 @@
 -- The features that names name, one after another.
 use Rattle.std.proofs.Common.{◌≡◌, ◌∙◌, ◌↔◌, ◌⊎◌, ◌||◌, ◌∷◌, ◌<◌, ◌≤◌, ◌+◌, [], Bool, Bor, IsTrue, List, ap, drop, false, get_or, inl, inr, length, map, refl, sym, true, ℕ}
+use Rattle.std.proofs.lemmas.Bool.{false≢true}
 use Rattle.std.proofs.lemmas.List.{at_drop_more, drop_all}
 use Rattle.std.specs.BTreeSet.{BTreeSet}
 use Rattle.std.specs.List.{list_any}
@@ -37,9 +38,9 @@ among_all : (feature : ConfigExperimental) → IsTrue (list_any (is_feature feat
 among_all SetupScripts = refl
 among_all WrapperScripts = refl
 
-none_before : {P Q : Type 0} → IsTrue false ⊎ (P × Q) → Q
-none_before (inl is) = absurd (cc)
-none_before (inr both) = both.1
+none_before : {P Q : Type 0} (b : Bool) → b ≡ false → IsTrue b ⊎ (P × Q) → Q
+none_before b off (inl is) = absurd (false≢true (sym off ∙ is))
+none_before b off (inr both) = both.1
 
 -- the features that variables enable, and then those that names name
 pub all_named : (environment : Environment) (names : List (List ℕ)) (start mid end : BTreeSet ConfigExperimental) → start.keys ≡ []
@@ -48,7 +49,7 @@ pub all_named : (environment : Environment) (names : List (List ℕ)) (start mid
 all_named environment names start mid end none added named feature =
     let start_is : features_view start feature ≡ false = ap (list_any (is_feature feature)) none in
     let on : IsTrue (features_view mid feature) → IsSwitchedOn environment feature =
-    λ is. none_before (rw (← start_is) ((added feature).0 is)) in
+    λ is. none_before (features_view start feature) start_is ((added feature).0 is) in
     let back : IsSwitchedOn environment feature → IsTrue (features_view mid feature) =
     λ is. (added feature).1 (inr (among_all feature, is)) in
     let split : IsTrue (features_view mid feature) ⊎ IsTrue (is_named names feature) → IsSwitchedOn environment feature ⊎ IsTrue (is_named names feature) =

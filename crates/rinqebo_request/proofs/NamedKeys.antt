@@ -1,5 +1,5 @@
 -- The rows that keys name, one key after another.
-use Rattle.std.proofs.Common.{◌+◌, ◌<◌, Bor, drop, get_or, map, ◌≡◌, ◌≢◌, ◌∙◌, ◌++◌, ◌∷◌, ◌⊎◌, ◌&&◌, ◌||◌, ◌==◌, [], Bool, List, None, Option, Some, ap, ap₂, arith, eqb-true, false, if◌then◌else◌, inl, inr, length, not, refl, subst, sym, true, ℕ}
+use Rattle.std.proofs.Common.{◌+◌, ◌<◌, Bor, drop, get_or, map, ◌≡◌, ◌≢◌, ◌∙◌, ◌++◌, ◌∷◌, ◌⊎◌, ◌&&◌, ◌||◌, ◌==◌, [], Bool, List, None, Option, Some, ap, ap₂, arith, eqb-true, false, if◌then◌else◌, inl, inr, length, not, refl, subst, suc, sym, true, ℕ}
 use Rattle.std.proofs.lemmas.List.{append-nil, at_drop_more, drop_more}
 use Rattle.std.specs.List.{filter}
 use Rattle.std.specs.Prelude.{Vec, vec_len}
@@ -80,22 +80,29 @@ some_named found some none =
     let empty : vec_len found ≡ 0 = found.ok.0 ∙ ap length none in
     let test : (vec_len found == 0) ≡ true = ap (λ n. n == 0) empty in absurd (cc)
 
-some_more : (runs : Bool) (settings : List Setting) (more_runs : Bool) (more : List Setting) → (not runs && length settings == 0) ≡ false
-    → (not (runs || more_runs) && length (settings ++ more) == 0) ≡ false
-some_more true settings more_runs more some = refl
-some_more false settings true more some = refl
+not_so : (b : Bool) → (b ≡ true → ⊥) → b ≡ false
+not_so true none = absurd (none refl)
+not_so false none = refl
+
+not_zero : (n : ℕ) → (suc n == 0) ≡ false
+not_zero n = not_so (suc n == 0) (λ is. let zero : suc n ≡ 0 = eqb-true (suc n) 0 is in omega arith)
+
+some_more : (runs : Bool) (xs : List Setting) (more_runs : Bool) (more : List Setting) → (not runs && length xs == 0) ≡ false
+    → (not (runs || more_runs) && length (xs ++ more) == 0) ≡ false
+some_more true xs more_runs more some = refl
+some_more false xs true more some = refl
 some_more false [] false more some = absurd (cc)
-some_more false (setting ∷ settings) false more some = refl
+some_more false (x ∷ xs) false more some = not_zero (length (xs ++ more))
 
 stays : (mode : NextestRunMode) (rows : Rows) (keys : List (List ℕ)) → is_no_row rows ≡ false → is_no_row (with_all mode rows keys) ≡ false
 stays mode rows [] some = some
 stays mode rows (key ∷ keys) some =
     stays mode (with_key mode rows key) keys (some_more rows.runs rows.settings (is_runs key) (settings_by mode key) some)
 
-some_settings : (runs : Bool) (settings : List Setting) → settings ≢ [] → (not (false || runs) && length ([] ++ settings) == 0) ≡ false
-some_settings true settings some = refl
+some_settings : (runs : Bool) (xs : List Setting) → xs ≢ [] → (not (false || runs) && length ([] ++ xs) == 0) ≡ false
+some_settings true xs some = refl
 some_settings false [] some = absurd (some refl)
-some_settings false (setting ∷ settings) some = refl
+some_settings false (x ∷ xs) some = not_zero (length xs)
 
 known_row : (mode : NextestRunMode) (key : List ℕ) → IsKnownKey mode key → is_no_row (with_key mode no_rows key) ≡ false
 known_row mode key (inl is) = ap (λ runs. not (false || runs) && length ([] ++ settings_by mode key) == 0) is

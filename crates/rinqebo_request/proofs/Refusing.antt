@@ -1,16 +1,12 @@
 -- Why a command line is not a request.
-use Rattle.std.proofs.Common.{◌≡◌, ◌≢◌, ◌⊎◌, List, Option, inl, inr, refl, subst, sym, ℕ}
+use Rattle.std.proofs.Common.{◌≡◌, ◌≢◌, ◌⊎◌, inl, inr, refl, subst, sym}
 use Rattle.clap.specs.declared.error.kind.ErrorKind.{ErrorKind}
 use Rattle.clap.specs.declared.error.kind.ErrorKind.TheVariants as kinds
-use Rattle.rinqebo_request.specs.Stops.{IsHelp, IsInvalid, IsRefusedFor, IsStopFor, IsUsage}
+use Rattle.nextest_elements.specs.declared.identifier.InvalidIdentifier.{InvalidIdentifier}
+use Rattle.nextest_elements.specs.declared.identifier.InvalidIdentifier.TheVariants as flaws
+use Rattle.rinqebo_request.specs.Stops.{IsHelp, IsInvalid, IsRefusedFor, IsStopFor, IsToolRefusal}
 use Rattle.rinqebo_request.specs.declared.words.ParseStop.{ParseStop}
 use Rattle.rinqebo_request.specs.declared.words.ParseStop.TheVariants as stops
-
--- a usage error for a reason
-pub usage_for : (reason : Type 0) (message : List ℕ) (hint : Option (List ℕ)) (stop : ParseStop) → reason → IsUsage message hint stop → IsRefusedFor reason stop
-usage_for reason message hint (stops.Usage text) holds is = holds
-usage_for reason message hint (stops.Help text) holds is = absurd is
-usage_for reason message hint stops.Memory holds is = absurd is
 
 -- a line that is not valid, for a reason
 pub invalid_for : (reason : Type 0) (stop : ParseStop) → reason → IsInvalid stop → IsRefusedFor reason stop
@@ -18,17 +14,24 @@ invalid_for reason (stops.Usage text) holds is = holds
 invalid_for reason (stops.Help text) holds is = absurd is
 invalid_for reason stops.Memory holds is = absurd is
 
--- a usage error is of a line that is not valid
-pub is_invalid : (message : List ℕ) (hint : Option (List ℕ)) (stop : ParseStop) → IsUsage message hint stop → IsInvalid stop
-is_invalid message hint (stops.Usage text) is = tt
-is_invalid message hint (stops.Help text) is = is
-is_invalid message hint stops.Memory is = is
-
 -- what one reason brings, another one brings that follows
 pub refused_so : (one other : Type 0) (stop : ParseStop) → (one → other) → IsRefusedFor one stop → IsRefusedFor other stop
 refused_so one other (stops.Usage text) so is = so is
 refused_so one other (stops.Help text) so is = is
 refused_so one other stops.Memory so is = is
+
+-- a name that is not that of a tool
+pub tool_refused : (fault : InvalidIdentifier) (stop : ParseStop) → fault ≢ flaws.Memory → IsInvalid stop → IsToolRefusal fault stop
+tool_refused fault (stops.Usage text) other is = other
+tool_refused fault (stops.Help text) other is = is
+tool_refused fault stops.Memory other is = absurd is
+
+-- a name that is refused for a reason, if memory did not run out
+pub refused_tool : (reason : Type 0) (fault : InvalidIdentifier) (stop : ParseStop) → (fault ≢ flaws.Memory → reason) → IsToolRefusal fault stop
+    → IsRefusedFor reason stop
+refused_tool reason fault (stops.Usage text) so is = so is
+refused_tool reason fault (stops.Help text) so is = is
+refused_tool reason fault stops.Memory so is = tt
 
 -- help that clap prints
 pub help_stop : (kind : ErrorKind) (stop : ParseStop) → (kind ≡ kinds.DisplayHelp) ⊎ (kind ≡ kinds.DisplayVersion) → IsHelp stop → IsStopFor kind stop

@@ -2,6 +2,8 @@
 use Rattle.std.specs.Prelude.{◌≡◌, ◌≢◌, ◌++◌, ◌∷◌, ℕ, List, [], None, Option, Some, codes, string_bytes}
 use Rattle.clap.specs.declared.error.kind.ErrorKind.{ErrorKind}
 use Rattle.clap.specs.declared.error.kind.ErrorKind.TheVariants as kinds
+use Rattle.nextest_elements.specs.declared.identifier.InvalidIdentifier.{InvalidIdentifier}
+use Rattle.nextest_elements.specs.declared.identifier.InvalidIdentifier.TheVariants as flaws
 use Rattle.rinqebo_request.specs.declared.words.ParseStop.{ParseStop}
 use Rattle.rinqebo_request.specs.declared.words.ParseStop.TheVariants as stops
 
@@ -36,6 +38,12 @@ IsStopFor kinds.OutOfMemory stop = stop ≡ stops.Memory
 IsStopFor kinds.DisplayHelp stop = IsHelp stop
 IsStopFor kinds.DisplayVersion stop = IsHelp stop
 IsStopFor _ stop = IsInvalid stop
+
+-- why a name is not that of a tool: memory ran out, or it is not valid
+abbrev pub IsToolRefusal : InvalidIdentifier → ParseStop → Type 0
+IsToolRefusal fault (stops.Usage text) = fault ≢ flaws.Memory
+IsToolRefusal fault stops.Memory = fault ≡ flaws.Memory
+IsToolRefusal fault (stops.Help text) = ⊥
 
 -- a line is refused for a reason: it is not valid, and then the reason holds, or memory ran out
 abbrev pub IsRefusedFor : Type 0 → ParseStop → Type 0

@@ -10,7 +10,7 @@ ghost use Rattle.rinqebo_request.specs.ArgumentTable.{AreProgramChoices, Program
 ghost use Rattle.rinqebo_request.specs.Lines.{line_of, value_at, values_at};
 ghost use Rattle.rinqebo_request.specs.Requests.{AreEnginesOf, AreFilesOf, IsCommandOf, IsConfigOf, IsListOf, IsListRequest, IsListing, IsNamedCommand, IsSchemaBy, IsShowRequest, IsToolNamed, LacksTarget, mode_by, mode_of, profile_of, source_by, source_of};
 ghost use Rattle.rinqebo_request.specs.Variables.{text_set};
-ghost use Rattle.rinqebo_request.specs.Stops.{IsInvalid, IsRefusedFor, IsStopFor, IsUsage};
+ghost use Rattle.rinqebo_request.specs.Stops.{IsInvalid, IsRefusedFor, IsStopFor, IsToolRefusal, IsUsage};
 
 use crate::check_words::check_command;
 use crate::environment::{Environment, set};
@@ -54,7 +54,8 @@ impl From<AllocError> for ParseStop {
 
 /// A usage error, with a hint if there is one.
 pub fn usage(alloc: Global, message: &str, hint: Option<String>) -> Result<ParseStop, AllocError>
-    ensures { IfOk result (IsUsage message.now (option_map string_bytes hint)) }
+    ensures text { IfOk result (IsUsage message.now (option_map string_bytes hint)) }
+    ensures invalid { IfOk result IsInvalid }
 {
     match hint {
         Some(hint) => Ok(ParseStop::Usage(format!(in alloc; "error: {message}\n  {hint}\n")?)),
@@ -94,6 +95,20 @@ fn no_tool_name(
     usage(alloc, message.as_str(), None)
 }
 
+/// Why a name is not that of a tool: a text that is not one, or that memory ran out.
+fn tool_refusal(
+    alloc: Global,
+    name: &str,
+    fault: &InvalidIdentifier,
+) -> Result<ParseStop, AllocError>
+    ensures { IfOk result (IsToolRefusal fault.now) }
+{
+    match fault {
+        InvalidIdentifier::Memory => Ok(ParseStop::Memory),
+        _ => no_tool_name(alloc, name, fault),
+    }
+}
+
 /// The name of a tool.
 fn tool_name(alloc: Global, name: &str) -> Result<ToolName, ParseStop>
     ensures ok { IfOk result (λ tool. tool_name_text tool ≡ name.now) }
@@ -101,8 +116,7 @@ fn tool_name(alloc: Global, name: &str) -> Result<ToolName, ParseStop>
 {
     match ToolName::new(alloc, name) {
         Ok(tool) => Ok(tool),
-        Err(InvalidIdentifier::Memory) => Err(ParseStop::Memory),
-        Err(fault) => Err(no_tool_name(alloc, name, &fault)?),
+        Err(fault) => Err(tool_refusal(alloc, name, &fault)?),
     }
 }
 

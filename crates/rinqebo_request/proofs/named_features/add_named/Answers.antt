@@ -1,4 +1,4 @@
-use Rattle.std.proofs.Common.{◌∙◌, Bor, List, refl, ℕ}
+use Rattle.std.proofs.Common.{◌∙◌, [], Bor, List, refl, ℕ}
 use Rattle.nextest_rules.specs.KnownView.{features_view}
 use Rattle.rinqebo_request.proofs.NamedFeatures.{no_more, one_more}
 use Rattle.rinqebo_request.proofs.named_features.add_named.Goals as goal

@@ -4,8 +4,8 @@ use Rattle.rinqebo_request.specs.Rows.{is_no_row, keys_of}
 use Rattle.rinqebo_request.proofs.NamedKeys.{all_of_none, no_keys, some_keys}
 use Rattle.rinqebo_request.proofs.rows.explained_rows.Goals as goal
 
-pub returns-in_ok-all_rows : goal.returns-in_ok-all_rows
-returns-in_ok-all_rows c =
+pub returns-then-is_empty : goal.returns-then-is_empty
+returns-then-is_empty c =
     let keys = keys_of (line_of c.args.matches.now) in
     let none = no_keys c.args.mode keys c.in_ok-named.ensures.1
     (ap is_no_row (sym c.in_ok-named.ensures.0) ∙ sym c.is_empty.ensures ∙ c.if-is_empty.true) in

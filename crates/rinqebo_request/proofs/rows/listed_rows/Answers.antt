@@ -13,9 +13,11 @@ returns-then-is_on c =
     (λ rows is. (
       true,
       subst (IsFlag (codes "all") line) c.if-is_on.true c.is_on.ensures,
-      sym c.value-by.ensures ∙ ap (option_map (λ text. text.now)) is.1,
-      no_keys c.args.mode (keys_of line) named.1 (ap is_no_row (sym named.0) ∙ is.0),
-      is.2,
+      (
+        sym c.value-by.ensures ∙ ap (option_map (λ text. text.now)) is.1,
+        no_keys c.args.mode (keys_of line) named.1 (ap is_no_row (sym named.0) ∙ is.0),
+        is.2,
+      ),
     ))
     c.all_listed.ensures
 

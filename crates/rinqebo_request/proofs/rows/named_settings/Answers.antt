@@ -9,8 +9,8 @@ pub returns-clause-ok : goal.returns-clause-ok
 returns-clause-ok c =
     (c.in_ok-settings.ensures, some_named c.in_ok-settings.settings (sym c.is_empty.ensures ∙ c.if-is_empty.false))
 
-pub returns-in_ok-no_setting-clause-err : goal.returns-in_ok-no_setting-clause-err
-returns-in_ok-no_setting-clause-err c =
+pub returns-then-is_empty-clause-err : goal.returns-then-is_empty-clause-err
+returns-then-is_empty-clause-err c =
     invalid_for _ c.in_ok-no_setting.field-0
     (none_named c.in_ok-settings.settings c.args.key.now c.args.mode c.in_ok-settings.ensures (sym c.is_empty.ensures ∙ c.if-is_empty.true))
     c.in_ok-no_setting.ensures

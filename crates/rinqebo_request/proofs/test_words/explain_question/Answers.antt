@@ -1,7 +1,8 @@
-use Rattle.std.proofs.Common.{◌∙◌, ap, option_map, subst, sym}
+use Rattle.std.proofs.Common.{◌≡◌, ◌∙◌, None, ap, codes, option_map, subst, sym}
 use Rattle.std.proofs.lemmas.Result.{IfOk-weaker}
-use Rattle.rinqebo_request.specs.Lines.{line_of}
+use Rattle.rinqebo_request.specs.Lines.{line_of, value_at}
 use Rattle.rinqebo_request.specs.Requests.{IsExplainedBy}
+use Rattle.rinqebo_request.specs.declared.request.Question.TheVariants as questions
 use Rattle.rinqebo_request.proofs.test_words.explain_question.Goals as goal
 
 pub returns-in-Some : goal.returns-in-Some
@@ -13,6 +14,8 @@ returns-in-Some c =
 
 pub returns : goal.returns
 returns c =
-    subst (λ key. IsExplainedBy c.args.environment.now (line_of c.args.matches.now) key _)
-    (sym (ap (option_map (λ t. t.now)) c.in_default.is) ∙ c.value.ensures)
-    (c.profile.ensures, c.in_ok-test.ensures, c.in_ok-explained_rows.ensures)
+    let line = line_of c.args.matches.now in
+    let none : None ≡ value_at (codes "why") line = sym (ap (option_map (λ t. t.now)) c.in_default.is) ∙ c.value.ensures in
+    subst (λ key. IsExplainedBy c.args.environment.now line key
+    (questions.Explain c.profile.result c.in_ok-test.test c.in_ok-explained_rows.field-0))
+    none (c.profile.ensures, c.in_ok-test.ensures, c.in_ok-explained_rows.ensures)

@@ -8,9 +8,9 @@ use Rattle.rinqebo_request.proofs.test_words.test_words.Goals as goal
 pub returns-in-Some : goal.returns-in-Some
 returns-in-Some c =
     let binary = value_at (codes "BINARY") (line_of c.args.matches.now) in
-    subst (λ word. IsNamedBy binary word (option_map (λ id. id.now) c.value-2.result) c.in-Some.name.now)
+    subst (λ word. IsNamedBy binary word (option_map (λ id. id.now) c.value-in-Some.result) c.in-Some.name.now)
     (sym (ap (option_map (λ t. t.now)) c.in-Some.is) ∙ c.value.ensures)
-    (second_word binary c.in-Some.name.now _ _ c.value-2.ensures refl)
+    (second_word binary c.in-Some.name.now _ _ c.value-in-Some.ensures refl)
 
 pub returns-in-None : goal.returns-in-None
 returns-in-None c =

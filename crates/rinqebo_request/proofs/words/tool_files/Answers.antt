@@ -1,4 +1,4 @@
-use Rattle.std.proofs.Common.{Bor, List, get_or, refl, subst, ℕ}
+use Rattle.std.proofs.Common.{[], Bor, List, get_or, refl, subst, ℕ}
 use Rattle.std.proofs.lemmas.List.{take_all}
 use Rattle.std.specs.List.{AllZip}
 use Rattle.rinqebo_request.specs.Requests.{IsToolNamed}

@@ -1,4 +1,4 @@
-use Rattle.std.proofs.Common.{◌∙◌, Bor, List, ℕ}
+use Rattle.std.proofs.Common.{◌∙◌, [], Bor, List, ℕ}
 use Rattle.rinqebo_request.proofs.NamedKeys.{known_step, rows_step}
 use Rattle.rinqebo_request.proofs.rows.NamedRows.add_all.Goals as goal
 
