@@ -1,7 +1,7 @@
 //! Reads a command line.
 ghost use Rattle.std.specs.List.{AllZip};
 ghost use Rattle.std.specs.Option.{option_or};
-ghost use Rattle.std.specs.Prelude.{◌≡◌, ◌≢◌, ◌++◌, ◌∷◌, ◌&&◌, [], IfErr, IfOk, IfSome, None, codes, is_some, map, not, option_map, string_bytes};
+ghost use Rattle.std.specs.Prelude.{◌≡◌, ◌≢◌, ◌++◌, ◌∷◌, ◌&&◌, [], IfErr, IfOk, IfSome, None, OnOk, codes, is_some, map, not, option_map, string_bytes};
 ghost use Rattle.clap.specs.Simple.{subcommand_of, subcommand_rows_of};
 ghost use Rattle.clap.specs.Values.{kind_of};
 ghost use Rattle.nextest_elements.specs.Identifier.{IsPart};
@@ -155,6 +155,14 @@ fn tool_file<'a>(alloc: Global, value: &'a str) -> Result<ToolFile<'a>, ParseSto
     }
 }
 
+/// Adds the file of a tool.
+fn add_file<'a>(tools: &mut Vec<ToolFile<'a>>, file: ToolFile<'a>) -> Result<(), AllocError>
+    ensures { OnOk result (tools.new.items ≡ tools.old.items ++ file.entry ∷ []) }
+{
+    tools.push(file)?;
+    Ok(())
+}
+
 /// The files of tools, from the values of their option.
 pub fn tool_files<'a>(alloc: Global, values: &[&'a str]) -> Result<Vec<ToolFile<'a>>, ParseStop>
     ensures { IfOk result (λ tools. AllZip IsToolNamed (map (λ value. value.now) values.now)
@@ -162,9 +170,8 @@ pub fn tool_files<'a>(alloc: Global, values: &[&'a str]) -> Result<Vec<ToolFile<
 {
     let mut tools = Vec::new(alloc);
     for value in values {
-        tools
-            .push(tool_file(alloc, *value)?)
-            .map_err(AllocError::from)?;
+        let file = tool_file(alloc, *value)?;
+        add_file(&mut tools, file)?;
     }
     Ok(tools)
 }

@@ -25,4 +25,4 @@ returns c =
     let none : None ≡ value_at (codes "explain") line =
     sym (ap (option_map (λ t. t.now)) c.in_default.is) ∙ c.value.ensures in
     subst (λ word. IsCheckBy c.args.environment.now line word (commands.Answer c.in_ok-request.request)) none
-    (c.is_on.result, c.is_on.ensures, (c.if-is_on.false, c.in_ok-request.ensures))
+    (c.is_on.result, c.is_on.ensures, c.if-is_on.false, c.in_ok-request.ensures)

@@ -10,8 +10,8 @@ loop-value-preserved c =
     let none : Bor (List ℕ) = record { ref_ptr = (0, 0); now = [] } in
     one_more (λ value file. IsToolNamed value.now file) c.args.values.now c.loop-value.value-index
     (get_or c.args.values.now c.loop-value.value-index none) none c.loop-value-test.true
-    refl c.loop-value.tools.items c.push.new.self.items c.in_ok-tool_file.field-0 c.loop-value.invariant
-    c.in_ok-tool_file.ensures c.in_ok-push.ensures.items
+    refl c.loop-value.tools.items c.add_file.new.tools.items c.in_ok-file.file c.loop-value.invariant c.in_ok-file.ensures
+    c.in_ok-add_file.ensures
 
 pub returns : goal.returns
 returns c =
