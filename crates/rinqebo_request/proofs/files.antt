@@ -5,3 +5,4 @@ pub mod Ranges
 pub mod Documents
 pub mod Reading
 pub mod Passing
+pub mod RuleTables
