@@ -1,5 +1,5 @@
 -- The first text of some that there is.
-use Rattle.std.proofs.Common.{◌≡◌, ◌∙◌, ◌&&◌, [], map, Bool, Bor, List, None, Option, Some, ap, ap₂, is_some, not, option_map, refl, subst, sym, true, false, unwrap_or, ℕ}
+use Rattle.std.proofs.Common.{◌≡◌, ◌∙◌, ◌&&◌, [], map, Bool, Bor, List, None, Option, Some, ap, ap₂, is_some, not, option_map, refl, true, false, unwrap_or, ℕ}
 use Rattle.std.specs.Option.{option_or}
 
 pub now_or : (o : Option (Bor (List ℕ))) (d : Bor (List ℕ)) → (unwrap_or o d).now ≡ unwrap_or (option_map (λ t. t.now) o) d.now

@@ -1,5 +1,5 @@
 -- The command that a command line names.
-use Rattle.std.proofs.Common.{◌≡◌, ◌≢◌, ◌∙◌, ◌↔◌, ◌∷◌, [], Bool, IsTrue, List, None, Option, Some, ap, ap₂, codes, false, option_map, refl, subst, sym, true, ℕ}
+use Rattle.std.proofs.Common.{◌≡◌, ◌≢◌, Bool, IsTrue, List, None, Option, Some, ap₂, codes, false, option_map, refl, true, ℕ}
 use Rattle.std.proofs.lemmas.Slice.Eq.{bytes_eq-Decides}
 use Rattle.std.specs.Box.{box_value}
 use Rattle.std.specs.Prelude.{Box}

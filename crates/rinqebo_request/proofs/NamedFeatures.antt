@@ -1,5 +1,5 @@
 -- The features that names name, one after another.
-use Rattle.std.proofs.Common.{◌≡◌, ◌∙◌, ◌↔◌, ◌⊎◌, ◌||◌, ◌∷◌, ◌<◌, ◌≤◌, ◌+◌, [], Bool, Bor, IsTrue, List, ap, drop, false, get_or, inl, inr, length, map, refl, sym, true, ℕ}
+use Rattle.std.proofs.Common.{◌≡◌, ◌∙◌, ◌↔◌, ◌⊎◌, ◌||◌, ◌<◌, ◌≤◌, ◌+◌, [], Bool, Bor, IsTrue, List, ap, drop, false, get_or, inl, inr, length, map, refl, sym, true, ℕ}
 use Rattle.std.proofs.lemmas.Bool.{false≢true}
 use Rattle.std.proofs.lemmas.List.{at_drop_more, drop_all}
 use Rattle.std.specs.BTreeSet.{BTreeSet}
@@ -10,7 +10,7 @@ use Rattle.nextest_elements.specs.declared.experimental.ConfigExperimental.{Conf
 use Rattle.nextest_elements.specs.declared.experimental.ConfigExperimental.TheVariants.{SetupScripts, WrapperScripts}
 use Rattle.nextest_rules.specs.KnownView.{features_view, is_feature}
 use Rattle.rinqebo_forms.specs.Features.{AreAdded}
-use Rattle.rinqebo_request.specs.Requests.{AreFeaturesNamed, HasNamed, is_named}
+use Rattle.rinqebo_request.specs.Requests.{HasNamed, is_named}
 use Rattle.rinqebo_request.specs.Variables.{IsSwitchedOn}
 use Rattle.rinqebo_request.specs.declared.environment.Environment.{Environment}
 use Rattle.rinqebo_request.specs.declared.features.TheConstants.{FEATURES}

@@ -1,5 +1,5 @@
 -- The rows that keys name, one key after another.
-use Rattle.std.proofs.Common.{◌+◌, ◌<◌, Bor, drop, get_or, map, ◌≡◌, ◌≢◌, ◌∙◌, ◌++◌, ◌∷◌, ◌⊎◌, ◌&&◌, ◌||◌, ◌==◌, [], Bool, List, None, Option, Some, ap, ap₂, arith, eqb-true, false, if◌then◌else◌, inl, inr, length, not, refl, subst, suc, sym, true, ℕ}
+use Rattle.std.proofs.Common.{◌+◌, ◌<◌, Bor, drop, get_or, map, ◌≡◌, ◌≢◌, ◌∙◌, ◌++◌, ◌∷◌, ◌&&◌, ◌||◌, ◌==◌, [], Bool, List, None, Some, ap, ap₂, arith, eqb-true, false, if◌then◌else◌, inl, inr, length, not, refl, subst, suc, sym, true, ℕ}
 use Rattle.std.proofs.lemmas.List.{append-nil, at_drop_more, drop_more}
 use Rattle.std.specs.List.{filter}
 use Rattle.std.specs.Prelude.{Vec, vec_len}

@@ -3,12 +3,10 @@ use Rattle.std.proofs.Common.{◌≡◌, ◌<◌, ◌+◌, ◌∙◌, ◌++◌, 
 use Rattle.std.proofs.lemmas.List.{take_more}
 use Rattle.std.proofs.lemmas.Slice.Zip.{all_zipped_more}
 use Rattle.std.specs.List.{AllZip}
-use Rattle.nextest_elements.specs.IdentifierText.{tool_name_text}
-use Rattle.rinqebo_request.specs.Requests.{AreFilesOf, IsToolNamed}
+use Rattle.rinqebo_request.specs.Requests.{AreFilesOf}
 use Rattle.rinqebo_request.specs.Lines.{Line}
 use Rattle.rinqebo_request.specs.declared.request.ConfigFile.{ConfigFile}
 use Rattle.rinqebo_request.specs.declared.request.FileOptions.{FileOptions}
-use Rattle.rinqebo_request.specs.declared.request.ToolFile.{ToolFile}
 
 -- one more of each of two lists
 pub one_more : {A B : Type 0} (R : A → B → Type 0) (named : List A) (i : ℕ) (x d : A) → i < length named → x ≡ get_or named i d → (now new : List B)

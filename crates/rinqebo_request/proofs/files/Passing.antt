@@ -1,8 +1,8 @@
 -- Faults that are passed on, and what each is about.
-use Rattle.std.proofs.Common.{◌≡◌, ◌⊎◌, Bor, Err, IfErr, List, None, Ok, Option, Result, Some, inl, inr, option_map, refl, subst, sym, ℕ}
+use Rattle.std.proofs.Common.{◌≡◌, ◌⊎◌, Err, IfErr, List, None, Ok, Result, Some, inl, inr, option_map, subst, sym, ℕ}
 use Rattle.std.specs.Prelude.{IsErrAnd}
 use Rattle.nextest_sources.specs.Sources.{Outcome}
-use Rattle.rinqebo_request.specs.Files.Gathering.{IsNoFolder, IsNoRoot, IsNoText, IsNoTextIn, IsNotFound, IsReason, IsUnreadable, is_discovered}
+use Rattle.rinqebo_request.specs.Files.Gathering.{IsNoFolder, IsNoRoot, IsNoText, IsNotFound, IsReason, IsUnreadable}
 use Rattle.rinqebo_request.specs.declared.files.gathering.GatherFault.{GatherFault}
 use Rattle.rinqebo_request.specs.declared.files.gathering.GatherFault.TheVariants as faults
 use Rattle.rinqebo_request.specs.declared.named.FileOption.{FileOption}

@@ -1,4 +1,4 @@
-use Rattle.std.proofs.Common.{◌≡◌, ◌∙◌, None, Option, Some, ap, is_some, option_map, refl, sym}
+use Rattle.std.proofs.Common.{◌≡◌, ◌∙◌, None, Option, Some, ap, is_some, option_map, refl}
 use Rattle.clap.specs.Matches.{found_of, matched_of, raw_values}
 use Rattle.clap.proofs.WalkLemmas.{raw_values-rows}
 use Rattle.rinqebo_request.proofs.line.has.Goals as goal

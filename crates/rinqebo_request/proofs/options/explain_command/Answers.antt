@@ -2,7 +2,7 @@ use Rattle.std.proofs.Common.{◌∙◌, ap, codes, refl}
 use Rattle.std.proofs.lemmas.Result.{IfOk-weaker}
 use Rattle.clap.specs.Simple.{app_of_fields, new_app}
 use Rattle.rinqebo_request.specs.ArgumentTable.{IsCommand}
-use Rattle.rinqebo_request.proofs.Adding.{after, none, then, whole}
+use Rattle.rinqebo_request.proofs.Adding.{after, then, whole}
 use Rattle.rinqebo_request.proofs.options.explain_command.Goals as goal
 
 pub returns : goal.returns

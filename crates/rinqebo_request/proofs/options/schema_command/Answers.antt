@@ -1,8 +1,8 @@
-use Rattle.std.proofs.Common.{◌∙◌, ap, codes, refl}
+use Rattle.std.proofs.Common.{◌∙◌, ap, codes}
 use Rattle.std.proofs.lemmas.Result.{IfOk-weaker}
 use Rattle.clap.specs.Simple.{app_of_fields, new_app}
 use Rattle.rinqebo_request.specs.ArgumentTable.{IsCommand}
-use Rattle.rinqebo_request.proofs.Adding.{after, none, then, whole}
+use Rattle.rinqebo_request.proofs.Adding.{after, none, whole}
 use Rattle.rinqebo_request.proofs.options.schema_command.Goals as goal
 
 pub returns : goal.returns

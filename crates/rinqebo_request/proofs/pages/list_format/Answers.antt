@@ -1,5 +1,4 @@
 use Rattle.std.proofs.Common.{◌∙◌, subst, sym}
-use Rattle.rinqebo_report.specs.declared.format.Format.TheVariants as formats
 use Rattle.rinqebo_request.specs.Lines.{line_of}
 use Rattle.rinqebo_request.specs.Requests.{IsFormatOf}
 use Rattle.rinqebo_request.proofs.Formats.{other_format}

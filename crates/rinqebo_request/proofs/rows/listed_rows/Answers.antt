@@ -1,4 +1,4 @@
-use Rattle.std.proofs.Common.{◌≡◌, ◌∙◌, None, Option, Some, ap, codes, false, if◌then◌else◌, option_map, subst, sym, true}
+use Rattle.std.proofs.Common.{◌≡◌, ◌∙◌, None, Some, ap, codes, false, if◌then◌else◌, option_map, subst, sym, true}
 use Rattle.std.proofs.lemmas.Result.{IfOk-weaker}
 use Rattle.rinqebo_request.specs.Lines.{IsFlag, line_of, value_at}
 use Rattle.rinqebo_request.specs.Rows.{AreRowsBy, Rows, is_no_row, keys_of}

@@ -1,6 +1,5 @@
-use Rattle.std.proofs.Common.{ap, option_map, subst}
+use Rattle.std.proofs.Common.{subst}
 use Rattle.std.proofs.lemmas.Result.{IfOk-weaker}
-use Rattle.clap.specs.Simple.{subcommand_rows_of}
 use Rattle.clap.specs.declared.parser.matches.ArgMatches.TheViews.{out-ArgMatches}
 use Rattle.rinqebo_request.specs.Requests.{IsCommandOf}
 use Rattle.rinqebo_request.proofs.Commands.{entered}

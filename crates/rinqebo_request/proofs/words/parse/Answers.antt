@@ -1,4 +1,4 @@
-use Rattle.std.proofs.Common.{◌∙◌, ap, ap₂, map, refl, rules, string_bytes, subst}
+use Rattle.std.proofs.Common.{◌∙◌, ap, ap₂, refl, subst}
 use Rattle.std.proofs.lemmas.Result.{IfOk-weaker}
 use Rattle.clap.specs.Simple.{is_simple, subcommand_of}
 use Rattle.rinqebo_request.specs.Requests.{IsCommandOf}

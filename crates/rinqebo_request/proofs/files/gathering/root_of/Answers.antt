@@ -1,4 +1,4 @@
-use Rattle.std.proofs.Common.{Some, ap, option_map}
+use Rattle.std.proofs.Common.{ap, option_map}
 use Rattle.std.proofs.lemmas.Result.{IfErr-weaker}
 use Rattle.rinqebo_request.proofs.files.Passing.{found, named}
 use Rattle.rinqebo_request.proofs.files.gathering.root_of.Goals as goal
