@@ -1,0 +1,60 @@
+-- Why a command line is not a request.
+use Rattle.std.proofs.Common.{◌≡◌, ◌≢◌, ◌⊎◌, inl, inr, refl, subst, sym}
+use Rattle.clap.specs.declared.error.kind.ErrorKind.{ErrorKind}
+use Rattle.clap.specs.declared.error.kind.ErrorKind.TheVariants as kinds
+use Rattle.nextest_elements.specs.declared.identifier.InvalidIdentifier.{InvalidIdentifier}
+use Rattle.nextest_elements.specs.declared.identifier.InvalidIdentifier.TheVariants as flaws
+use Rattle.rinqebo_request.specs.Stops.{IsHelp, IsInvalid, IsRefusedFor, IsStopFor, IsToolRefusal}
+use Rattle.rinqebo_request.specs.declared.words.ParseStop.{ParseStop}
+use Rattle.rinqebo_request.specs.declared.words.ParseStop.TheVariants as stops
+
+-- a line that is not valid, for a reason
+pub invalid_for : (reason : Type 0) (stop : ParseStop) → reason → IsInvalid stop → IsRefusedFor reason stop
+invalid_for reason (stops.Usage text) holds is = holds
+invalid_for reason (stops.Help text) holds is = absurd is
+invalid_for reason stops.Memory holds is = absurd is
+
+-- what one reason brings, another one brings that follows
+pub refused_so : (one other : Type 0) (stop : ParseStop) → (one → other) → IsRefusedFor one stop → IsRefusedFor other stop
+refused_so one other (stops.Usage text) so is = so is
+refused_so one other (stops.Help text) so is = is
+refused_so one other stops.Memory so is = is
+
+-- a name that is not that of a tool
+pub tool_refused : (fault : InvalidIdentifier) (stop : ParseStop) → fault ≢ flaws.Memory → IsInvalid stop → IsToolRefusal fault stop
+tool_refused fault (stops.Usage text) other is = other
+tool_refused fault (stops.Help text) other is = is
+tool_refused fault stops.Memory other is = absurd is
+
+-- a name that is refused for a reason, if memory did not run out
+pub refused_tool : (reason : Type 0) (fault : InvalidIdentifier) (stop : ParseStop) → (fault ≢ flaws.Memory → reason) → IsToolRefusal fault stop
+    → IsRefusedFor reason stop
+refused_tool reason fault (stops.Usage text) so is = so is
+refused_tool reason fault (stops.Help text) so is = is
+refused_tool reason fault stops.Memory so is = tt
+
+-- help that clap prints
+pub help_stop : (kind : ErrorKind) (stop : ParseStop) → (kind ≡ kinds.DisplayHelp) ⊎ (kind ≡ kinds.DisplayVersion) → IsHelp stop → IsStopFor kind stop
+help_stop kind stop (inl is) help = subst (λ k. IsStopFor k stop) (sym is) help
+help_stop kind stop (inr is) help = subst (λ k. IsStopFor k stop) (sym is) help
+
+-- anything else that clap refuses
+pub other_stop : (kind : ErrorKind) (stop : ParseStop) → kind ≢ kinds.OutOfMemory → kind ≢ kinds.DisplayHelp → kind ≢ kinds.DisplayVersion → IsInvalid stop
+    → IsStopFor kind stop
+other_stop kinds.InvalidValue stop memory help version is = is
+other_stop kinds.UnknownArgument stop memory help version is = is
+other_stop kinds.InvalidSubcommand stop memory help version is = is
+other_stop kinds.NoEquals stop memory help version is = is
+other_stop kinds.ValueValidation stop memory help version is = is
+other_stop kinds.TooManyValues stop memory help version is = is
+other_stop kinds.TooFewValues stop memory help version is = is
+other_stop kinds.WrongNumberOfValues stop memory help version is = is
+other_stop kinds.ArgumentConflict stop memory help version is = is
+other_stop kinds.MissingRequiredArgument stop memory help version is = is
+other_stop kinds.MissingSubcommand stop memory help version is = is
+other_stop kinds.DisplayHelp stop memory help version is = absurd (help refl)
+other_stop kinds.DisplayHelpOnMissingArgumentOrSubcommand stop memory help version is = is
+other_stop kinds.DisplayVersion stop memory help version is = absurd (version refl)
+other_stop kinds.Io stop memory help version is = is
+other_stop kinds.Format stop memory help version is = is
+other_stop kinds.OutOfMemory stop memory help version is = absurd (memory refl)
