@@ -4,7 +4,7 @@ ghost use Rattle.nextest_elements.specs.Experimental.{experimental_text};
 ghost use Rattle.rinqebo_forms.specs.Features.{AreAdded};
 ghost use Rattle.rinqebo_request.specs.Lines.{line_of};
 ghost use Rattle.rinqebo_request.specs.Requests.{AreFeaturesNamed, HasNamed, IsFeatureName};
-ghost use Rattle.rinqebo_request.specs.Stops.{IsInvalid, IsRefusedFor};
+ghost use Rattle.rinqebo_request.specs.Refusals.{IsRefusedWith, SaysNoFeature};
 ghost use Rattle.rinqebo_request.specs.Variables.{IsSwitchedOn};
 
 use crate::environment::Environment;
@@ -49,7 +49,7 @@ fn add_if_switched(
 
 /// Why a text is not the name of a feature.
 fn no_feature(alloc: Global, name: &str) -> Result<ParseStop, AllocError>
-    ensures { IfOk result IsInvalid }
+    ensures { IfOk result (SaysNoFeature name.now) }
 {
     let message = format!(in alloc; "unknown experimental feature `{name}`")?;
     let hint = name_hint(alloc, name, &["setup-scripts", "wrapper-scripts"])?;
@@ -59,7 +59,7 @@ fn no_feature(alloc: Global, name: &str) -> Result<ParseStop, AllocError>
 /// The feature that the value of an option names.
 fn named_feature(alloc: Global, name: &str) -> Result<ConfigExperimental, ParseStop>
     ensures ok { IfOk result (λ feature. experimental_text feature ≡ name.now) }
-    ensures err { IfErr result (IsRefusedFor (¬ IsFeatureName name.now)) }
+    ensures err { IfErr result (IsRefusedWith (¬ IsFeatureName name.now) (SaysNoFeature name.now)) }
 {
     match feature_of(name) {
         Some(feature) => Ok(feature),
