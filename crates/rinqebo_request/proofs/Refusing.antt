@@ -1,23 +1,26 @@
 -- Why a command line is not a request.
-use Rattle.std.proofs.Common.{◌≡◌, ◌≢◌, ◌⊎◌, List, Option, inl, inr, refl, subst, sym, ℕ}
-use Rattle.std.specs.Prelude.{String}
-use Rattle.std.specs.declared.alloc.Global.{Global}
+use Rattle.std.proofs.Common.{◌≡◌, ◌≢◌, ◌⊎◌, List, inl, inr, refl, subst, sym, ℕ}
 use Rattle.clap.specs.declared.error.kind.ErrorKind.{ErrorKind}
 use Rattle.clap.specs.declared.error.kind.ErrorKind.TheVariants as kinds
 use Rattle.nextest_elements.specs.declared.identifier.InvalidIdentifier.{InvalidIdentifier}
 use Rattle.nextest_elements.specs.declared.identifier.InvalidIdentifier.TheVariants as flaws
 use Rattle.nextest_elements.specs.declared.run_mode.NextestRunMode.{NextestRunMode}
-use Rattle.rinqebo_request.specs.Refusals.{IsRefusedWith, SaysNoSetting, SaysWith}
+use Rattle.rinqebo_request.specs.Refusals.{IsRefusedWith, SaysNoCode, SaysNoFeature, SaysNoSetting}
 use Rattle.rinqebo_request.specs.Stops.{IsHelp, IsInvalid, IsRefusedFor, IsStopFor, IsToolRefusal}
 use Rattle.rinqebo_request.specs.declared.words.ParseStop.{ParseStop}
 use Rattle.rinqebo_request.specs.declared.words.ParseStop.TheVariants as stops
 
--- a name that is not known, for a reason
-pub refused_with : (reason : Type 0) (message : List ℕ) (IsHint : Option (String Global) → Type 0) (stop : ParseStop) → reason → SaysWith message IsHint stop
-    → IsRefusedWith reason (SaysWith message IsHint) stop
-refused_with reason message IsHint (stops.Usage text) holds says = (holds, says)
-refused_with reason message IsHint (stops.Help text) holds says = absurd says.2
-refused_with reason message IsHint stops.Memory holds says = tt
+-- a word that is no code, for a reason
+pub no_code : (reason : Type 0) (word : List ℕ) (stop : ParseStop) → reason → SaysNoCode word stop → IsRefusedWith reason (SaysNoCode word) stop
+no_code reason word (stops.Usage text) holds says = (holds, says)
+no_code reason word (stops.Help text) holds says = absurd says.2
+no_code reason word stops.Memory holds says = tt
+
+-- a name that is no feature, for a reason
+pub no_feature : (reason : Type 0) (name : List ℕ) (stop : ParseStop) → reason → SaysNoFeature name stop → IsRefusedWith reason (SaysNoFeature name) stop
+no_feature reason name (stops.Usage text) holds says = (holds, says)
+no_feature reason name (stops.Help text) holds says = absurd says.2
+no_feature reason name stops.Memory holds says = tt
 
 -- a key that names no setting
 pub no_setting : (reason : Type 0) (mode : NextestRunMode) (key : List ℕ) (stop : ParseStop) → reason → SaysNoSetting mode key stop
@@ -27,11 +30,12 @@ no_setting reason mode key (stops.Help text) holds (inl run) = absurd run.1
 no_setting reason mode key (stops.Help text) holds (inr says) = absurd says.2
 no_setting reason mode key stops.Memory holds says = tt
 
--- a refusal with a message is one for its reason
-pub refused_for : (one other : Type 0) (Says : ParseStop → Type 0) (stop : ParseStop) → (one → other) → IsRefusedWith one Says stop → IsRefusedFor other stop
-refused_for one other Says (stops.Usage text) so is = so is.0
-refused_for one other Says (stops.Help text) so is = is
-refused_for one other Says stops.Memory so is = is
+-- the refusal of such a key is one for its reason
+pub refused_for : (one other : Type 0) (mode : NextestRunMode) (key : List ℕ) (stop : ParseStop) → (one → other)
+    → IsRefusedWith one (SaysNoSetting mode key) stop → IsRefusedFor other stop
+refused_for one other mode key (stops.Usage text) so is = so is.0
+refused_for one other mode key (stops.Help text) so is = is
+refused_for one other mode key stops.Memory so is = is
 
 -- a line that is not valid, for a reason
 pub invalid_for : (reason : Type 0) (stop : ParseStop) → reason → IsInvalid stop → IsRefusedFor reason stop

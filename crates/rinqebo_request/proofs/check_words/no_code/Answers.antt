@@ -11,7 +11,7 @@ returns c =
     IfOk-weaker c.usage.result _ _
     (λ stop says. (
       c.in_ok-hint.hint,
-      of_texts c.args.word.now _ _ c.in_ok-hint.hint c.in_ok-hint.ensures (ap (map (λ word. word.now)) c.deref.ensures.value ∙ c.in_ok-known.ensures),
+      of_texts c.args.word.now _ _ c.in_ok-hint.hint c.in_ok-hint.ensures.names (ap (map (λ word. word.now)) c.deref.ensures.value ∙ c.in_ok-known.ensures),
       subst (λ message. IsUsage message (option_map string_bytes c.in_ok-hint.hint) stop) said says,
     ))
     c.usage.ensures.text

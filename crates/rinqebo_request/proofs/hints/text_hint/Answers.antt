@@ -18,4 +18,4 @@ returns c =
           ∙ ap (map string_bytes) (take_all c.loop-text.text-index c.args.known.now c.loop-text-test.false),
       is,
     ))
-    c.name_hint.ensures
+    c.name_hint.ensures.names

@@ -1,7 +1,6 @@
-use Rattle.std.proofs.Common.{◌≡◌, ◌∙◌, ◌++◌, append_assoc, codes, option_map, refl, string_bytes, subst}
+use Rattle.std.proofs.Common.{◌≡◌, ◌∙◌, ◌++◌, append_assoc, codes, option_map, string_bytes, subst}
 use Rattle.std.proofs.lemmas.Result.{IfOk-weaker}
 use Rattle.rinqebo_request.specs.Stops.{IsUsage}
-use Rattle.rinqebo_request.proofs.Hinting.{of_texts}
 use Rattle.rinqebo_request.proofs.named_features.no_feature.Goals as goal
 
 pub returns : goal.returns
@@ -11,7 +10,7 @@ returns c =
     IfOk-weaker c.usage.result _ _
     (λ stop says. (
       c.in_ok-hint.hint,
-      of_texts c.args.name.now _ _ c.in_ok-hint.hint c.in_ok-hint.ensures refl,
+      c.in_ok-hint.ensures.texts,
       subst (λ message. IsUsage message (option_map string_bytes c.in_ok-hint.hint) stop) said says,
     ))
     c.usage.ensures.text

@@ -13,7 +13,7 @@ returns-in_err-setting-clause-err c = passed _ c.from_residual.result stops.Memo
 pub returns-in_err-named_settings-clause-err : goal.returns-in_err-named_settings-clause-err
 returns-in_err-named_settings-clause-err c =
     passed _ c.from_residual-in_err-named_settings.result c.in_err-named_settings.field-0.0 c.from_residual-in_err-named_settings.ensures.1
-    (refused_for _ _ _ c.in_err-named_settings.field-0.0 (λ _. rw c.in_default.is at c.in_ok-setting.ensures) c.in_err-named_settings.ensures.err)
+    (refused_for _ _ c.args.mode c.args.key.now c.in_err-named_settings.field-0.0 (λ _. rw c.in_default.is at c.in_ok-setting.ensures) c.in_err-named_settings.ensures.err)
 
 pub returns-in_err-is_table-clause-err : goal.returns-in_err-is_table-clause-err
 returns-in_err-is_table-clause-err c =
