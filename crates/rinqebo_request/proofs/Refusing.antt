@@ -1,11 +1,13 @@
 -- Why a command line is not a request.
-use Rattle.std.proofs.Common.{◌≡◌, ◌≢◌, ◌⊎◌, List, inl, inr, refl, subst, sym, ℕ}
+use Rattle.std.proofs.Common.{◌≡◌, ◌≢◌, ◌⊎◌, ◌<◌, Bor, Contains, List, get_or, inl, inr, length, map, refl, subst, sym, ℕ}
+use Rattle.std.proofs.lemmas.List.{get_or-map, length-map}
 use Rattle.clap.specs.declared.error.kind.ErrorKind.{ErrorKind}
 use Rattle.clap.specs.declared.error.kind.ErrorKind.TheVariants as kinds
 use Rattle.nextest_elements.specs.declared.identifier.InvalidIdentifier.{InvalidIdentifier}
 use Rattle.nextest_elements.specs.declared.identifier.InvalidIdentifier.TheVariants as flaws
 use Rattle.nextest_elements.specs.declared.run_mode.NextestRunMode.{NextestRunMode}
-use Rattle.rinqebo_request.specs.Refusals.{IsRefusedWith, SaysNoCode, SaysNoFeature, SaysNoSetting}
+use Rattle.rinqebo_request.specs.Refusals.{IsFeatureRefusal, IsRefusedWith, SaysNoCode, SaysNoFeature, SaysNoSetting}
+use Rattle.rinqebo_request.specs.Requests.{IsFeatureName}
 use Rattle.rinqebo_request.specs.Stops.{IsHelp, IsInvalid, IsRefusedFor, IsStopFor, IsToolRefusal}
 use Rattle.rinqebo_request.specs.declared.words.ParseStop.{ParseStop}
 use Rattle.rinqebo_request.specs.declared.words.ParseStop.TheVariants as stops
@@ -21,6 +23,20 @@ pub no_feature : (reason : Type 0) (name : List ℕ) (stop : ParseStop) → reas
 no_feature reason name (stops.Usage text) holds says = (holds, says)
 no_feature reason name (stops.Help text) holds says = absurd says.2
 no_feature reason name stops.Memory holds says = tt
+
+-- one name of some that is no feature
+pub among : (names : List (Bor (List ℕ))) (i : ℕ) (d : Bor (List ℕ)) → i < length names → Contains (map (λ name. name.now) names) (get_or names i d).now
+among names i d below = (
+  i,
+  subst (λ n. i < n) (sym (length-map names (λ name. name.now))) below,
+  get_or-map (λ (name : Bor (List ℕ)). name.now) names i d (get_or names i d).now below,
+)
+
+pub no_feature_of : (names : List (List ℕ)) (name : List ℕ) (stop : ParseStop) → Contains names name
+    → IsRefusedWith (IsFeatureName name → ⊥) (SaysNoFeature name) stop → IsFeatureRefusal names stop
+no_feature_of names name (stops.Usage text) one is = (name, one, is.0, is.1)
+no_feature_of names name (stops.Help text) one is = is
+no_feature_of names name stops.Memory one is = tt
 
 -- a key that names no setting
 pub no_setting : (reason : Type 0) (mode : NextestRunMode) (key : List ℕ) (stop : ParseStop) → reason → SaysNoSetting mode key stop

@@ -1,10 +1,10 @@
 //! The experimental features that a command line and variables name.
-ghost use Rattle.std.specs.Prelude.{◌≡◌, ◌∷◌, [], IfErr, IfOk, OnOk, map};
+ghost use Rattle.std.specs.Prelude.{◌≡◌, ◌∷◌, [], IfErr, IfOk, OnOk, codes, map};
 ghost use Rattle.nextest_elements.specs.Experimental.{experimental_text};
 ghost use Rattle.rinqebo_forms.specs.Features.{AreAdded};
-ghost use Rattle.rinqebo_request.specs.Lines.{line_of};
+ghost use Rattle.rinqebo_request.specs.Lines.{line_of, values_at};
 ghost use Rattle.rinqebo_request.specs.Requests.{AreFeaturesNamed, HasNamed, IsFeatureName};
-ghost use Rattle.rinqebo_request.specs.Refusals.{IsRefusedWith, SaysNoFeature};
+ghost use Rattle.rinqebo_request.specs.Refusals.{IsFeatureRefusal, IsRefusedWith, SaysNoFeature};
 ghost use Rattle.rinqebo_request.specs.Variables.{IsSwitchedOn};
 
 use crate::environment::Environment;
@@ -84,8 +84,9 @@ fn add_named(
     features: &mut BTreeSet<ConfigExperimental>,
     names: &[&str],
 ) -> Result<(), ParseStop>
-    ensures { OnOk result
+    ensures ok { OnOk result
         (HasNamed (map (λ name. name.now) names.now) features.old features.new) }
+    ensures err { IfErr result (IsFeatureRefusal (map (λ name. name.now) names.now)) }
 {
     for name in names {
         let feature = named_feature(alloc, *name)?;
@@ -100,7 +101,9 @@ pub fn features(
     matches: &ArgMatches<'_>,
     environment: &Environment,
 ) -> Result<BTreeSet<ConfigExperimental>, ParseStop>
-    ensures { IfOk result (AreFeaturesNamed environment.now (line_of matches.now)) }
+    ensures ok { IfOk result (AreFeaturesNamed environment.now (line_of matches.now)) }
+    ensures err { IfErr result
+        (IsFeatureRefusal (values_at (codes "experimental") (line_of matches.now))) }
 {
     let mut features = BTreeSet::new(alloc);
     add_switched(&mut features, environment)?;
