@@ -22,14 +22,19 @@ hinted name known (Some nearest) (Some hint) near is = (nearest.now, near, some_
 hinted name known None (Some hint) near is = absurd (cc)
 hinted name known (Some nearest) None near is = absurd (cc)
 
+-- a hint of names is one of their texts
+pub of_texts : (name : List ℕ) (names : List (Bor (List ℕ))) (known : List (List ℕ)) (hint : Option (String Global)) → IsNameHint name names hint
+    → map (λ other. other.now) names ≡ known → IsTextHint name known hint
+of_texts name names known hint is are = (names, are, is)
+
 -- one text more is lent
-pub texts_more : (known : List (String Global)) (i : ℕ) (d : String Global) (names new : List (Bor (List ℕ))) (x : Bor (List ℕ)) → i < length known
-    → map (λ name. name.now) names ≡ map string_bytes (take i known) → new ≡ names ++ x ∷ [] → x.now ≡ string_bytes (get_or known i d)
-    → map (λ name. name.now) new ≡ map string_bytes (take (i + 1) known)
-texts_more known i d names new x below before more is =
+pub texts_more : {X : Type 0} (text_of : X → List ℕ) (known : List X) (i : ℕ) (d : X) (names new : List (Bor (List ℕ))) (x : Bor (List ℕ))
+    → i < length known → map (λ name. name.now) names ≡ map text_of (take i known) → new ≡ names ++ x ∷ [] → x.now ≡ text_of (get_or known i d)
+    → map (λ name. name.now) new ≡ map text_of (take (i + 1) known)
+texts_more text_of known i d names new x below before more is =
     ap (map (λ name. name.now)) more ∙ map-append (λ name. name.now) names (x ∷ [])
     ∙ ap₂ (λ (a : List (List ℕ)) (t : List ℕ). a ++ t ∷ []) before is
-    ∙ sym (map-append string_bytes (take i known) (get_or known i d ∷ [])) ∙ ap (map string_bytes) (sym (take_more known i d below))
+    ∙ sym (map-append text_of (take i known) (get_or known i d ∷ [])) ∙ ap (map text_of) (sym (take_more known i d below))
 
 -- the text of a key, by its table and its name there
 pub key_is : (setting : Setting) (mode : NextestRunMode) (table : Option (List ℕ)) (name text shown : List ℕ) → table ≡ key_table setting mode

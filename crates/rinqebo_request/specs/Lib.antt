@@ -6,5 +6,6 @@ pub mod Rows
 pub mod NamedView
 pub mod Hints
 pub mod Stops
+pub mod Refusals
 pub mod Requests
 pub mod NoteTexts

@@ -1,10 +1,11 @@
 //! Reads the command line of `check`, which is about files.
-ghost use Rattle.std.specs.Prelude.{◌≡◌, ◌≢◌, IfErr, IfOk, None, Some, codes, option_map, true};
+ghost use Rattle.std.specs.Prelude.{◌≡◌, ◌≢◌, IfErr, IfOk, None, Some, codes, map, option_map, true};
 ghost use Rattle.rinqebo_report.specs.Codes.Codes.{code_word};
 ghost use Rattle.rinqebo_report.specs.declared.codes.code.Code.{Code};
 ghost use Rattle.rinqebo_request.specs.Lines.{line_of, value_at};
 ghost use Rattle.rinqebo_request.specs.Requests.{AreFileEngines, IsCheckBy, IsCheckRequest, IsCheckedBy, IsCheckedFile, IsDenialBy};
-ghost use Rattle.rinqebo_request.specs.Stops.{IsInvalid, IsRefusedFor};
+ghost use Rattle.rinqebo_request.specs.Refusals.{IsRefusedWith, SaysNoCode};
+ghost use Rattle.rinqebo_request.specs.Stops.{IsInvalid};
 
 use crate::environment::Environment;
 use crate::hints::name_hint;
@@ -109,7 +110,9 @@ fn denies_warnings(alloc: Global, matches: &ArgMatches<'_>) -> Result<bool, Pars
 }
 
 /// The words of all codes.
-fn code_words(alloc: Global) -> Result<Vec<&'static str>, AllocError> {
+fn code_words(alloc: Global) -> Result<Vec<&'static str>, AllocError>
+    ensures { IfOk result (λ words. map (λ word. word.now) words.items ≡ map code_word CODES) }
+{
     let mut words = Vec::new(alloc);
     for code in CODES.iter() {
         words.push(code.word())?;
@@ -119,17 +122,19 @@ fn code_words(alloc: Global) -> Result<Vec<&'static str>, AllocError> {
 
 /// Why a word is not that of a code.
 fn no_code(alloc: Global, word: &str) -> Result<ParseStop, AllocError>
-    ensures { IfOk result IsInvalid }
+    ensures { IfOk result (SaysNoCode word.now) }
 {
     let message = format!(in alloc; "no code is `{word}`: `--codes` lists all")?;
-    let hint = name_hint(alloc, word, &code_words(alloc)?)?;
+    let known = code_words(alloc)?;
+    let hint = name_hint(alloc, word, &known)?;
     usage(alloc, message.as_str(), hint)
 }
 
 /// The code of a word.
 fn code_named(alloc: Global, word: &str) -> Result<Code, ParseStop>
     ensures ok { IfOk result (λ code. code_word code ≡ word.now) }
-    ensures err { IfErr result (IsRefusedFor ((code : Code) → code_word code ≢ word.now)) }
+    ensures err { IfErr result
+        (IsRefusedWith ((code : Code) → code_word code ≢ word.now) (SaysNoCode word.now)) }
 {
     match find_code(word) {
         Some(code) => Ok(code),

@@ -20,7 +20,8 @@ fn did_you_mean(alloc: Global, name: Option<&str>) -> Result<Option<String>, All
 
 /// The hint that names the nearest of some known names, if one is near.
 pub fn name_hint(alloc: Global, name: &str, known: &[&str]) -> Result<Option<String>, AllocError>
-    ensures { IfOk result (IsNameHint name.now known.now) }
+    ensures names { IfOk result (IsNameHint name.now known.now) }
+    ensures texts { IfOk result (IsTextHint name.now (map (λ name. name.now) known.now)) }
 {
     did_you_mean(alloc, nearest_name(alloc, name, known)?)
 }

@@ -1,10 +1,10 @@
 //! The experimental features that a command line and variables name.
-ghost use Rattle.std.specs.Prelude.{◌≡◌, ◌∷◌, [], IfErr, IfOk, OnOk, map};
+ghost use Rattle.std.specs.Prelude.{◌≡◌, ◌∷◌, [], IfErr, IfOk, OnOk, codes, map};
 ghost use Rattle.nextest_elements.specs.Experimental.{experimental_text};
 ghost use Rattle.rinqebo_forms.specs.Features.{AreAdded};
-ghost use Rattle.rinqebo_request.specs.Lines.{line_of};
+ghost use Rattle.rinqebo_request.specs.Lines.{line_of, values_at};
 ghost use Rattle.rinqebo_request.specs.Requests.{AreFeaturesNamed, HasNamed, IsFeatureName};
-ghost use Rattle.rinqebo_request.specs.Stops.{IsInvalid, IsRefusedFor};
+ghost use Rattle.rinqebo_request.specs.Refusals.{IsFeatureRefusal, IsRefusedWith, SaysNoFeature};
 ghost use Rattle.rinqebo_request.specs.Variables.{IsSwitchedOn};
 
 use crate::environment::Environment;
@@ -49,7 +49,7 @@ fn add_if_switched(
 
 /// Why a text is not the name of a feature.
 fn no_feature(alloc: Global, name: &str) -> Result<ParseStop, AllocError>
-    ensures { IfOk result IsInvalid }
+    ensures { IfOk result (SaysNoFeature name.now) }
 {
     let message = format!(in alloc; "unknown experimental feature `{name}`")?;
     let hint = name_hint(alloc, name, &["setup-scripts", "wrapper-scripts"])?;
@@ -59,7 +59,7 @@ fn no_feature(alloc: Global, name: &str) -> Result<ParseStop, AllocError>
 /// The feature that the value of an option names.
 fn named_feature(alloc: Global, name: &str) -> Result<ConfigExperimental, ParseStop>
     ensures ok { IfOk result (λ feature. experimental_text feature ≡ name.now) }
-    ensures err { IfErr result (IsRefusedFor (¬ IsFeatureName name.now)) }
+    ensures err { IfErr result (IsRefusedWith (¬ IsFeatureName name.now) (SaysNoFeature name.now)) }
 {
     match feature_of(name) {
         Some(feature) => Ok(feature),
@@ -84,8 +84,9 @@ fn add_named(
     features: &mut BTreeSet<ConfigExperimental>,
     names: &[&str],
 ) -> Result<(), ParseStop>
-    ensures { OnOk result
+    ensures ok { OnOk result
         (HasNamed (map (λ name. name.now) names.now) features.old features.new) }
+    ensures err { IfErr result (IsFeatureRefusal (map (λ name. name.now) names.now)) }
 {
     for name in names {
         let feature = named_feature(alloc, *name)?;
@@ -100,7 +101,9 @@ pub fn features(
     matches: &ArgMatches<'_>,
     environment: &Environment,
 ) -> Result<BTreeSet<ConfigExperimental>, ParseStop>
-    ensures { IfOk result (AreFeaturesNamed environment.now (line_of matches.now)) }
+    ensures ok { IfOk result (AreFeaturesNamed environment.now (line_of matches.now)) }
+    ensures err { IfErr result
+        (IsFeatureRefusal (values_at (codes "experimental") (line_of matches.now))) }
 {
     let mut features = BTreeSet::new(alloc);
     add_switched(&mut features, environment)?;

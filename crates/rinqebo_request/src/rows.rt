@@ -7,6 +7,7 @@ ghost use Rattle.rinqebo_keys.specs.Keys.{is_named_by, key_text};
 ghost use Rattle.rinqebo_request.specs.Lines.{line_of};
 ghost use Rattle.rinqebo_request.specs.NamedView.{named_view};
 ghost use Rattle.rinqebo_request.specs.Rows.{AreExplainedRows, AreKnownKeys, AreListedRows, IsKnownKey, IsRowOf, all_rows, is_no_row, keys_of, requested, rows_by, with_all, with_key};
+ghost use Rattle.rinqebo_request.specs.Refusals.{IsRefusedWith, SaysNoSetting};
 ghost use Rattle.rinqebo_request.specs.Stops.{IsInvalid, IsRefusedFor};
 
 use crate::hints::key_hint;
@@ -20,7 +21,7 @@ use std::alloc::{AllocError, Global};
 
 /// Why a key names no setting of a test.
 fn no_setting(alloc: Global, key: &str, mode: NextestRunMode) -> Result<ParseStop, AllocError>
-    ensures { IfOk result IsInvalid }
+    ensures { IfOk result (SaysNoSetting mode key.now) }
 {
     if let Some(shown) = run_key(key) {
         let message = format!(in alloc;
@@ -37,8 +38,8 @@ fn no_setting(alloc: Global, key: &str, mode: NextestRunMode) -> Result<ParseSto
 fn named_settings(alloc: Global, key: &str, mode: NextestRunMode) -> Result<Vec<Setting>, ParseStop>
     ensures ok { IfOk result (λ named.
         (named.items ≡ filter (is_named_by key.now mode) settings) × (named.items ≢ [])) }
-    ensures err { IfErr result (IsRefusedFor
-        (filter (is_named_by key.now mode) settings ≡ [])) }
+    ensures err { IfErr result (IsRefusedWith (filter (is_named_by key.now mode) settings ≡ [])
+        (SaysNoSetting mode key.now)) }
 {
     let settings = settings_of(alloc, key, mode)?;
     if settings.is_empty() {

@@ -9,7 +9,7 @@ returns c =
       source = refl;
       line_is = record {
         files = with_config _ _ _ _ c.in_ok-checked_file.ensures c.in_ok-files.ensures;
-        features = c.in_ok-features.ensures;
+        features = c.in_ok-features.ensures.ok;
         paper = c.paper.ensures;
       };
       engines = c.file_engines.ensures;

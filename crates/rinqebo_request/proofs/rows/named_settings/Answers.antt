@@ -1,7 +1,7 @@
 use Rattle.std.proofs.Common.{◌∙◌, sym}
 use Rattle.rinqebo_request.specs.declared.words.ParseStop.TheVariants as stops
 use Rattle.rinqebo_request.proofs.NamedKeys.{none_named, some_named}
-use Rattle.rinqebo_request.proofs.Refusing.{invalid_for}
+use Rattle.rinqebo_request.proofs.Refusing.{no_setting}
 use Rattle.rinqebo_request.proofs.files.Passing.{passed}
 use Rattle.rinqebo_request.proofs.rows.named_settings.Goals as goal
 
@@ -11,7 +11,7 @@ returns-clause-ok c =
 
 pub returns-then-is_empty-clause-err : goal.returns-then-is_empty-clause-err
 returns-then-is_empty-clause-err c =
-    invalid_for _ c.in_ok-no_setting.field-0
+    no_setting _ c.args.mode c.args.key.now c.in_ok-no_setting.field-0
     (none_named c.in_ok-settings.settings c.args.key.now c.args.mode c.in_ok-settings.ensures (sym c.is_empty.ensures ∙ c.if-is_empty.true))
     c.in_ok-no_setting.ensures
 

@@ -9,7 +9,7 @@ returns c =
       source = c.profile_source.ensures;
       line_is = record {
         files = with_config _ _ _ _ c.named_file.ensures c.in_ok-files.ensures;
-        features = c.in_ok-features.ensures;
+        features = c.in_ok-features.ensures.ok;
         paper = c.paper.ensures;
       };
       engines = c.engines.ensures;
