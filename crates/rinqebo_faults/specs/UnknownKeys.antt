@@ -27,13 +27,24 @@ override_parts profile = codes "profile" ∷ profile ∷ codes "overrides" ∷ c
 abbrev pub profile_keys : List ℕ → List (List ℕ)
 profile_keys profile = codes "profile" ∷ profile ∷ []
 
+-- where to write a key of overrides of a profile
+unfoldable pub in_override : List ℕ → List ℕ
+in_override profile =
+    codes "write it in `[[" ++ (header_of (profile_keys profile) ++ codes ".overrides]]`")
+
+-- where a key of overrides of a profile belongs
+abbrev pub overrides_help : (profile key : List ℕ) → List ℕ
+overrides_help profile key =
+    codes "`" ++ (key ++ (codes "` is a setting of overrides: " ++ in_override profile))
+
+-- any override of a profile knows a key
+unfoldable pub override_knows : (profile key : List ℕ) → Bool
+override_knows profile key = is_one_of (keys_below (override_parts profile)) key
+
 -- where a key belongs that is one of overrides
 unfoldable pub in_overrides : (profile key : List ℕ) → Option (List ℕ)
 in_overrides profile key =
-    if is_one_of (keys_below (override_parts profile)) key
-    then Some (codes "`" ++ (key ++ (codes "` is a setting of overrides: write it in `[["
-    ++ (header_of (profile_keys profile) ++ codes ".overrides]]`"))))
-    else None
+    if override_knows profile key then Some (overrides_help profile key) else None
 
 -- where a key belongs that is one of profiles
 unfoldable pub in_profile : (profile key : List ℕ) → Option (List ℕ)

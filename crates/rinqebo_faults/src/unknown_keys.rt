@@ -7,7 +7,7 @@ ghost use Rattle.rinqebo_faults.specs.Headers.{header_of};
 ghost use Rattle.rinqebo_faults.specs.Hints.{name_by_front, texts};
 ghost use Rattle.rinqebo_faults.specs.Shapes.{key_of};
 ghost use Rattle.rinqebo_faults.specs.Tables.{known_keys};
-ghost use Rattle.rinqebo_faults.specs.UnknownKeys.{help_or, in_overrides, in_part, in_profile, is_list, IsKeyHelp, IsUnknownKeyHelp, key_hint, part_knows, place_elsewhere, place_in_default, place_in_profile, profile_of};
+ghost use Rattle.rinqebo_faults.specs.UnknownKeys.{help_or, in_override, in_overrides, in_part, in_profile, is_list, IsKeyHelp, IsUnknownKeyHelp, key_hint, override_knows, overrides_help, part_knows, place_elsewhere, place_in_default, place_in_profile, profile_of};
 
 use crate::headers::header_text;
 use crate::hints::{name_by_front, near_name};
@@ -21,11 +21,10 @@ use nextest_shape::{Shape, file_shape};
 use rinqebo_report::HelpPlace;
 use std::alloc::{AllocError, Global};
 
-/// Where a key of a profile belongs that is one of overrides.
-#[tactic(auto, unfolding(crate::specs::UnknownKeys::in_overrides, crate::specs::Tables::known_keys))]
-fn in_overrides(alloc: Global, profile: &str, key: &str) -> Result<Option<String>, AllocError>
-    ensures { IfOk result (λ help. option_map string_bytes help
-        ≡ in_overrides profile.now key.now) }
+/// Whether any override of a profile knows a key.
+#[tactic(auto, unfolding(crate::specs::UnknownKeys::override_knows, crate::specs::Tables::known_keys))]
+fn override_knows(alloc: Global, profile: &str, key: &str) -> Result<bool, AllocError>
+    ensures { IfOk result (λ known. known ≡ override_knows profile.now key.now) }
 {
     let rule = [
         Step::Key("profile"),
@@ -33,14 +32,37 @@ fn in_overrides(alloc: Global, profile: &str, key: &str) -> Result<Option<String
         Step::Key("overrides"),
         Step::Position(0),
     ];
-    if !knows(alloc, &rule, key)? {
+    knows(alloc, &rule, key)
+}
+
+/// Where to write a key of overrides of a profile.
+#[tactic(auto, unfolding(crate::specs::UnknownKeys::in_override))]
+fn in_override(alloc: Global, profile: &str) -> Result<String, AllocError>
+    ensures { IfOk result (λ place. string_bytes place ≡ in_override profile.now) }
+{
+    let path = [Step::Key("profile"), Step::Key(profile)];
+    let header = header_text(alloc, &path)?;
+    format!(in alloc; "write it in `[[{header}.overrides]]`")
+}
+
+/// Where a key of overrides of a profile belongs.
+fn overrides_help(alloc: Global, profile: &str, key: &str) -> Result<String, AllocError>
+    ensures { IfOk result (λ help. string_bytes help ≡ overrides_help profile.now key.now) }
+{
+    let place = in_override(alloc, profile)?;
+    format!(in alloc; "`{key}` is a setting of overrides: {place}")
+}
+
+/// Where a key of a profile belongs that is one of overrides.
+#[tactic(auto, unfolding(crate::specs::UnknownKeys::in_overrides))]
+fn in_overrides(alloc: Global, profile: &str, key: &str) -> Result<Option<String>, AllocError>
+    ensures { IfOk result (λ help. option_map string_bytes help
+        ≡ in_overrides profile.now key.now) }
+{
+    if !override_knows(alloc, profile, key)? {
         return Ok(None);
     }
-    let header = header_text(alloc, &[Step::Key("profile"), Step::Key(profile)])?;
-    let help = format!(in alloc;
-        "`{key}` is a setting of overrides: write it in `[[{header}.overrides]]`"
-    )?;
-    Ok(Some(help))
+    Ok(Some(overrides_help(alloc, profile, key)?))
 }
 
 /// Where a key of another table belongs that is one of a profile.
