@@ -4,3 +4,4 @@ pub mod Highest
 pub mod Ranges
 pub mod Documents
 pub mod Reading
+pub mod Passing

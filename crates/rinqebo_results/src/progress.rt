@@ -1,4 +1,6 @@
 //! A line on a terminal that shows how far a list is.
+ghost use Rattle.std.specs.Prelude.{◌≡◌, false};
+
 use rinqebo_rules::Progress;
 use std::io::Write;
 
@@ -17,7 +19,10 @@ pub struct ProgressLine<'w, W: Write> {
 
 impl<'w, W: Write> ProgressLine<'w, W> {
     /// A line that was not written yet.
-    pub fn new(out: &'w mut W, is_shown: bool) -> ProgressLine<'w, W> {
+    pub fn new(out: &'w mut W, is_shown: bool) -> ProgressLine<'w, W>
+        ensures shown { result.is_shown ≡ is_shown }
+        ensures stands { result.stands ≡ false }
+    {
         ProgressLine {
             out,
             is_shown,
@@ -26,7 +31,9 @@ impl<'w, W: Write> ProgressLine<'w, W> {
     }
 
     /// Erases the line, if it is on the terminal.
-    pub fn clear(&mut self) {
+    pub fn clear(&mut self)
+        ensures { self.new.stands ≡ false }
+    {
         if self.stands {
             let _ = self.out.write_all(b"\r\x1b[K");
             let _ = self.out.flush();

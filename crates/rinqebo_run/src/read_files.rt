@@ -1,8 +1,11 @@
 //! The note of `check` about the files that it read.
+ghost use Rattle.std.specs.Prelude.{false, OnOk, string_bytes};
+ghost use Rattle.rinqebo_results.specs.StandardError.{AddsNotes, is_json};
+
 use nextest_config::{FileInput, ReadOutcome, ToolConfigFile};
 use rinqebo_report::Format;
 use rinqebo_request::{Gathered, Question, Request};
-use rinqebo_results::{Answer, Status};
+use rinqebo_results::{Answer, Status, push_note};
 use std::alloc::{AllocError, Global};
 
 /// Whether a file was read.
@@ -95,16 +98,18 @@ fn add_files(
     gathered: &Gathered,
     answer: &Answer,
     notes: &mut String,
-) -> Result<(), AllocError> {
+) -> Result<(), AllocError>
+    ensures { OnOk result (AddsNotes false (string_bytes notes.old) (string_bytes notes.new)) }
+{
     let files = files_read(alloc, gathered)?;
     if !files.is_empty() {
-        let note = format!(in alloc; "note: read {files}\n")?;
-        return notes.push_str(note.as_str());
+        let said = format!(in alloc; "read {files}")?;
+        return push_note(said.as_str(), notes);
     }
     if answer.status == Status::Refused as u8 {
         return Ok(());
     }
-    notes.push_str("note: found no configuration file; the defaults apply\n")
+    push_note("found no configuration file; the defaults apply", notes)
 }
 
 /// Adds the note about the files that a check read. The forms for other programs have none.
@@ -114,11 +119,12 @@ pub fn add_read_files(
     gathered: &Gathered,
     answer: &Answer,
     notes: &mut String,
-) -> Result<(), AllocError> {
-    if !matches!(request.question, Question::Check { .. })
-        || !matches!(request.format, Format::Text)
-    {
-        return Ok(());
+) -> Result<(), AllocError>
+    ensures { OnOk result (AddsNotes (is_json request.now.format) (string_bytes notes.old)
+        (string_bytes notes.new)) }
+{
+    match (&request.question, request.format) {
+        (Question::Check { .. }, Format::Text) => add_files(alloc, gathered, answer, notes),
+        _ => Ok(()),
     }
-    add_files(alloc, gathered, answer, notes)
 }

@@ -1,4 +1,5 @@
 use Rattle.rinqebo_results.proofs.Documents.{answer_ends, one_of_four, refusal_quiet, refusal_told}
+use Rattle.rinqebo_results.proofs.Errors.{of_answer, of_reasons}
 use Rattle.rinqebo_results.proofs.Received.{answer_begun, failure_begun}
 use Rattle.rinqebo_results.proofs.Refused.{answer_reported, failure_reported}
 use Rattle.rinqebo_results.proofs.Statuses.{answer_status, answered_status, reported_same, reported_page, tells, failed_silent, failed_status}
@@ -63,3 +64,13 @@ pub returns-in-Err-clause-begun : goal.returns-in-Err-clause-begun
 returns-in-Err-clause-begun g c =
     failure_begun c.args.request.now c.args.gathered.now _ _ c.in-Err.failure c.in-Err.ensures.err
     c.refuse_in.ensures.begun
+
+pub returns-in-Ok-clause-errors : goal.returns-in-Ok-clause-errors
+returns-in-Ok-clause-errors g c quiet =
+    of_answer c.args.request.now c.args.gathered.now c.in-Ok.answer.report _ _ _ _ _ (c.in-Ok.ensures.errors quiet) c.in-Ok.ensures.ok
+    c.print_answer.ensures.errors
+
+pub returns-in-Err-clause-errors : goal.returns-in-Err-clause-errors
+returns-in-Err-clause-errors g c quiet =
+    of_reasons c.args.request.now c.args.gathered.now c.in-Err.failure _ _ _ _ (c.in-Err.ensures.errors quiet) c.in-Err.ensures.err
+    c.refuse_in.ensures.errors
