@@ -1,4 +1,7 @@
 //! Positions in texts, and the parts of refused texts, as reports have them.
+ghost use Rattle.std.specs.Prelude.{◌≡◌, IfOk, IfSome};
+ghost use Rattle.rinqebo_faults.specs.Positions.{char_span, characters_before, IsRangeIn, IsWrittenAt, position_behind};
+
 use nextest_places::offsets_of;
 use rinqebo_report::{CharSpan, Position, Range as ReportRange, RefusedExpression};
 use std::alloc::{AllocError, Global};
@@ -25,7 +28,10 @@ pub fn expression(
 }
 
 /// Returns the position behind a text that starts at a position.
-fn position_behind(start: Position, text: &str) -> Position {
+#[tactic(auto, unfolding(crate::specs::Positions::position_behind))]
+fn position_behind(start: Position, text: &str) -> Position
+    ensures { result ≡ position_behind start text.now }
+{
     let mut behind = start;
     for c in text.chars() {
         behind = match c {
@@ -44,7 +50,9 @@ fn position_behind(start: Position, text: &str) -> Position {
 
 /// Returns the position at which a token writes the character of its string at a place, given the
 /// bytes at which it writes each.
-fn position_of(start: Position, token: &str, offsets: &[usize], place: usize) -> Option<Position> {
+fn position_of(start: Position, token: &str, offsets: &[usize], place: usize) -> Option<Position>
+    ensures { IfSome result (λ at. IsWrittenAt start token.now offsets.now place at) }
+{
     Some(position_behind(start, token.get(..*offsets.get(place)?)?))
 }
 
@@ -55,7 +63,9 @@ pub fn range_in(
     start: Position,
     token: &str,
     span: CharSpan,
-) -> Result<Option<ReportRange>, AllocError> {
+) -> Result<Option<ReportRange>, AllocError>
+    ensures { IfOk result (λ found. IfSome found (λ range. IsRangeIn start token.now span range)) }
+{
     let Some(offsets) = offsets_of(alloc, token)? else {
         return Ok(None);
     };

@@ -1,4 +1,12 @@
 //! What files are read without where a later check refuses them.
+ghost use Rattle.std.specs.Prelude.{◌≡◌, [], ◌∷◌, OnOk, codes, option_map};
+ghost use Rattle.std.specs.BTreeSet.{contains_text};
+ghost use Rattle.std.specs.Option.{option_and_then, option_copied};
+ghost use Rattle.nextest_tree.specs.Node.{as_array, as_table, member_of};
+ghost use Rattle.nextest_tree.specs.View.{entries_view, nodes_view, tree_view};
+ghost use Rattle.rinqebo_faults.specs.Edits.{edits_view, mark_of, remove, with_edits};
+ghost use Rattle.rinqebo_faults.specs.Repairs.{error_edits, group_of, kind_path, override_edits, sections_edits, rules_edit};
+
 use crate::edits::Edits;
 use crate::given::profiles_of;
 use crate::namings::naming_mark;
@@ -37,9 +45,18 @@ pub fn leave_out_foreign_groups(
     for group in groups.iter() {
         let name = group.to_string(alloc)?;
         edits.remove(place, &[Step::Key("test-groups"), Step::Key(name.as_str())])?;
-        edits.left_out.groups.add(name.as_str())?;
+        edits.omit_group(name.as_str())?;
     }
     Ok(())
+}
+
+/// Leaves out a script of a kind.
+fn leave_out_kind(edits: &mut Edits, place: usize, kind: &str, name: &str) -> Result<(), AllocError>
+    ensures { OnOk result (edits_view edits.new ≡ with_edits (edits_view edits.old)
+        (remove (mark_of place (kind_path kind.now name.now)) ∷ [])) }
+{
+    let path = [Step::Key("scripts"), Step::Key(kind), Step::Key(name)];
+    edits.remove(place, &path)
 }
 
 /// Leaves out scripts of a source.
@@ -52,20 +69,20 @@ pub fn leave_out_scripts(
     for script in scripts.iter() {
         let name = script.to_string(alloc)?;
         let name = name.as_str();
-        for kind in ["setup", "wrapper"] {
-            edits.remove(
-                place,
-                &[Step::Key("scripts"), Step::Key(kind), Step::Key(name)],
-            )?;
-        }
+        leave_out_kind(edits, place, "setup", name)?;
+        leave_out_kind(edits, place, "wrapper", name)?;
         edits.remove(place, &[Step::Key("script"), Step::Key(name)])?;
-        edits.left_out.scripts.add(name)?;
+        edits.omit_script(name)?;
     }
     Ok(())
 }
 
 /// The old table of scripts of a file.
-fn old_scripts(tree: Option<&Tree>) -> Option<&BTreeMap<String, Tree>> {
+fn old_scripts(tree: Option<&Tree>) -> Option<&BTreeMap<String, Tree>>
+    ensures { option_map (λ scripts. entries_view scripts.now.entries) result
+        ≡ option_and_then as_table (option_and_then (member_of (codes "script"))
+        (option_map (λ tree. tree_view tree.now) tree.entry)) }
+{
     tree?.get("script")?.as_table()
 }
 
@@ -77,7 +94,7 @@ pub fn leave_out_old_scripts(
 ) -> Result<(), AllocError> {
     if let Some(scripts) = old_scripts(tree) {
         for name in scripts.keys() {
-            edits.left_out.scripts.add(name.as_str())?;
+            edits.omit_script(name.as_str())?;
         }
     }
     edits.remove(place, &[Step::Key("script")])
@@ -122,7 +139,10 @@ fn leave_out_section(
     edits: &mut Edits,
     place: usize,
     error: &ConfigCompileError,
-) -> Result<(), AllocError> {
+) -> Result<(), AllocError>
+    ensures { OnOk result (edits_view edits.new
+        ≡ with_edits (edits_view edits.old) (error_edits place error.now)) }
+{
     let section = section_path(alloc, error.profile_name.as_str(), error.section)?;
     if let ConfigCompileSection::DefaultFilter = error.section {
         return edits.replace(place, &section, FILTER);
@@ -161,7 +181,10 @@ pub fn leave_out_sections(
     edits: &mut Edits,
     place: usize,
     errors: &[ConfigCompileError],
-) -> Result<(), AllocError> {
+) -> Result<(), AllocError>
+    ensures { OnOk result (edits_view edits.new
+        ≡ with_edits (edits_view edits.old) (sections_edits place errors.now)) }
+{
     for error in errors {
         leave_out_section(alloc, edits, place, error)?;
     }
@@ -169,13 +192,50 @@ pub fn leave_out_sections(
 }
 
 /// The group that an override sets.
-fn group_of(rule: &Tree) -> Option<&str> {
+fn group_of(rule: &Tree) -> Option<&str>
+    ensures { option_copied result ≡ group_of (tree_view rule.now) }
+{
     rule.get(GROUP_KEY)?.as_str()
 }
 
 /// The overrides of a profile.
-fn overrides_of(profile: &Tree) -> Option<&[Tree]> {
+fn overrides_of(profile: &Tree) -> Option<&[Tree]>
+    ensures { option_map (λ rules. nodes_view rules.now) result
+        ≡ option_and_then as_array (member_of (codes "overrides") (tree_view profile.now)) }
+{
     profile.get("overrides")?.as_array()
+}
+
+/// Leaves out the group that the override at a position of a profile sets, if it is among those with
+/// some marks.
+fn leave_out_group(
+    alloc: Global,
+    edits: &mut Edits,
+    place: usize,
+    profile: &str,
+    index: usize,
+    rule: &Tree,
+    marks: &BTreeSet<String>,
+) -> Result<(), AllocError>
+    ensures { OnOk result (edits_view edits.new ≡ with_edits (edits_view edits.old)
+        (override_edits place (contains_text marks.now) profile.now index
+        (group_of (tree_view rule.now)))) }
+{
+    let Some(group) = group_of(rule) else {
+        return Ok(());
+    };
+    let mark = naming_mark(alloc, profile, GROUP_KEY, group)?;
+    if !marks.contains(mark.as_str()) {
+        return Ok(());
+    }
+    let path = [
+        Step::Key("profile"),
+        Step::Key(profile),
+        Step::Key("overrides"),
+        Step::Position(index),
+        Step::Key(GROUP_KEY),
+    ];
+    edits.remove(place, &path)
 }
 
 /// Leaves out the groups that overrides of a profile set and that are among those with some marks.
@@ -183,30 +243,31 @@ fn leave_out_groups_of(
     alloc: Global,
     edits: &mut Edits,
     place: usize,
-    profile: (&str, &Tree),
+    profile: &str,
+    table: &Tree,
     marks: &BTreeSet<String>,
 ) -> Result<(), AllocError> {
-    let (name, table) = profile;
     let Some(overrides) = overrides_of(table) else {
         return Ok(());
     };
     for (index, rule) in overrides.iter().enumerate() {
-        let Some(group) = group_of(rule) else {
-            continue;
-        };
-        let mark = naming_mark(alloc, name, GROUP_KEY, group)?;
-        if marks.contains(mark.as_str()) {
-            let path = [
-                Step::Key("profile"),
-                Step::Key(name),
-                Step::Key("overrides"),
-                Step::Position(index),
-                Step::Key(GROUP_KEY),
-            ];
-            edits.remove(place, &path)?;
-        }
+        leave_out_group(alloc, edits, place, profile, index, rule, marks)?;
     }
     Ok(())
+}
+
+/// Returns the marks of groups that no file defines.
+fn marks_of(
+    alloc: Global,
+    errors: &[UnknownTestGroupError],
+) -> Result<BTreeSet<String>, AllocError> {
+    let mut marks = BTreeSet::new(alloc);
+    for error in errors {
+        let name = error.name.to_string(alloc)?;
+        let profile = error.profile_name.as_str();
+        marks.insert(naming_mark(alloc, profile, GROUP_KEY, name.as_str())?)?;
+    }
+    Ok(marks)
 }
 
 /// Leaves out groups that overrides set and no file defines.
@@ -217,22 +278,20 @@ pub fn leave_out_groups(
     tree: Option<&Tree>,
     errors: &[UnknownTestGroupError],
 ) -> Result<(), AllocError> {
-    let mut marks = BTreeSet::new(alloc);
-    for error in errors {
-        let name = error.name.to_string(alloc)?;
-        let profile = error.profile_name.as_str();
-        marks.insert(naming_mark(alloc, profile, GROUP_KEY, name.as_str())?)?;
-    }
+    let marks = marks_of(alloc, errors)?;
     if let Some(profiles) = profiles_of(tree) {
         for (name, table) in profiles.iter() {
-            leave_out_groups_of(alloc, edits, place, (name.as_str(), table), &marks)?;
+            leave_out_groups_of(alloc, edits, place, name.as_str(), table, &marks)?;
         }
     }
     Ok(())
 }
 
 /// Leaves out the script rules of a profile.
-fn leave_out_rules(edits: &mut Edits, place: usize, profile: &str) -> Result<(), AllocError> {
+fn leave_out_rules(edits: &mut Edits, place: usize, profile: &str) -> Result<(), AllocError>
+    ensures { OnOk result (edits_view edits.new
+        ≡ with_edits (edits_view edits.old) (rules_edit place profile.now ∷ [])) }
+{
     edits.remove(place, &profile_path(profile, "scripts"))
 }
 
