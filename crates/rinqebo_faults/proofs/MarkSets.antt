@@ -20,8 +20,7 @@ none_in set none name = ap (λ keys. sets.contains_text {Y = Global} (record { k
 -- a map without keys has nothing at a text
 pub none_at : {X Y : Type 0} (view : X → Y) (map : trees.BTreeMap (String Global) X)
     → trees.IsEmpty map → (name : List ℕ) → option_map view (trees.get_by_text map name) ≡ None
-none_at view map none name =
-    ap (λ entries. option_map view (trees.get_by_text {Y = Global} (record { entries = entries }) name)) none
+none_at view map none name = let e : map.entries ≡ [] = none in rw e refl
 
 -- one text more is in a set
 pub one_more : (old new : sets.BTreeSet (String Global)) (key : String Global) (text : List ℕ)

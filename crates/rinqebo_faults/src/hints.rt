@@ -1,5 +1,5 @@
 //! Hints of findings: which known name, or key of the same table, a wrong one most likely means.
-ghost use Rattle.std.specs.Prelude.{◌≡◌, ◌-◌, ◌^◌, ◌==◌, ◌++◌, IfOk, OnOk, count_by, length, map, min, not, option_map, string_bytes};
+ghost use Rattle.std.specs.Prelude.{◌≡◌, ◌-◌, ◌^◌, ◌==◌, IfOk, count_by, length, map, min, not, option_map, string_bytes};
 ghost use Rattle.std.specs.List.{list_any, zip};
 ghost use Rattle.std.specs.Option.{option_copied};
 ghost use Rattle.std.specs.Str.{chars, str_eq_ignore_ascii_case};
@@ -169,15 +169,16 @@ fn words_of_one(shape: &Shape) -> &'static [&'static str]
     }
 }
 
-/// Adds the words of which each of some shapes takes one.
-fn add_words_of_each(shapes: &Vec<Shape>, words: &mut Vec<&'static str>) -> Result<(), AllocError>
-    ensures { OnOk result (texts words.new.items
-        ≡ texts words.old.items ++ words_of_each (shapes_view shapes.now.items)) }
+/// The words of which some shapes take one each.
+fn words_of_each(alloc: Global, shapes: &Vec<Shape>) -> Result<Vec<&'static str>, AllocError>
+    ensures { IfOk result (λ words. texts words.items
+        ≡ words_of_each (shapes_view shapes.now.items)) }
 {
+    let mut words = Vec::new(alloc);
     for shape in shapes {
         words.extend_from_slice(words_of_one(shape))?;
     }
-    Ok(())
+    Ok(words)
 }
 
 /// The words of which a shape takes one.
@@ -185,11 +186,7 @@ fn words_of(alloc: Global, shape: &Shape) -> Result<Vec<&'static str>, AllocErro
     ensures { IfOk result (λ words. texts words.items ≡ words_of (shape_view shape.now)) }
 {
     match shape {
-        Shape::Either(shapes) => {
-            let mut words = Vec::new(alloc);
-            add_words_of_each(shapes, &mut words)?;
-            Ok(words)
-        }
+        Shape::Either(shapes) => words_of_each(alloc, shapes),
         one => Vec::from_slice(alloc, words_of_one(one)),
     }
 }

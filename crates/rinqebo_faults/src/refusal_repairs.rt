@@ -1,11 +1,13 @@
 //! What files are read without where a later check refuses them.
-ghost use Rattle.std.specs.Prelude.{◌≡◌, [], ◌∷◌, OnOk, codes, option_map};
+ghost use Rattle.std.specs.Prelude.{◌≡◌, [], ◌∷◌, ◌++◌, OnOk, codes, map, option_map};
 ghost use Rattle.std.specs.BTreeSet.{contains_text};
 ghost use Rattle.std.specs.Option.{option_and_then, option_copied};
 ghost use Rattle.nextest_tree.specs.Node.{as_array, as_table, member_of};
 ghost use Rattle.nextest_tree.specs.View.{entries_view, nodes_view, tree_view};
-ghost use Rattle.rinqebo_faults.specs.Edits.{edits_view, mark_of, remove, with_edits};
-ghost use Rattle.rinqebo_faults.specs.Repairs.{error_edits, group_of, kind_path, override_edits, sections_edits, rules_edit};
+ghost use Rattle.nextest_places.specs.Spans.Paths.{path_step};
+ghost use Rattle.nextest_places.specs.Spans.Paths as paths;
+ghost use Rattle.rinqebo_faults.specs.Edits.{edits_view, mark_of, remove, replace, with_edits};
+ghost use Rattle.rinqebo_faults.specs.Repairs.{edit_if, error_edits, group_of, kind_path, override_edits, rule_edits, rules_edit, sections_edits};
 
 use crate::edits::Edits;
 use crate::given::profiles_of;
@@ -133,7 +135,61 @@ pub fn leave_out_parents(
     Ok(())
 }
 
-/// Reads something in place of what does not compile.
+/// Reads a text in place of the value at a key of a rule, if that value is refused.
+fn replace_if(
+    alloc: Global,
+    edits: &mut Edits,
+    place: usize,
+    rule: &[Step<'_>],
+    key: &'static str,
+    text: &'static str,
+    is_refused: bool,
+) -> Result<(), AllocError>
+    ensures { OnOk result (edits_view edits.new ≡ with_edits (edits_view edits.old)
+        (edit_if is_refused
+        (replace (mark_of place (map path_step rule.now ++ paths.key key.now ∷ [])) text.now))) }
+{
+    if !is_refused {
+        return Ok(());
+    }
+    edits.replace(place, &path_with(alloc, rule, key)?, text)
+}
+
+/// Reads something in place of what does not compile in a rule.
+fn leave_out_of_rule(
+    alloc: Global,
+    edits: &mut Edits,
+    place: usize,
+    rule: &[Step<'_>],
+    kind: &ConfigCompileErrorKind,
+) -> Result<(), AllocError>
+    ensures { OnOk result (edits_view edits.new ≡ with_edits (edits_view edits.old)
+        (rule_edits place (map path_step rule.now) kind.now)) }
+{
+    match kind {
+        ConfigCompileErrorKind::ConstraintsNotSpecified { .. } => {
+            edits.add(place, rule, CONDITION)
+        }
+        ConfigCompileErrorKind::FilterAndDefaultFilterSpecified => {
+            edits.remove_key(place, rule, "filter")
+        }
+        ConfigCompileErrorKind::Parse {
+            host_parse_error,
+            target_parse_error,
+            filter_parse_error,
+            default_filter_parse_error,
+        } => {
+            let platform = host_parse_error.is_some() || target_parse_error.is_some();
+            let filter = filter_parse_error.is_some();
+            let default_filter = default_filter_parse_error.is_some();
+            replace_if(alloc, edits, place, rule, "platform", PLATFORM, platform)?;
+            replace_if(alloc, edits, place, rule, "filter", FILTER, filter)?;
+            replace_if(alloc, edits, place, rule, "default-filter", FILTER, default_filter)
+        }
+    }
+}
+
+/// Reads something in place of a section that does not compile.
 fn leave_out_section(
     alloc: Global,
     edits: &mut Edits,
@@ -143,34 +199,11 @@ fn leave_out_section(
     ensures { OnOk result (edits_view edits.new
         ≡ with_edits (edits_view edits.old) (error_edits place error.now)) }
 {
-    let section = section_path(alloc, error.profile_name.as_str(), error.section)?;
-    if let ConfigCompileSection::DefaultFilter = error.section {
-        return edits.replace(place, &section, FILTER);
-    }
-    match &error.kind {
-        ConfigCompileErrorKind::ConstraintsNotSpecified { .. } => {
-            edits.add(place, &section, CONDITION)
-        }
-        ConfigCompileErrorKind::FilterAndDefaultFilterSpecified => {
-            edits.remove_key(place, &section, "filter")
-        }
-        ConfigCompileErrorKind::Parse {
-            host_parse_error,
-            target_parse_error,
-            filter_parse_error,
-            default_filter_parse_error,
-        } => {
-            if host_parse_error.is_some() || target_parse_error.is_some() {
-                edits.replace(place, &path_with(alloc, &section, "platform")?, PLATFORM)?;
-            }
-            if filter_parse_error.is_some() {
-                edits.replace(place, &path_with(alloc, &section, "filter")?, FILTER)?;
-            }
-            if default_filter_parse_error.is_some() {
-                let path = path_with(alloc, &section, "default-filter")?;
-                edits.replace(place, &path, FILTER)?;
-            }
-            Ok(())
+    let path = section_path(alloc, error.profile_name.as_str(), error.section)?;
+    match error.section {
+        ConfigCompileSection::DefaultFilter => edits.replace(place, &path, FILTER),
+        ConfigCompileSection::Override(_) | ConfigCompileSection::Script(_) => {
+            leave_out_of_rule(alloc, edits, place, &path, &error.kind)
         }
     }
 }
