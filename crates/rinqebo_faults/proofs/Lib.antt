@@ -1,3 +1,6 @@
+pub mod Arrays
+pub mod FirstChars
 pub mod Listing
 pub mod MarkSets
+pub mod Numbers
 pub mod Suffixes

@@ -5,12 +5,12 @@ use Rattle.std.specs.Option.{option_and_then}
 use Rattle.std.specs.Str.{bytes_eq}
 use Rattle.nextest_places.specs.declared.step.Step.{Step}
 use Rattle.nextest_shape.specs.Form.{Form}
-use Rattle.nextest_tree.specs.Node.{Node, Nodes, no_nodes}
+use Rattle.nextest_tree.specs.Node.{Node, Nodes}
 use Rattle.nextest_tree.specs.declared.fault.ElementCause.{ElementCause}
 use Rattle.nextest_tree.specs.declared.fault.ElementCause.TheVariants as causes
 use Rattle.rinqebo_report.specs.declared.finding.HelpPlace.{HelpPlace}
 use Rattle.rinqebo_faults.specs.Expected.{expected_at, expected_name, expected_text}
-use Rattle.rinqebo_faults.specs.Given.{kind_words}
+use Rattle.rinqebo_faults.specs.Given.{is_empty_array, kind_words}
 use Rattle.rinqebo_faults.specs.Headers.{header_text}
 use Rattle.rinqebo_faults.specs.Hints.{IsHintAt}
 use Rattle.rinqebo_faults.specs.Shapes.{wanted_at}
@@ -26,8 +26,8 @@ wrong_kind name (Some node) = name ++ (codes " is " ++ kind_words node)
 
 -- an array that is out of its range: it is empty
 abbrev pub wrong_length : List ℕ → Nodes → List ℕ
-wrong_length name no_nodes = name ++ codes " is empty"
-wrong_length name (Nodes.node n ns) = name ++ codes " is out of range"
+wrong_length name items =
+    if is_empty_array items then name ++ codes " is empty" else name ++ codes " is out of range"
 
 -- a value that is out of its range: the value
 abbrev pub out_of_range : List ℕ → Option Node → List ℕ

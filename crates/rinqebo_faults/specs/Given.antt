@@ -1,7 +1,7 @@
 -- What is in a file.
-use Rattle.std.specs.Prelude.{ℕ, List, Option, codes}
+use Rattle.std.specs.Prelude.{ℕ, Bool, true, false, List, Option, codes}
 use Rattle.std.specs.Option.{option_and_then}
-use Rattle.nextest_tree.specs.Node.{Node, Entries, as_table, member_of}
+use Rattle.nextest_tree.specs.Node.{Node, Nodes, no_nodes, Entries, as_table, member_of}
 
 -- the profiles of a file
 abbrev pub profiles_in : Option Node → Option Entries
@@ -15,3 +15,8 @@ kind_words (Node.text s) = codes "a string"
 kind_words (Node.int z) = codes "an integer"
 kind_words (Node.bool b) = codes "a boolean"
 kind_words Node.opaque = codes "a float or a date"
+
+-- an array has no items
+abbrev pub is_empty_array : Nodes → Bool
+is_empty_array no_nodes = true
+is_empty_array (Nodes.node n ns) = false

@@ -2,13 +2,14 @@
 use Rattle.std.specs.Prelude.{ℕ, ℤ, int_lt, ◌-◌, ◌==◌, Bool, true, false, not, ◌&&◌, ◌||◌, List, is_some, is_none, length, map, take, Option, None, Some, string_bytes}
 use Rattle.nextest_places.specs.declared.step.Step.{Step}
 use Rattle.nextest_shape.specs.Form.{Form, anything, a_truth, a_number, a_text, an_array, a_table, a_map}
-use Rattle.nextest_tree.specs.Node.{Node, Nodes, no_nodes, member_of, as_table}
+use Rattle.nextest_tree.specs.Node.{Node, member_of, as_table}
 use Rattle.nextest_tree.specs.declared.fault.ElementCause.{ElementCause}
 use Rattle.nextest_tree.specs.declared.fault.ElementCause.TheVariants as causes
 use Rattle.rinqebo_faults.specs.declared.refused_values.Fault.{Fault}
 use Rattle.rinqebo_faults.specs.declared.refused_values.Fault.TheVariants as faults
 use Rattle.rinqebo_faults.specs.ElementRepairs.{ends_with_key}
 use Rattle.rinqebo_faults.specs.Elements.{is_text}
+use Rattle.rinqebo_faults.specs.Given.{is_empty_array}
 use Rattle.rinqebo_faults.specs.Shapes.{form_at, key_of}
 use Rattle.rinqebo_faults.specs.Spellings.{takes}
 
@@ -36,11 +37,6 @@ is_up_to (Some greatest) number = not (int_lt greatest number)
 abbrev pub has_number : ℤ → Form → Bool
 has_number number (a_number least greatest) = is_from least number && is_up_to greatest number
 has_number number form = false
-
--- an array has no items
-abbrev pub is_empty_array : Nodes → Bool
-is_empty_array no_nodes = true
-is_empty_array (Nodes.node n ns) = false
 
 -- a value may be out of the range that a form has
 abbrev pub is_out_of_range : Form → Node → Bool

@@ -71,11 +71,13 @@ old_names file =
 abbrev pub old_scripts_edits : ℕ → Option Node → List Edit
 old_scripts_edits place file = map omit_script (old_names file) ++ remove (mark_of place old_path) ∷ []
 
+-- the parent of a profile is left out in a source
+abbrev pub left_out_in : List ℕ → ℕ → Edit
+left_out_in profile place = remove (mark_of place (profile_path profile (codes "inherits")))
+
 -- the parent of a profile is left out, in each of so many sources
 abbrev pub parent_edits : ℕ → List ℕ → List Edit
-parent_edits sources profile =
-    map (λ place. remove (mark_of place (profile_path profile (codes "inherits"))))
-    (range_with_len 0 sources)
+parent_edits sources profile = map (left_out_in profile) (range_with_len 0 sources)
 
 -- the profiles whose parents an error refuses
 abbrev pub refused_children : InheritsError → List (List ℕ)

@@ -1,8 +1,6 @@
 -- Lists in words.
 use Rattle.std.specs.Prelude.{ℕ, ◌+◌, ◌==◌, Bool, not, ◌&&◌, List, [], ◌∷◌, ◌++◌, map, length, codes, if◌then◌else◌}
-use Rattle.std.specs.Char.{is_ascii_digit}
-use Rattle.std.specs.List.{list_all}
-use Rattle.std.specs.Str.{chars}
+use Rattle.std.specs.Str.{all_ascii_digits}
 
 -- words behind the first one: a comma before each, and something else before the last one
 abbrev pub listed_behind : List ℕ → List (List ℕ) → List ℕ
@@ -26,7 +24,7 @@ quoted last words = listed last (map backquoted words)
 
 -- a text has a character, and digits alone
 unfoldable pub is_number : List ℕ → Bool
-is_number text = list_all is_ascii_digit (chars text) && not (length text == 0)
+is_number text = all_ascii_digits text && not (length text == 0)
 
 -- what is before an item behind the first one: commas, and something else before the last one
 abbrev pub mark_before : (is_last : Bool) → List ℕ → List ℕ

@@ -1,13 +1,13 @@
 //! What is wrong with values that a file may not have, in words.
 ghost use Rattle.std.specs.Prelude.{◌≡◌, Some, IfOk, map, option_map, string_bytes};
 ghost use Rattle.std.specs.Option.{option_copied};
-ghost use Rattle.nextest_tree.specs.View.{tree_view};
-ghost use Rattle.rinqebo_faults.specs.Elements.{bad_text, element_notes, is_text, lack_text, out_of_range, refused_notes, wanted, wanted_text, wrong_element, wrong_kind, IsAdvice, IsTextAdvice, spelled};
+ghost use Rattle.nextest_tree.specs.View.{nodes_view, tree_view};
+ghost use Rattle.rinqebo_faults.specs.Elements.{bad_text, element_notes, is_text, lack_text, out_of_range, refused_notes, wanted, wanted_text, wrong_element, wrong_kind, wrong_length, IsAdvice, IsTextAdvice, spelled};
 ghost use Rattle.rinqebo_report.specs.declared.finding.HelpPlace.{HelpPlace};
 ghost use Rattle.rinqebo_faults.specs.UnknownKeys.{IsUnknownKeyHelp};
 
 use crate::expected::{expected_at, expected_name, expected_text};
-use crate::given::kind_words;
+use crate::given::{is_empty_array, kind_words};
 use crate::headers::header_text;
 use crate::hints::word_hint;
 use crate::shapes::shape_at;
@@ -33,6 +33,17 @@ fn wrong_kind(alloc: Global, name: &str, given: Option<&Tree>) -> Result<String,
     }
 }
 
+/// What is wrong with an array that is out of its range: it is empty.
+fn wrong_length(alloc: Global, name: &str, items: &[Tree]) -> Result<String, AllocError>
+    ensures { IfOk result (λ text. string_bytes text
+        ≡ wrong_length name.now (nodes_view items.now)) }
+{
+    if is_empty_array(items) {
+        return format!(in alloc; "{name} is empty");
+    }
+    format!(in alloc; "{name} is out of range")
+}
+
 /// What is wrong with a value that is out of its range: the value.
 fn out_of_range(alloc: Global, name: &str, given: Option<&Tree>) -> Result<String, AllocError>
     ensures { IfOk result (λ text. string_bytes text
@@ -40,7 +51,7 @@ fn out_of_range(alloc: Global, name: &str, given: Option<&Tree>) -> Result<Strin
 {
     match given {
         Some(Tree::Int(number)) => format!(in alloc; "{name} is {number}"),
-        Some(Tree::Array(items)) if items.is_empty() => format!(in alloc; "{name} is empty"),
+        Some(Tree::Array(items)) => wrong_length(alloc, name, items),
         Some(Tree::Text(text)) => {
             let text = text.as_str();
             format!(in alloc; "{name} is `{text}`")

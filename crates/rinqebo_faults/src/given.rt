@@ -1,8 +1,8 @@
 //! What is at a path of a file, in words.
 ghost use Rattle.std.specs.Prelude.{◌≡◌, option_map};
-ghost use Rattle.nextest_tree.specs.View.{entries_view, tree_view};
+ghost use Rattle.nextest_tree.specs.View.{entries_view, nodes_view, tree_view};
 ghost use Rattle.nextest_places.specs.Path.{stands_at, step_into};
-ghost use Rattle.rinqebo_faults.specs.Given.{kind_words, profiles_in};
+ghost use Rattle.rinqebo_faults.specs.Given.{is_empty_array, kind_words, profiles_in};
 
 use nextest_places::Step;
 use nextest_tree::Tree;
@@ -51,4 +51,11 @@ pub fn kind_words(tree: &Tree) -> &'static str
         Tree::Bool(_) => "a boolean",
         Tree::Opaque => "a float or a date",
     }
+}
+
+/// Whether an array has no items.
+pub fn is_empty_array(items: &[Tree]) -> bool
+    ensures { result ≡ is_empty_array (nodes_view items.now) }
+{
+    items.is_empty()
 }

@@ -1,7 +1,7 @@
 //! The headers of tables, as TOML writes them.
 ghost use Rattle.std.specs.Prelude.{◌≡◌, IfOk, filter_map, map, string_bytes};
 ghost use Rattle.rinqebo_faults.specs.Headers.{header_key, header_text, is_bare, is_bare_key, is_special};
-ghost use Rattle.std.specs.List.{list_any};
+ghost use Rattle.std.specs.List.{list_all, list_any};
 ghost use Rattle.std.specs.Str.{chars};
 ghost use Rattle.rinqebo_faults.specs.Shapes.{key_of};
 
@@ -23,12 +23,19 @@ fn is_special(c: char) -> bool
     c == '"' || c == '\\'
 }
 
+/// Whether all characters of a key are those of keys without quotes.
+fn are_bare(key: &str) -> bool
+    ensures { result ≡ list_all is_bare (chars key.now) }
+{
+    key.chars().all(|c| is_bare(c))
+}
+
 /// Whether a key is written without quotes.
 #[tactic(auto, unfolding(crate::specs::Headers::is_bare_key))]
 fn is_bare_key(key: &str) -> bool
     ensures { result ≡ is_bare_key key.now }
 {
-    !key.is_empty() && key.chars().all(|c| is_bare(c))
+    !key.is_empty() && are_bare(key)
 }
 
 /// Whether a key needs single quotes, if it needs some.

@@ -1,5 +1,5 @@
 //! What files are read without where a later check refuses them.
-ghost use Rattle.std.specs.Prelude.{◌≡◌, [], ◌∷◌, ◌++◌, OnOk, codes, map, option_map};
+ghost use Rattle.std.specs.Prelude.{◌≡◌, [], ◌∷◌, ◌++◌, OnOk, codes, flat_map, map, option_map, string_bytes};
 ghost use Rattle.std.specs.BTreeSet.{contains_text};
 ghost use Rattle.std.specs.Option.{option_and_then, option_copied};
 ghost use Rattle.nextest_tree.specs.Node.{as_array, as_table, member_of};
@@ -7,7 +7,7 @@ ghost use Rattle.nextest_tree.specs.View.{entries_view, nodes_view, tree_view};
 ghost use Rattle.nextest_places.specs.Spans.Paths.{path_step};
 ghost use Rattle.nextest_places.specs.Spans.Paths as paths;
 ghost use Rattle.rinqebo_faults.specs.Edits.{edits_view, mark_of, remove, replace, with_edits};
-ghost use Rattle.rinqebo_faults.specs.Repairs.{edit_if, error_edits, group_of, kind_path, override_edits, rule_edits, rules_edit, sections_edits};
+ghost use Rattle.rinqebo_faults.specs.Repairs.{edit_if, error_edits, group_edits, group_of, groups_edits, kind_path, override_edits, parent_edits, parents_edits, refused_children, rule_edits, rules_edit, script_edits, script_rules_edits, scripts_edits, sections_edits};
 
 use crate::edits::Edits;
 use crate::given::profiles_of;
@@ -37,17 +37,28 @@ const CONDITION: &str = "platform = \"cfg(unix)\"";
 /// The key at which an override sets a group.
 const GROUP_KEY: &str = "test-group";
 
+/// Leaves out a group of a source.
+fn leave_out_named_group(edits: &mut Edits, place: usize, name: &str) -> Result<(), AllocError>
+    ensures { OnOk result (edits_view edits.new
+        ≡ with_edits (edits_view edits.old) (group_edits place name.now)) }
+{
+    edits.remove(place, &[Step::Key("test-groups"), Step::Key(name)])?;
+    edits.omit_group(name)
+}
+
 /// Leaves out groups of a source.
 pub fn leave_out_foreign_groups(
     alloc: Global,
     edits: &mut Edits,
     place: usize,
     groups: &BTreeSet<CustomTestGroup>,
-) -> Result<(), AllocError> {
+) -> Result<(), AllocError>
+    ensures { OnOk result (edits_view edits.new
+        ≡ with_edits (edits_view edits.old) (groups_edits place groups.now.keys)) }
+{
     for group in groups.iter() {
         let name = group.to_string(alloc)?;
-        edits.remove(place, &[Step::Key("test-groups"), Step::Key(name.as_str())])?;
-        edits.omit_group(name.as_str())?;
+        leave_out_named_group(edits, place, name.as_str())?;
     }
     Ok(())
 }
@@ -61,20 +72,30 @@ fn leave_out_kind(edits: &mut Edits, place: usize, kind: &str, name: &str) -> Re
     edits.remove(place, &path)
 }
 
+/// Leaves out a script of a source, wherever the source defines it.
+fn leave_out_named_script(edits: &mut Edits, place: usize, name: &str) -> Result<(), AllocError>
+    ensures { OnOk result (edits_view edits.new
+        ≡ with_edits (edits_view edits.old) (script_edits place name.now)) }
+{
+    leave_out_kind(edits, place, "setup", name)?;
+    leave_out_kind(edits, place, "wrapper", name)?;
+    edits.remove(place, &[Step::Key("script"), Step::Key(name)])?;
+    edits.omit_script(name)
+}
+
 /// Leaves out scripts of a source.
 pub fn leave_out_scripts(
     alloc: Global,
     edits: &mut Edits,
     place: usize,
     scripts: &BTreeSet<ScriptId>,
-) -> Result<(), AllocError> {
+) -> Result<(), AllocError>
+    ensures { OnOk result (edits_view edits.new
+        ≡ with_edits (edits_view edits.old) (scripts_edits place scripts.now.keys)) }
+{
     for script in scripts.iter() {
         let name = script.to_string(alloc)?;
-        let name = name.as_str();
-        leave_out_kind(edits, place, "setup", name)?;
-        leave_out_kind(edits, place, "wrapper", name)?;
-        edits.remove(place, &[Step::Key("script"), Step::Key(name)])?;
-        edits.omit_script(name)?;
+        leave_out_named_script(edits, place, name.as_str())?;
     }
     Ok(())
 }
@@ -103,11 +124,60 @@ pub fn leave_out_old_scripts(
 }
 
 /// Leaves out the parent of a profile, in any source.
-fn leave_out_parent(edits: &mut Edits, sources: usize, profile: &str) -> Result<(), AllocError> {
+fn leave_out_parent(edits: &mut Edits, sources: usize, profile: &str) -> Result<(), AllocError>
+    ensures { OnOk result (edits_view edits.new
+        ≡ with_edits (edits_view edits.old) (parent_edits sources profile.now)) }
+{
     for place in 0..sources {
         edits.remove(place, &parent_path(profile))?;
     }
     Ok(())
+}
+
+/// Leaves out the parents of some profiles.
+fn leave_out_each(edits: &mut Edits, sources: usize, profiles: &[String]) -> Result<(), AllocError>
+    ensures { OnOk result (edits_view edits.new ≡ with_edits (edits_view edits.old)
+        (flat_map (parent_edits sources) (map string_bytes profiles.now))) }
+{
+    for profile in profiles {
+        leave_out_parent(edits, sources, profile.as_str())?;
+    }
+    Ok(())
+}
+
+/// Leaves out the parents of the profiles of some cycles.
+fn leave_out_cycles(
+    edits: &mut Edits,
+    sources: usize,
+    cycles: &[Vec<String>],
+) -> Result<(), AllocError>
+    ensures { OnOk result (edits_view edits.new ≡ with_edits (edits_view edits.old)
+        (flat_map (parent_edits sources)
+        (flat_map (λ cycle. map string_bytes cycle.items) cycles.now))) }
+{
+    for cycle in cycles {
+        leave_out_each(edits, sources, cycle)?;
+    }
+    Ok(())
+}
+
+/// Leaves out the parents of the profiles that an error is about.
+fn leave_out_children(
+    edits: &mut Edits,
+    sources: usize,
+    error: &InheritsError,
+) -> Result<(), AllocError>
+    ensures { OnOk result (edits_view edits.new ≡ with_edits (edits_view edits.old)
+        (flat_map (parent_edits sources) (refused_children error.now))) }
+{
+    match error {
+        InheritsError::DefaultProfileInheritance(profile)
+        | InheritsError::SelfReferentialInheritance(profile)
+        | InheritsError::UnknownInheritance(profile, _) => {
+            leave_out_parent(edits, sources, profile.as_str())
+        }
+        InheritsError::InheritanceCycle(cycles) => leave_out_cycles(edits, sources, cycles),
+    }
 }
 
 /// Leaves out parents that profiles may not have.
@@ -115,22 +185,12 @@ pub fn leave_out_parents(
     edits: &mut Edits,
     sources: usize,
     errors: &[InheritsError],
-) -> Result<(), AllocError> {
+) -> Result<(), AllocError>
+    ensures { OnOk result (edits_view edits.new
+        ≡ with_edits (edits_view edits.old) (parents_edits sources errors.now)) }
+{
     for error in errors {
-        match error {
-            InheritsError::DefaultProfileInheritance(profile)
-            | InheritsError::SelfReferentialInheritance(profile)
-            | InheritsError::UnknownInheritance(profile, _) => {
-                leave_out_parent(edits, sources, profile.as_str())?;
-            }
-            InheritsError::InheritanceCycle(cycles) => {
-                for cycle in cycles {
-                    for profile in cycle {
-                        leave_out_parent(edits, sources, profile.as_str())?;
-                    }
-                }
-            }
-        }
+        leave_out_children(edits, sources, error)?;
     }
     Ok(())
 }
@@ -333,15 +393,18 @@ pub fn leave_out_script_rules(
     edits: &mut Edits,
     place: usize,
     errors: &ProfileScriptErrors,
-) -> Result<(), AllocError> {
-    for error in &errors.unknown_scripts {
-        leave_out_rules(edits, place, error.profile_name.as_str())?;
+) -> Result<(), AllocError>
+    ensures { OnOk result (edits_view edits.new
+        ≡ with_edits (edits_view edits.old) (script_rules_edits place errors.now)) }
+{
+    for unknown in &errors.unknown_scripts {
+        leave_out_rules(edits, place, unknown.profile_name.as_str())?;
     }
-    for error in &errors.wrong_script_types {
-        leave_out_rules(edits, place, error.profile_name.as_str())?;
+    for wrong in &errors.wrong_script_types {
+        leave_out_rules(edits, place, wrong.profile_name.as_str())?;
     }
-    for error in &errors.list_scripts_using_run_filters {
-        leave_out_rules(edits, place, error.profile_name.as_str())?;
+    for filtered in &errors.list_scripts_using_run_filters {
+        leave_out_rules(edits, place, filtered.profile_name.as_str())?;
     }
     Ok(())
 }

@@ -9,6 +9,7 @@ ghost use Rattle.rinqebo_faults.specs.Spellings.{is_one, takes};
 
 use crate::element_repairs::ends_with_key;
 use crate::element_words::is_text;
+use crate::given::is_empty_array;
 use crate::shapes::shape_at;
 use crate::ways::Way;
 use nextest_places::Step;
@@ -99,7 +100,7 @@ fn is_out_of_range(shape: &Shape, tree: &Tree) -> bool
 {
     match tree {
         Tree::Int(number) => !takes_number(shape, *number),
-        Tree::Array(items) => items.is_empty(),
+        Tree::Array(items) => is_empty_array(items),
         Tree::Table(_) | Tree::Text(_) => true,
         Tree::Bool(_) | Tree::Opaque => false,
     }

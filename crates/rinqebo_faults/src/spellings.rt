@@ -1,5 +1,6 @@
 //! How a value that is refused is meant to be spelled, where that is plain.
-ghost use Rattle.std.specs.Prelude.{◌≡◌, IfOk, IsTrue, option_map, string_bytes};
+ghost use Rattle.std.specs.Prelude.{◌≡◌, ◌<◌, ◌≤◌, IfOk, IsTrue, length, option_map, string_bytes};
+ghost use Rattle.std.specs.Str.Parse.{digits_value};
 ghost use Rattle.nextest_shape.specs.View.{shape_view, shapes_view};
 ghost use Rattle.nextest_tree.specs.View.{tree_view};
 ghost use Rattle.rinqebo_faults.specs.Spellings.{are_strings, are_tables, duration_of, has_fields, is_boolean, is_integer, is_of, is_one, is_string, is_truth, milliseconds, parted_seconds, seconds_of, spelled_number, spelled_table, spelled_text, spelling, takes, without_unit};
@@ -106,16 +107,27 @@ fn takes(wanted: Wanted, shape: &Shape) -> bool
     }
 }
 
+/// The number that up to three digits write.
+fn small_number(digits: &str) -> u64
+    ensures number { IsTrue (is_number digits.now) → length digits.now ≤ 3
+        → result ≡ digits_value 10 digits.now }
+    ensures small { IsTrue (is_number digits.now) → length digits.now ≤ 3 → result < 1000 }
+{
+    match digits.parse::<u64>() {
+        Ok(number) => number,
+        Err(_) => 0,
+    }
+}
+
 /// The milliseconds of up to three digits behind a point.
 #[tactic(auto, unfolding(crate::specs::Spellings::milliseconds))]
 fn milliseconds(digits: &str) -> Option<u64>
     ensures { IsTrue (is_number digits.now) → result ≡ milliseconds digits.now }
 {
-    let number = digits.parse::<u64>().ok()?;
     match digits.len() {
-        1 => Some(number.saturating_mul(100)),
-        2 => Some(number.saturating_mul(10)),
-        3 => Some(number),
+        1 => Some(small_number(digits).saturating_mul(100)),
+        2 => Some(small_number(digits).saturating_mul(10)),
+        3 => Some(small_number(digits)),
         _ => None,
     }
 }

@@ -1,5 +1,6 @@
 //! Lines of texts that are not TOML: where they are at fault, and which ones are shown.
-ghost use Rattle.std.specs.Prelude.{◌≡◌, IfOk, OnOk, option_map, string_bytes};
+ghost use Rattle.std.specs.Prelude.{◌≡◌, IfOk, OnOk, option_map, slice_get, string_bytes};
+ghost use Rattle.std.specs.Str.Lines.{lines};
 ghost use Rattle.std.specs.Option.{option_copied};
 ghost use Rattle.rinqebo_faults.specs.TomlLines.{first_note, from_one, line_at, on_one_line, range_from, start_of, with_line};
 
@@ -40,11 +41,18 @@ fn from_one(count: usize) -> u64
     (count as u64).saturating_add(1)
 }
 
+/// The line of a text, from 0.
+fn line_of(text: &str, line: usize) -> Option<&str>
+    ensures { option_copied result ≡ slice_get (lines text.now) line }
+{
+    text.lines().nth(line)
+}
+
 /// The line of a text, from 0, that is at fault.
 pub fn line_at(text: Option<&str>, line: usize) -> Option<&str>
     ensures { option_copied result ≡ line_at (option_copied text.entry) line }
 {
-    text?.lines().nth(line)
+    line_of(text?, line)
 }
 
 /// The range of some characters of a line from a position on.

@@ -61,8 +61,9 @@ pub fn is_among(words: &[&str], word: &str) -> bool
 pub fn is_number(text: &str) -> bool
     ensures { result ≡ is_number text.now }
 {
-    for c in text.chars() {
-        if !c.is_ascii_digit() {
+    let bytes = text.as_bytes();
+    for byte in bytes {
+        if !byte.is_ascii_digit() {
             return false;
         }
     }
