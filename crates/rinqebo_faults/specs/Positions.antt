@@ -1,6 +1,5 @@
 -- Positions in texts, and the parts of refused texts, as reports have them.
-use Rattle.std.specs.Prelude.{◌≡◌, ℕ, ◌+◌, ◌==◌, nat_lt, min, List, [], ◌∷◌, count_by, fold, slice_get, take, Some, string_bytes, if◌then◌else◌}
-use Rattle.std.specs.Char.{len_utf8}
+use Rattle.std.specs.Prelude.{◌≡◌, ℕ, ◌+◌, ◌==◌, nat_le, nat_lt, min, Bool, ◌||◌, List, count_by, fold, slice_get, take, Some, string_bytes, if◌then◌else◌}
 use Rattle.std.specs.Str.{chars}
 use Rattle.nextest_places.specs.Spans.Offsets.{AreOffsets}
 use Rattle.rinqebo_report.specs.declared.finding.CharSpan.{CharSpan}
@@ -9,14 +8,13 @@ use Rattle.rinqebo_report.specs.declared.origin.Position.{Position}
 use Rattle.rinqebo_report.specs.declared.origin.Range.{Range}
 use Rattle.rinqebo_faults.specs.TomlLines.{greatest}
 
--- the bytes at which some characters start that are behind a byte
-abbrev pub starts_from : ℕ → List ℕ → List ℕ
-starts_from at [] = []
-starts_from at (c ∷ cs) = at ∷ starts_from (at + len_utf8 c) cs
+-- a byte is the first one of a character
+abbrev pub starts_character : ℕ → Bool
+starts_character b = nat_lt b 128 || nat_le 192 b
 
 -- how many characters of a text start before a byte
 unfoldable pub characters_before : List ℕ → ℕ → ℕ
-characters_before text byte = count_by (λ at. nat_lt at byte) (starts_from 0 (chars text))
+characters_before text byte = count_by starts_character (take byte text)
 
 -- the characters of a text between two bytes
 abbrev pub char_span : List ℕ → (start end : ℕ) → CharSpan
