@@ -2,7 +2,7 @@
 ghost use Rattle.std.specs.Prelude.{◌≡◌, IfOk, string_bytes, ◌++◌, Some, map};
 ghost use Rattle.rinqebo_faults.specs.Repairs.{naming_mark};
 ghost use Rattle.nextest_places.specs.Spans.Paths.{path_step};
-ghost use Rattle.rinqebo_faults.specs.Namings.{earlier, first_naming, naming_path, naming_steps};
+ghost use Rattle.rinqebo_faults.specs.Namings.{earlier, first_naming, naming_of, naming_path, naming_steps};
 
 use crate::given::profiles_of;
 use crate::paths::profile_path;
@@ -165,6 +165,15 @@ impl Namings {
         Ok(())
     }
 
+    /// The naming of a name at a key.
+    fn naming_of(&self, profile: &str, key: &str, name: &str) -> Result<Option<Naming>, AllocError>
+        ensures { IfOk result (λ naming. naming
+            ≡ naming_of self.now profile.now key.now name.now) }
+    {
+        let mark = naming_mark(self.alloc, profile, key, name)?;
+        Ok(self.firsts.get(mark.as_str()).copied())
+    }
+
     /// The first rule of a profile that has a name at one of some keys.
     fn first(&self, profile: &str, keys: &[&str], name: &str) -> Result<Option<Naming>, AllocError>
         ensures { IfOk result (λ first. first
@@ -172,8 +181,8 @@ impl Namings {
     {
         let mut first = None;
         for key in keys {
-            let mark = naming_mark(self.alloc, profile, *key, name)?;
-            first = earlier(first, self.firsts.get(mark.as_str()).copied());
+            let naming = self.naming_of(profile, *key, name)?;
+            first = earlier(first, naming);
         }
         Ok(first)
     }

@@ -7,7 +7,7 @@ use Rattle.rinqebo_faults.proofs.paths.parted.Goals as goal
 
 pub returns : goal.returns
 returns c =
-    let whole = YieldsList-end (YieldsList-from_str_split 46 c.args.text.now (lit< tt) c.split.ensures.text
-    c.split.ensures.has_more c.split.ensures.pattern) c.loop-part.yielded _ c.loop-part.yielded_by _ _
+    let whole = YieldsList-end (YieldsList-from_str_split 46 c.args.text.now (lit< tt) c.split-part-items.ensures.text
+    c.split-part-items.ensures.has_more c.split-part-items.ensures.pattern) c.loop-part.yielded _ c.loop-part.yielded_by _ _
     c.in-None.is c.next.ensures.steps in
     c.loop-part.invariant ∙ ap (map paths.key) whole.0
