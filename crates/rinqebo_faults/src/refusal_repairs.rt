@@ -244,7 +244,15 @@ fn leave_out_of_rule(
             let default_filter = default_filter_parse_error.is_some();
             replace_if(alloc, edits, place, rule, "platform", PLATFORM, platform)?;
             replace_if(alloc, edits, place, rule, "filter", FILTER, filter)?;
-            replace_if(alloc, edits, place, rule, "default-filter", FILTER, default_filter)
+            replace_if(
+                alloc,
+                edits,
+                place,
+                rule,
+                "default-filter",
+                FILTER,
+                default_filter,
+            )
         }
     }
 }

@@ -1,5 +1,5 @@
 //! What tables and values are called, and the keys that tables have.
-ghost use Rattle.std.specs.Prelude.{◌≡◌, ◌++◌, None, IfOk, map, option_map, string_bytes, if◌then◌else◌};
+ghost use Rattle.std.specs.Prelude.{◌≡◌, ◌-◌, ◌++◌, None, IfOk, length, map, option_map, string_bytes, take, if◌then◌else◌};
 ghost use Rattle.std.specs.Option.{option_copied};
 ghost use Rattle.nextest_shape.specs.Keys.{keys_at};
 ghost use Rattle.nextest_shape.specs.View.{shape_view};
@@ -275,16 +275,31 @@ pub fn knows(alloc: Global, path: &[Step<'_>], key: &str) -> Result<bool, AllocE
     Ok(is_among(&known, key))
 }
 
+/// The key that ends a path, if the path ends with one.
+pub fn last_key<'p>(path: &[Step<'p>]) -> Option<&'p str>
+    ensures { option_copied result ≡ key_at path.now (length path.now - 1) }
+{
+    key_at(path, path.len().saturating_sub(1))
+}
+
+/// The path without its last step.
+pub fn without_last<'s, 'p>(path: &'s [Step<'p>]) -> &'s [Step<'p>]
+    ensures { result.now ≡ take (length path.entry.now - 1) path.entry.now }
+{
+    match path.split_last() {
+        Some((_last, table)) => table,
+        None => path,
+    }
+}
+
 /// What is wrong with a key that its table does not know.
-#[tactic(auto, unfolding(crate::specs::Tables::unknown_key_text, crate::specs::Tables::key_at))]
+#[tactic(auto, unfolding(crate::specs::Tables::unknown_key_text))]
 pub fn unknown_key_text(alloc: Global, path: &[Step<'_>]) -> Result<String, AllocError>
     ensures { IfOk result (λ text. string_bytes text ≡ unknown_key_text path.now) }
 {
-    match path.split_last() {
-        Some((Step::Key(key), table)) => {
-            let table = called(alloc, table)?;
-            format!(in alloc; "`{key}` is not a key of {table}")
-        }
-        _ => String::from_str(alloc, "this key is not known"),
-    }
+    let Some(key) = last_key(path) else {
+        return String::from_str(alloc, "this key is not known");
+    };
+    let table = called(alloc, without_last(path))?;
+    format!(in alloc; "`{key}` is not a key of {table}")
 }

@@ -11,7 +11,7 @@ use crate::hints::{name_by_front, near_name};
 use crate::paths::path_with;
 use crate::shapes::shape_at;
 use crate::spellings::are_tables;
-use crate::tables::{has_key, key_at, keys_at, known_keys, knows};
+use crate::tables::{has_key, key_at, keys_at, known_keys, knows, last_key, without_last};
 use crate::words::is_among;
 use nextest_places::Step;
 use nextest_shape::{Shape, file_shape};
@@ -237,7 +237,6 @@ fn key_help(
 }
 
 /// What to do about a key that its table does not know, and whether it is that a near one is meant.
-#[tactic(auto, unfolding(crate::specs::Tables::key_at))]
 pub fn unknown_key_help(
     alloc: Global,
     path: &[Step<'_>],
@@ -245,8 +244,8 @@ pub fn unknown_key_help(
     ensures { IfOk result (λ help. IsUnknownKeyHelp path.now (option_map string_bytes help.0)
         help.1) }
 {
-    match path.split_last() {
-        Some((Step::Key(key), table)) => key_help(alloc, table, *key),
-        _ => Ok((None, HelpPlace::Below)),
+    match last_key(path) {
+        Some(key) => key_help(alloc, without_last(path), key),
+        None => Ok((None, HelpPlace::Below)),
     }
 }

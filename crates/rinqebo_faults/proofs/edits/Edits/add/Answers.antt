@@ -14,7 +14,7 @@ returns-in_ok-insert c =
     let added = c.args.self.now.added in
     let mark = mark_of c.args.place (map path_step c.args.path.now) in
     let is : string_bytes c.in_ok-entries.entries
-        ≡ entries_with c.args.entry.now (option_map string_bytes (get_by_text added mark)) =
+    ≡ entries_with c.args.entry.now (option_map string_bytes (get_by_text added mark)) =
     c.in_ok-entries.ensures
     ∙ ap (entries_with c.args.entry.now)
     (c.additions-earlier.ensures
@@ -24,5 +24,5 @@ returns-in_ok-insert c =
     c.in_ok-mark.ensures c.in_ok-insert.ensures.updates in
     λ i. record (edits_view c.args.self.now) {
       added = λ other. (each other
-      ∙ ap (λ entries. cond (bytes_eq mark other) (Some entries) (option_map string_bytes (get_by_text added other))) is) i;
+          ∙ ap (λ entries. cond (bytes_eq mark other) (Some entries) (option_map string_bytes (get_by_text added other))) is) i;
     }
