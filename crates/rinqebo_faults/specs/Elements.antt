@@ -37,7 +37,7 @@ out_of_range name (Some (Node.text given)) = name ++ (codes " is " ++ backquoted
 out_of_range name _ = name ++ codes " is out of range"
 
 -- a value is this text
-abbrev pub is_text : Option Node → List ℕ → Bool
+unfoldable pub is_text : Option Node → List ℕ → Bool
 is_text (Some (Node.text own)) given = bytes_eq own given
 is_text _ given = false
 

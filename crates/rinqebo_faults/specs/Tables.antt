@@ -1,5 +1,5 @@
 -- What tables and values are called, and the keys that tables have.
-use Rattle.std.specs.Prelude.{◌≡◌, ℕ, ◌-◌, ◌==◌, Bool, false, not, ◌&&◌, ◌||◌, List, [], ◌∷◌, ◌++◌, codes, filter, length, map, slice_get, take, Option, None, Some, MatchOption, All, ◌<◌, if◌then◌else◌}
+use Rattle.std.specs.Prelude.{◌≡◌, ℕ, ◌-◌, ◌==◌, Bool, false, not, ◌&&◌, ◌||◌, List, [], ◌∷◌, ◌++◌, codes, filter, length, map, slice_get, take, Option, None, Some, MatchOption, option_map, All, ◌<◌, if◌then◌else◌}
 use Rattle.std.specs.Borrow.{Bor}
 use Rattle.std.specs.Option.{option_and_then}
 use Rattle.std.specs.Str.{bytes_eq}
@@ -8,7 +8,7 @@ use Rattle.nextest_places.specs.declared.step.Step.TheVariants as steps
 use Rattle.nextest_shape.specs.FileForm.{file_form}
 use Rattle.nextest_shape.specs.Keys.{keys_at}
 use Rattle.nextest_tree.specs.Node.{Node, Entries, keys}
-use Rattle.nextest_tree.specs.Schema.{is_one_of}
+use Rattle.nextest_tree.specs.Schema.{first, is_one_of}
 use Rattle.rinqebo_report.specs.Hints.{distance, reach, IsNearest}
 use Rattle.rinqebo_faults.specs.Shapes.{key_of}
 use Rattle.rinqebo_faults.specs.Words.{backquoted, quoted}
@@ -141,11 +141,10 @@ unfoldable pub unknown_key_text : List Step → List ℕ
 unknown_key_text path =
     unknown_key (key_at path (length path - 1)) (take (length path - 1) path)
 
--- how a script is written that is meant by the first key of a table of its kind
-abbrev pub script_line : List ℕ → List (List ℕ) → Option (List ℕ)
-script_line kind [] = None
-script_line kind (key ∷ keys) =
-    Some (codes "write `[scripts." ++ (kind ++ (codes "." ++ (key ++ codes "]`"))))
+-- how a script of a kind is written that is meant by a key
+abbrev pub script_line : (kind key : List ℕ) → List ℕ
+script_line kind key =
+    codes "write `[scripts." ++ (kind ++ (codes "." ++ (key ++ codes "]`")))
 
 -- the keys of a table; nothing else has some
 abbrev pub member_keys : Option Node → List (List ℕ)
@@ -163,4 +162,5 @@ is_script_kind path =
 unfoldable pub script_header : List Step → Option Node → Option (List ℕ)
 script_header path node =
     if is_script_kind path
-    then option_and_then (λ kind. script_line kind (member_keys node)) (key_at path 1) else None
+    then option_and_then (λ kind. option_map (script_line kind) (first (member_keys node)))
+    (key_at path 1) else None

@@ -2,7 +2,7 @@
 ghost use Rattle.std.specs.Prelude.{◌≡◌, Some, IfOk, map, option_map, string_bytes};
 ghost use Rattle.std.specs.Option.{option_copied};
 ghost use Rattle.nextest_tree.specs.View.{nodes_view, tree_view};
-ghost use Rattle.rinqebo_faults.specs.Elements.{bad_text, element_notes, is_text, lack_text, out_of_range, refused_notes, wanted, wanted_text, wrong_element, wrong_kind, wrong_length, IsAdvice, IsTextAdvice, spelled};
+ghost use Rattle.rinqebo_faults.specs.Elements.{bad_text, element_notes, is_text, lack_text, out_of_range, refused_notes, text_there, wanted, wanted_text, wrong_element, wrong_kind, wrong_length, IsAdvice, IsTextAdvice, spelled};
 ghost use Rattle.rinqebo_report.specs.declared.finding.HelpPlace.{HelpPlace};
 ghost use Rattle.rinqebo_faults.specs.UnknownKeys.{IsUnknownKeyHelp};
 
@@ -61,6 +61,7 @@ fn out_of_range(alloc: Global, name: &str, given: Option<&Tree>) -> Result<Strin
 }
 
 /// Whether the value at a path is a text.
+#[tactic(auto, unfolding(crate::specs::Elements::is_text))]
 pub fn is_text(found: Option<&Tree>, given: &str) -> bool
     ensures { result ≡ is_text (option_map (λ tree. tree_view tree.now) found.entry) given.now }
 {
@@ -68,6 +69,16 @@ pub fn is_text(found: Option<&Tree>, given: &str) -> bool
         Some(Tree::Text(text)) => text.as_str() == given,
         _ => false,
     }
+}
+
+/// The name of a value, and the text that it is.
+fn text_there(alloc: Global, name: &str, given: &str) -> Result<String, AllocError>
+    ensures { IfOk result (λ text. string_bytes text ≡ text_there name.now given.now) }
+{
+    if given.is_empty() {
+        return format!(in alloc; "{name} is empty");
+    }
+    format!(in alloc; "{name} is `{given}`")
 }
 
 /// What is wrong with a text that is not taken: the text, or the name that it is.
@@ -81,13 +92,10 @@ fn bad_text(
     ensures { IfOk result (λ text. string_bytes text
         ≡ bad_text name.now given.now (option_map (λ tree. tree_view tree.now) found.entry)) }
 {
-    if !is_text(found, given) {
-        return format!(in alloc; "`{given}` is not a valid name here");
+    if is_text(found, given) {
+        return text_there(alloc, name, given);
     }
-    if given.is_empty() {
-        return format!(in alloc; "{name} is empty");
-    }
-    format!(in alloc; "{name} is `{given}`")
+    format!(in alloc; "`{given}` is not a valid name here")
 }
 
 /// What is wrong with the value at a path, if there is one.

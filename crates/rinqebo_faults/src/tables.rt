@@ -1,11 +1,11 @@
 //! What tables and values are called, and the keys that tables have.
-ghost use Rattle.std.specs.Prelude.{◌≡◌, ◌-◌, ◌++◌, None, IfOk, length, map, option_map, string_bytes, take, if◌then◌else◌};
+ghost use Rattle.std.specs.Prelude.{◌≡◌, ◌-◌, ◌++◌, None, IfOk, filter, length, map, not, option_map, string_bytes, take, if◌then◌else◌};
 ghost use Rattle.std.specs.Option.{option_copied};
 ghost use Rattle.nextest_shape.specs.Keys.{keys_at};
 ghost use Rattle.nextest_shape.specs.View.{shape_view};
-ghost use Rattle.nextest_tree.specs.Node.{as_table};
-ghost use Rattle.nextest_tree.specs.Schema.{is_one_of};
-ghost use Rattle.nextest_tree.specs.View.{tree_view};
+ghost use Rattle.nextest_tree.specs.Node.{as_table, keys};
+ghost use Rattle.nextest_tree.specs.Schema.{first, is_one_of};
+ghost use Rattle.nextest_tree.specs.View.{entries_view, tree_view};
 ghost use Rattle.rinqebo_faults.specs.Tables.{called, called_by_key, has_key, is_script_kind, IsStray, key_at, keys_note, known_keys, known_note, name_in_profile, name_in_scripts, name_in_section, part_text, script_header, table_name, unknown_key_text};
 
 use crate::words::{is_among, quoted};
@@ -14,6 +14,7 @@ use nextest_shape::{Shape, file_shape, keys_of};
 use nextest_tree::Tree;
 use rinqebo_report::nearest_name;
 use std::alloc::{AllocError, Global};
+use std::collections::BTreeMap;
 
 /// The key of the step at a place of a path, if it is one to a key.
 #[tactic(auto, unfolding(crate::specs::Tables::key_at))]
@@ -184,6 +185,25 @@ pub fn keys_note(alloc: Global, path: &[Step<'_>]) -> Result<Option<String>, All
     Ok(Some(known_note(alloc, table.as_str(), &keys)?))
 }
 
+/// The keys of a table that are not among those which it knows.
+fn strays_of<'t>(
+    alloc: Global,
+    known: &[&str],
+    members: &'t BTreeMap<String, Tree>,
+) -> Result<Vec<&'t str>, AllocError>
+    ensures { IfOk result (λ strays. map (λ key. key.now) strays.items
+        ≡ filter (λ key. not (is_one_of (map (λ known. known.now) known.now) key))
+        (keys (entries_view members.entry.now.entries))) }
+{
+    let mut strays = Vec::new(alloc);
+    for key in members.keys() {
+        if !is_among(known, key.as_str()) {
+            strays.push(key.as_str())?;
+        }
+    }
+    Ok(strays)
+}
+
 /// The key of a table that it does not know, and that is nearest to a key which it lacks, if one is
 /// near.
 pub fn stray_key<'t>(
@@ -199,12 +219,7 @@ pub fn stray_key<'t>(
         return Ok(None);
     };
     let known = known_keys(alloc, path)?;
-    let mut strays = Vec::new(alloc);
-    for key in members.keys() {
-        if !is_among(&known, key.as_str()) {
-            strays.push(key.as_str())?;
-        }
-    }
+    let strays = strays_of(alloc, &known, members)?;
     nearest_name(alloc, missing, &strays)
 }
 
@@ -229,6 +244,16 @@ fn script_kind<'p>(path: &[Step<'p>]) -> Option<&'p str>
     }
 }
 
+/// The first key of a table.
+fn first_key<'t>(members: &'t BTreeMap<String, Tree>) -> Option<&'t str>
+    ensures { option_copied result ≡ first (keys (entries_view members.entry.now.entries)) }
+{
+    match members.keys().next() {
+        Some(key) => Some(key.as_str()),
+        None => None,
+    }
+}
+
 /// The header of the script that is meant by the first key of a table at `script.setup` or
 /// `script.wrapper`.
 #[tactic(auto, unfolding(crate::specs::Tables::script_header))]
@@ -246,7 +271,7 @@ pub fn script_header(
     let Some(Tree::Table(members)) = table else {
         return Ok(None);
     };
-    match members.keys().next() {
+    match first_key(members) {
         Some(key) => Ok(Some(format!(in alloc; "write `[scripts.{kind}.{key}]`")?)),
         None => Ok(None),
     }

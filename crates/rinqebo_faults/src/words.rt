@@ -1,5 +1,5 @@
 //! Lists in words.
-ghost use Rattle.std.specs.Prelude.{◌≡◌, IfOk, map, option_map, string_bytes};
+ghost use Rattle.std.specs.Prelude.{◌≡◌, ◌++◌, IfOk, OnOk, map, option_map, string_bytes};
 ghost use Rattle.std.specs.Option.{option_copied};
 ghost use Rattle.nextest_tree.specs.Schema.{is_one_of};
 ghost use Rattle.rinqebo_faults.specs.Words.{is_number, listed, mark_before, quoted};
@@ -14,6 +14,20 @@ fn mark_before(is_last: bool, last: &'static str) -> &'static str
     if is_last { last } else { ", " }
 }
 
+/// Adds an item behind others.
+fn push_item(
+    text: &mut String,
+    is_last: bool,
+    last: &'static str,
+    item: &String,
+) -> Result<(), AllocError>
+    ensures { OnOk result (string_bytes text.new
+        ≡ (string_bytes text.old ++ mark_before is_last last.now) ++ string_bytes item.now) }
+{
+    text.push_str(mark_before(is_last, last))?;
+    text.push_str(item.as_str())
+}
+
 /// Items with commas between them, and something else before the last one.
 #[tactic(auto, unfolding(crate::specs::Words::listed))]
 pub fn listed(alloc: Global, items: &[String], last: &'static str) -> Result<String, AllocError>
@@ -26,8 +40,7 @@ pub fn listed(alloc: Global, items: &[String], last: &'static str) -> Result<Str
     };
     text.push_str(first.as_str())?;
     for i in 0..rest.len() {
-        text.push_str(mark_before(i + 1 == rest.len(), last))?;
-        text.push_str(rest[i].as_str())?;
+        push_item(&mut text, i + 1 == rest.len(), last, &rest[i])?;
     }
     Ok(text)
 }

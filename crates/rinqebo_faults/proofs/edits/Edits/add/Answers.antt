@@ -8,9 +8,9 @@ use Rattle.rinqebo_faults.specs.Edits.{edits_view, entries_with, mark_of, with_e
 use Rattle.rinqebo_faults.proofs.MarkSets.{one_set}
 use Rattle.rinqebo_faults.proofs.edits.Edits.add.Goals as goal
 
-pub returns-in_ok-insert : goal.returns-in_ok-insert
+pub returns : goal.returns
 unfolding edits_view with_edit
-returns-in_ok-insert c =
+returns c =
     let added = c.args.self.now.added in
     let mark = mark_of c.args.place (map path_step c.args.path.now) in
     let is : string_bytes c.in_ok-entries.entries

@@ -6,9 +6,9 @@ use Rattle.rinqebo_faults.specs.Edits.{edits_view, with_edit, mark_of}
 use Rattle.rinqebo_faults.proofs.MarkSets.{mark_more, one_more}
 use Rattle.rinqebo_faults.proofs.edits.Edits.remove_key.Goals as goal
 
-pub returns-in_ok-insert : goal.returns-in_ok-insert
+pub returns : goal.returns
 unfolding edits_view with_edit
-returns-in_ok-insert c =
+returns c =
     let is : string_bytes c.in_ok-mark.mark
     ≡ mark_of c.args.place (map path_step c.args.table.now ++ paths.key c.args.key.now ∷ [])
     = cc (mark_more c.args.place (map path_step c.args.table.now) (paths.key c.args.key.now)) in
