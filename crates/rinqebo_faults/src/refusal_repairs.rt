@@ -64,9 +64,14 @@ pub fn leave_out_foreign_groups(
 }
 
 /// Leaves out a script of a kind.
-fn leave_out_kind(edits: &mut Edits, place: usize, kind: &str, name: &str) -> Result<(), AllocError>
+fn leave_out_kind<'n>(
+    edits: &mut Edits,
+    place: usize,
+    kind: &'n str,
+    name: &'n str,
+) -> Result<(), AllocError>
     ensures { OnOk result (edits_view edits.new ≡ with_edits (edits_view edits.old)
-        (remove (mark_of place (kind_path kind.now name.now)) ∷ [])) }
+        (remove (mark_of place (kind_path kind.entry.now name.entry.now)) ∷ [])) }
 {
     let path = [Step::Key("scripts"), Step::Key(kind), Step::Key(name)];
     edits.remove(place, &path)

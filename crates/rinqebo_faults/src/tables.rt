@@ -311,10 +311,8 @@ pub fn last_key<'p>(path: &[Step<'p>]) -> Option<&'p str>
 pub fn without_last<'s, 'p>(path: &'s [Step<'p>]) -> &'s [Step<'p>]
     ensures { result.now ≡ take (length path.entry.now - 1) path.entry.now }
 {
-    match path.split_last() {
-        Some((_last, table)) => table,
-        None => path,
-    }
+    let end = path.len().saturating_sub(1);
+    &path[..end]
 }
 
 /// What is wrong with a key that its table does not know.
