@@ -9,10 +9,12 @@ use Rattle.std.proofs.lemmas.Str.Pattern.{ends_text}
 
 -- one of two texts, by a test
 picked : (b : Bool) (yes no : List ℕ) → b ≡ true → yes ≡ (if b then yes else no)
-picked b yes no e = rw e refl
+picked true yes no e = refl
+picked false yes no e = absurd (cc)
 
 left : (b : Bool) (yes no : List ℕ) → b ≡ false → no ≡ (if b then yes else no)
-left b yes no e = rw e refl
+left true yes no e = absurd (cc)
+left false yes no e = refl
 
 -- the text without the end, or the text
 pub without_is : (end text : List ℕ) (found : Option (Bor (List ℕ))) (d : Bor (List ℕ)) → d.now ≡ text

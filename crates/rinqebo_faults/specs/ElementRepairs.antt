@@ -110,12 +110,18 @@ is_condition path =
 unfoldable pub is_in_rules : List Step → Bool
 is_in_rules path = has_key path 2 (codes "overrides") || has_key path 2 (codes "scripts")
 
+-- a value of the rules of a profile
+unfoldable pub rules_edits : ℕ → List Step → List Edit
+rules_edits place path =
+    if length path == 4 then replacement place path sound_rule ∷ []
+    else if is_condition path then needed_edit place path 5 ∷ []
+    else needed_edit place path (length path) ∷ []
+
 -- a value of a profile
 unfoldable pub profile_edits : ℕ → List Step → List Edit
 profile_edits place path =
     if length path == 2 then replacement place path no_settings ∷ []
-    else if is_in_rules path && length path == 4 then replacement place path sound_rule ∷ []
-    else if is_in_rules path && is_condition path then needed_edit place path 5 ∷ []
+    else if is_in_rules path then rules_edits place path
     else needed_edit place path (length path) ∷ []
 
 -- a value that is refused is left out, or a sound one is read in its place

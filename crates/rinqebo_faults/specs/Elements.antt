@@ -51,7 +51,7 @@ text_there name given =
 unfoldable pub bad_text : List ℕ → List ℕ → Option Node → List ℕ
 bad_text name given found =
     if is_text found given then text_there name given
-    else backquoted given ++ codes " is not a valid name here"
+    else codes "`" ++ (given ++ codes "` is not a valid name here")
 
 -- what is wrong with the value at a path, if there is one
 abbrev pub wrong_element : Option Node → ElementCause → List Step → List ℕ
@@ -107,7 +107,7 @@ lack_alone name key =
 abbrev pub lack_text : List ℕ → List Step → Option (List ℕ) → List ℕ
 lack_text key table None = lack_alone (called table) key
 lack_text key table (Some stray) =
-    called table ++ (codes " needs " ++ (backquoted key ++ (codes ", not " ++ backquoted stray)))
+    called table ++ (codes " needs `" ++ (key ++ (codes "`, not `" ++ (stray ++ codes "`"))))
 
 -- how a value that there is is meant to be spelled by a form, where that is plain
 abbrev pub spelled_by : Option Node → List Step → Form → Option (List ℕ)

@@ -6,7 +6,6 @@ use Rattle.rinqebo_faults.specs.declared.regex_words.Flaw.{Flaw}
 use Rattle.rinqebo_faults.specs.declared.regex_words.Flaw.TheVariants as flaws
 use Rattle.rinqebo_faults.specs.declared.regex_words.Scan.{Scan}
 use Rattle.rinqebo_faults.specs.TomlLines.{greatest}
-use Rattle.rinqebo_faults.specs.Words.{backquoted}
 
 -- nothing is read yet
 abbrev pub start : Scan
@@ -70,13 +69,13 @@ flaw_of pattern = flaw_from (chars pattern) start
 
 -- what is wrong with a regular expression that has a flaw, in words
 abbrev pub flaw_message : List ℕ → Option Flaw → List ℕ
-flaw_message pattern None = backquoted pattern ++ codes " is not a regular expression"
+flaw_message pattern None = codes "`" ++ (pattern ++ codes "` is not a regular expression")
 flaw_message pattern (Some flaws.OpenGroup) =
-    backquoted pattern ++ codes " has a group that is not closed"
+    codes "`" ++ (pattern ++ codes "` has a group that is not closed")
 flaw_message pattern (Some flaws.StrayClose) =
-    backquoted pattern ++ codes " has a `)` that closes no group"
+    codes "`" ++ (pattern ++ codes "` has a `)` that closes no group")
 flaw_message pattern (Some flaws.OpenClass) =
-    backquoted pattern ++ codes " has a class that is not closed"
+    codes "`" ++ (pattern ++ codes "` has a class that is not closed")
 flaw_message pattern (Some (flaws.Range from to)) =
     codes "the range `" ++ (encode_utf8 from ++ (codes "-" ++ (encode_utf8 to
     ++ codes "` ends before it starts")))

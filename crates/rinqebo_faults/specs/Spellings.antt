@@ -61,12 +61,16 @@ abbrev pub write : List ℕ → List ℕ
 write words = codes "write `" ++ (words ++ codes "`")
 
 -- the milliseconds of up to three digits behind a point
-unfoldable pub milliseconds : List ℕ → Option ℕ
-milliseconds digits =
+unfoldable pub scaled : List ℕ → Option ℕ
+scaled digits =
     if length digits == 1 then Some (digits_value 10 digits * 100)
     else if length digits == 2 then Some (digits_value 10 digits * 10)
     else if length digits == 3 then Some (digits_value 10 digits)
     else None
+
+-- the milliseconds of a text behind a point that has up to three digits alone
+unfoldable pub milliseconds : List ℕ → Option ℕ
+milliseconds text = if is_number text then scaled text else None
 
 -- a text without the letter `s` at its end
 unfoldable pub without_unit : List ℕ → List ℕ
@@ -77,13 +81,12 @@ without_unit text =
 abbrev pub seconds_and : List ℕ → Option ℕ → Option (List ℕ)
 seconds_and seconds None = None
 seconds_and seconds (Some rest) =
-    Some (write (codes "\"" ++ (seconds ++ (codes "s " ++ (decimal rest ++ codes "ms\"")))))
+    Some (codes "write `\"" ++ (seconds ++ (codes "s " ++ (decimal rest ++ codes "ms\"`"))))
 
 -- seconds with digits behind a point, as a duration has them
 unfoldable pub seconds_of : (seconds fraction : List ℕ) → Option (List ℕ)
 seconds_of seconds fraction =
-    if is_number seconds && is_number fraction then seconds_and seconds (milliseconds fraction)
-    else None
+    if is_number seconds then seconds_and seconds (milliseconds fraction) else None
 
 unfoldable pub parted_seconds : List ℕ → Option (List ℕ)
 parted_seconds text =
@@ -95,7 +98,7 @@ parted_seconds text =
 -- how a text is spelled where a duration is wanted
 unfoldable pub duration_of : List ℕ → Option (List ℕ)
 duration_of text =
-    if is_number text then Some (write (codes "\"" ++ (text ++ codes "s\"")))
+    if is_number text then Some (codes "write `\"" ++ (text ++ codes "s\"`"))
     else parted_seconds text
 
 -- a text is one of the booleans
@@ -105,7 +108,7 @@ is_truth text = bytes_eq text (codes "true") || bytes_eq text (codes "false")
 -- how a text is spelled that a form refuses
 unfoldable pub spelled_text : Form → List ℕ → Option (List ℕ)
 spelled_text form text =
-    if takes (is_of wanted.Texts) form then Some (write (codes "[\"" ++ (text ++ codes "\"]")))
+    if takes (is_of wanted.Texts) form then Some (codes "write `[\"" ++ (text ++ codes "\"]`"))
     else if takes (is_of wanted.Integer) form && is_number text then Some (write text)
     else if takes (is_of wanted.Boolean) form && is_truth text then Some (write text)
     else if takes_duration form then duration_of text
@@ -115,12 +118,12 @@ spelled_text form text =
 unfoldable pub spelled_number : Form → ℤ → Option (List ℕ)
 spelled_number form number =
     if takes_duration form && not (int_lt number (pos 0))
-    then Some (write (codes "\"" ++ (signed_decimal number ++ codes "s\""))) else None
+    then Some (codes "write `\"" ++ (signed_decimal number ++ codes "s\"`")) else None
 
 -- how a table at a header is spelled that a form refuses
 unfoldable pub spelled_table : Form → List ℕ → Option (List ℕ)
 spelled_table form header =
-    if takes (is_of wanted.Tables) form then Some (write (codes "[[" ++ (header ++ codes "]]"))) else None
+    if takes (is_of wanted.Tables) form then Some (codes "write `[[" ++ (header ++ codes "]]`")) else None
 
 -- how a value at a header is spelled that a form refuses
 abbrev pub spelling : Form → Node → (header : List ℕ) → Option (List ℕ)

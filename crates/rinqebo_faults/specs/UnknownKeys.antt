@@ -14,7 +14,6 @@ use Rattle.rinqebo_faults.specs.Hints.{hint_text, IsNear, name_by_front, texts}
 use Rattle.rinqebo_faults.specs.Shapes.{form_at, key_of}
 use Rattle.rinqebo_faults.specs.Spellings.{are_tables}
 use Rattle.rinqebo_faults.specs.Tables.{has_key, key_at, known_keys, part_text}
-use Rattle.rinqebo_faults.specs.Words.{backquoted}
 
 -- the keys that the table knows to which these parts of a path lead
 abbrev pub keys_below : List (List ℕ) → List (List ℕ)
@@ -32,23 +31,23 @@ profile_keys profile = codes "profile" ∷ profile ∷ []
 unfoldable pub in_overrides : (profile key : List ℕ) → Option (List ℕ)
 in_overrides profile key =
     if is_one_of (keys_below (override_parts profile)) key
-    then Some (backquoted key ++ (codes " is a setting of overrides: write it in `[["
-    ++ (header_of (profile_keys profile) ++ codes ".overrides]]`")))
+    then Some (codes "`" ++ (key ++ (codes "` is a setting of overrides: write it in `[["
+    ++ (header_of (profile_keys profile) ++ codes ".overrides]]`"))))
     else None
 
 -- where a key belongs that is one of profiles
 unfoldable pub in_profile : (profile key : List ℕ) → Option (List ℕ)
 in_profile profile key =
     if is_one_of (keys_below (profile_keys profile)) key
-    then Some (backquoted key ++ (codes " is a setting of profiles: write it in `["
-    ++ (header_of (profile_keys profile) ++ codes "]`")))
+    then Some (codes "`" ++ (key ++ (codes "` is a setting of profiles: write it in `["
+    ++ (header_of (profile_keys profile) ++ codes "]`"))))
     else None
 
 -- where a key belongs that is one of a table at a part of another one
 abbrev pub part_help : List Step → (key part : List ℕ) → List ℕ
 part_help table key part =
-    backquoted key ++ (codes " is a key of " ++ (backquoted part ++ (codes ": write `"
-    ++ (header_of (filter_map key_of table ++ part ∷ []) ++ (codes "." ++ (key ++ codes "`"))))))
+    codes "`" ++ (key ++ (codes "` is a key of `" ++ (part ++ (codes "`: write `"
+    ++ (header_of (filter_map key_of table ++ part ∷ []) ++ (codes "." ++ (key ++ codes "`")))))))
 
 -- a part of a table knows a key, in a file of a form
 unfoldable pub part_knows : Form → List Step → (key part : List ℕ) → Bool

@@ -2,7 +2,7 @@
 ghost use Rattle.std.specs.Prelude.{◌≡◌, ◌-◌, ◌<◌, ◌^◌, ◌&&◌, [], ◌∷◌, OnOk, codes, is_some, length};
 ghost use Rattle.std.specs.Option.{option_and_then, option_copied};
 ghost use Rattle.rinqebo_faults.specs.Edits.{edits_view, with_edits};
-ghost use Rattle.rinqebo_faults.specs.ElementRepairs.{cause_edits, element_edits, ends_with_key, group_edits, is_bad_name, is_condition, is_either, is_in_rules, missing_edit, needed_edit, profile_edits, rules_note, script_edits, setting_edit, setting_steps, sound_entry, sound_value, table_edit, value_edits};
+ghost use Rattle.rinqebo_faults.specs.ElementRepairs.{cause_edits, element_edits, ends_with_key, group_edits, is_bad_name, is_condition, is_either, is_in_rules, missing_edit, needed_edit, profile_edits, rules_edits, rules_note, script_edits, setting_edit, setting_steps, sound_entry, sound_value, table_edit, value_edits};
 ghost use Rattle.rinqebo_faults.specs.Tables.{has_key, key_at};
 
 use crate::edits::Edits;
@@ -205,6 +205,21 @@ fn is_in_rules(path: &[Step<'_>]) -> bool
     has_key(path, 2, "overrides") || has_key(path, 2, "scripts")
 }
 
+/// Leaves out a value of the rules of a profile.
+#[tactic(auto, unfolding(crate::specs::ElementRepairs::rules_edits))]
+fn leave_out_of_rules(edits: &mut Edits, place: usize, path: &[Step<'_>]) -> Result<(), AllocError>
+    ensures { OnOk result (edits_view edits.new ≡ with_edits (edits_view edits.old)
+        (rules_edits place path.now)) }
+{
+    if path.len() == 4 {
+        return edits.replace(place, path, RULE);
+    }
+    if is_condition(path) {
+        return leave_out_needed(edits, place, path, 5);
+    }
+    leave_out_needed(edits, place, path, path.len())
+}
+
 /// Leaves out a value of a profile.
 #[tactic(auto, unfolding(crate::specs::ElementRepairs::profile_edits))]
 fn leave_out_of_profile(
@@ -218,11 +233,8 @@ fn leave_out_of_profile(
     if path.len() == 2 {
         return edits.replace(place, path, PROFILE);
     }
-    if is_in_rules(path) && path.len() == 4 {
-        return edits.replace(place, path, RULE);
-    }
-    if is_in_rules(path) && is_condition(path) {
-        return leave_out_needed(edits, place, path, 5);
+    if is_in_rules(path) {
+        return leave_out_of_rules(edits, place, path);
     }
     leave_out_needed(edits, place, path, path.len())
 }

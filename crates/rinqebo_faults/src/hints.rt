@@ -4,7 +4,7 @@ ghost use Rattle.std.specs.List.{list_any, zip};
 ghost use Rattle.std.specs.Option.{option_copied};
 ghost use Rattle.std.specs.Str.{chars, str_eq_ignore_ascii_case};
 ghost use Rattle.nextest_shape.specs.View.{shape_view, shapes_view};
-ghost use Rattle.rinqebo_faults.specs.Hints.{are_among, begins, differences, first_mistaken, is_mistaken, is_swapped, IsHint, IsHintAt, IsNear, name_by_front, own_words, texts, words_of, words_of_each};
+ghost use Rattle.rinqebo_faults.specs.Hints.{are_among, begins, differences, first_mistaken, is_mistaken, is_swapped, IsHint, IsHintAt, IsMeant, IsNear, name_by_front, own_words, texts, words_of, words_of_each};
 
 use crate::shapes::shape_at;
 use nextest_places::Step;
@@ -127,15 +127,25 @@ pub fn name_by_front<'k>(name: &str, known: &[&'k str]) -> Option<&'k str>
     None
 }
 
+/// The known name that is meant by a name: one that is near, or else one with the same front.
+fn meant_name<'k>(
+    alloc: Global,
+    name: &str,
+    known: &[&'k str],
+) -> Result<Option<&'k str>, AllocError>
+    ensures { IfOk result (λ meant. IsMeant name.now known.now (option_copied meant)) }
+{
+    match near_name(alloc, name, known)? {
+        Some(near) => Ok(Some(near)),
+        None => Ok(name_by_front(name, known)),
+    }
+}
+
 /// The hint that one of some known names is meant, if one is near or has the same front.
 pub fn near_hint(alloc: Global, name: &str, known: &[&str]) -> Result<Option<String>, AllocError>
     ensures { IfOk result (λ hint. IsHint name.now known.now (option_map string_bytes hint)) }
 {
-    let near = match near_name(alloc, name, known)? {
-        Some(near) => Some(near),
-        None => name_by_front(name, known),
-    };
-    match near {
+    match meant_name(alloc, name, known)? {
         Some(near) => Ok(Some(format!(in alloc; "did you mean `{near}`?")?)),
         None => Ok(None),
     }

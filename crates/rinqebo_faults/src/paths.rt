@@ -139,14 +139,23 @@ pub fn script_path<'p>(
     }
 }
 
+/// The parts of a text between its dots.
+fn parts_of<'s>(alloc: Global, text: &'s str) -> Result<Vec<&'s str>, AllocError>
+    ensures { IfOk result (λ parts. map (λ part. part.now) parts.items
+        ≡ slice_split (λ b. b == 46) text.entry.now) }
+{
+    text.split('.').collect(alloc)
+}
+
 /// The keys of a text that no file has: parted at its dots.
 pub fn parted<'s>(alloc: Global, text: &'s str) -> Result<Vec<Step<'s>>, AllocError>
     ensures { IfOk result (λ steps. map path_step steps.items
         ≡ map paths.key (slice_split (λ b. b == 46) text.entry.now)) }
 {
+    let parts = parts_of(alloc, text)?;
     let mut steps = Vec::new(alloc);
-    for part in text.split('.') {
-        steps.push(Step::Key(part))?;
+    for part in &parts {
+        steps.push(Step::Key(*part))?;
     }
     Ok(steps)
 }

@@ -3,7 +3,7 @@ ghost use Rattle.std.specs.Prelude.{◌≡◌, ◌<◌, ◌≤◌, IfOk, IsTrue,
 ghost use Rattle.std.specs.Str.Parse.{digits_value};
 ghost use Rattle.nextest_shape.specs.View.{shape_view, shapes_view};
 ghost use Rattle.nextest_tree.specs.View.{tree_view};
-ghost use Rattle.rinqebo_faults.specs.Spellings.{are_strings, are_tables, duration_of, has_fields, is_boolean, is_integer, is_of, is_one, is_string, is_truth, milliseconds, parted_seconds, seconds_of, spelled_number, spelled_table, spelled_text, spelling, takes, without_unit};
+ghost use Rattle.rinqebo_faults.specs.Spellings.{are_strings, are_tables, duration_of, has_fields, is_boolean, is_integer, is_of, is_one, is_string, is_truth, milliseconds, parted_seconds, scaled, seconds_of, spelled_number, spelled_table, spelled_text, spelling, takes, without_unit};
 ghost use Rattle.rinqebo_faults.specs.Words.{is_number};
 
 use crate::expected::takes_duration;
@@ -120,9 +120,9 @@ fn small_number(digits: &str) -> u64
 }
 
 /// The milliseconds of up to three digits behind a point.
-#[tactic(auto, unfolding(crate::specs::Spellings::milliseconds))]
-fn milliseconds(digits: &str) -> Option<u64>
-    ensures { IsTrue (is_number digits.now) → result ≡ milliseconds digits.now }
+#[tactic(auto, unfolding(crate::specs::Spellings::scaled))]
+fn scaled(digits: &str) -> Option<u64>
+    ensures { IsTrue (is_number digits.now) → result ≡ scaled digits.now }
 {
     match digits.len() {
         1 => Some(small_number(digits).saturating_mul(100)),
@@ -132,13 +132,24 @@ fn milliseconds(digits: &str) -> Option<u64>
     }
 }
 
+/// The milliseconds of a text behind a point that has up to three digits alone.
+#[tactic(auto, unfolding(crate::specs::Spellings::milliseconds))]
+fn milliseconds(text: &str) -> Option<u64>
+    ensures { result ≡ milliseconds text.now }
+{
+    if !is_number(text) {
+        return None;
+    }
+    scaled(text)
+}
+
 /// Seconds and milliseconds behind a point, as a duration has them.
 #[tactic(auto, unfolding(crate::specs::Spellings::seconds_of))]
 fn seconds_of(alloc: Global, seconds: &str, fraction: &str) -> Result<Option<String>, AllocError>
     ensures { IfOk result (λ text. option_map string_bytes text
         ≡ seconds_of seconds.now fraction.now) }
 {
-    if !is_number(seconds) || !is_number(fraction) {
+    if !is_number(seconds) {
         return Ok(None);
     }
     match milliseconds(fraction) {

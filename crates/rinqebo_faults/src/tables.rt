@@ -196,7 +196,7 @@ fn strays_of<'t>(
         (keys (entries_view members.entry.now.entries))) }
 {
     let mut strays = Vec::new(alloc);
-    for key in members.keys() {
+    for (key, _tree) in members.iter() {
         if !is_among(known, key.as_str()) {
             strays.push(key.as_str())?;
         }
@@ -248,8 +248,8 @@ fn script_kind<'p>(path: &[Step<'p>]) -> Option<&'p str>
 fn first_key<'t>(members: &'t BTreeMap<String, Tree>) -> Option<&'t str>
     ensures { option_copied result ≡ first (keys (entries_view members.entry.now.entries)) }
 {
-    match members.keys().next() {
-        Some(key) => Some(key.as_str()),
+    match members.iter().next() {
+        Some((key, _tree)) => Some(key.as_str()),
         None => None,
     }
 }

@@ -9,6 +9,6 @@ use Rattle.rinqebo_faults.proofs.shapes.below_one.Goals as goal
 pub returns-in-Map : goal.returns-in-Map
 returns-in-Map c =
     c.below_map.ensures
-    ∙ ap (λ v. option_and_then (name_at (fields_view c.in-Map.fields.items) (shape_view v)) (key_of c.args.step)) c.deref.ensures
+    ∙ ap (λ v. option_and_then (name_at (fields_view c.in-Map.fields.items) (shape_view v)) (key_of c.args.step)) c.deref-in-Map.ensures
     ∙ sym (ap (λ form. below_one form (key_of c.args.step))
     (ap shape_view c.in-Map.is ∙ shape_view-Map c.in-Map.names c.in-Map.fields c.in-Map.values))
