@@ -1,4 +1,3 @@
-pub mod Arrays
 pub mod FirstChars
 pub mod Listing
 pub mod MarkSets

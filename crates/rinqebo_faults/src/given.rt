@@ -57,5 +57,8 @@ pub fn kind_words(tree: &Tree) -> &'static str
 pub fn is_empty_array(items: &[Tree]) -> bool
     ensures { result ≡ is_empty_array (nodes_view items.now) }
 {
-    items.is_empty()
+    match items.split_first() {
+        Some(_) => false,
+        None => true,
+    }
 }
