@@ -1,5 +1,5 @@
 -- The first character of a text.
-use Rattle.std.proofs.Common.{◌≡◌, ◌≤◌, ℕ, List, ◌++◌, Option, None, Some, Bor, take, refl, sym, ◌∙◌, ap, subst, arith, zero-add}
+use Rattle.std.proofs.Common.{◌≡◌, ◌-◌, ◌≤◌, ℕ, List, ◌++◌, Option, None, Some, Bor, take, refl, sym, ◌∙◌, ap, subst, arith, zero-add}
 use Rattle.std.specs.Prelude.{chars, unwrap_or, slice_range}
 use Rattle.std.specs.Char.{encode_utf8, len_utf8}
 use Rattle.std.specs.Str.{IsUtf8, IsCharBoundary}
@@ -12,7 +12,8 @@ use Rattle.rinqebo_faults.specs.Worded.{first_text}
 
 cut : (c : ℕ) (rest : List ℕ) → slice_range (encode_utf8 c ++ rest) 0 (len_utf8 c) ≡ encode_utf8 c
 cut c rest =
-    ap (λ n. take n (encode_utf8 c ++ rest)) (sym (length-encode c)) ∙ take-append_seam (encode_utf8 c) rest
+    let all : len_utf8 c - 0 ≡ len_utf8 c = omega arith in
+    ap (λ n. take n (encode_utf8 c ++ rest)) (all ∙ sym (length-encode c)) ∙ take-append_seam (encode_utf8 c) rest
 
 boundary : (text rest : List ℕ) (c : ℕ) → IsUtf8 text → text ≡ encode_utf8 c ++ rest → IsCharBoundary text (len_utf8 c)
 boundary text rest c utf8 is =

@@ -8,13 +8,13 @@ use Rattle.std.proofs.lemmas.Slice.Eq.{ends_is}
 use Rattle.std.proofs.lemmas.Str.Pattern.{ends_text}
 
 -- one of two texts, by a test
-picked : (b : Bool) (yes no : List ℕ) → b ≡ true → yes ≡ (if b then yes else no)
-picked true yes no e = refl
-picked false yes no e = absurd (cc)
+picked : (b : Bool) (one other : List ℕ) → b ≡ true → one ≡ (if b then one else other)
+picked true one other e = refl
+picked false one other e = absurd (cc)
 
-left : (b : Bool) (yes no : List ℕ) → b ≡ false → no ≡ (if b then yes else no)
-left true yes no e = absurd (cc)
-left false yes no e = refl
+left : (b : Bool) (one other : List ℕ) → b ≡ false → other ≡ (if b then one else other)
+left true one other e = absurd (cc)
+left false one other e = refl
 
 -- the text without the end, or the text
 pub without_is : (end text : List ℕ) (found : Option (Bor (List ℕ))) (d : Bor (List ℕ)) → d.now ≡ text

@@ -1,5 +1,5 @@
 -- What the shape of a file wants at a path, in words.
-use Rattle.std.specs.Prelude.{ℕ, ℤ, ◌-◌, nat_lt, Bool, true, false, List, [], ◌∷◌, ◌++◌, codes, length, map, slice_get, take, Option, None, Some, if◌then◌else◌}
+use Rattle.std.specs.Prelude.{ℕ, ℤ, ◌-◌, nat_lt, Bool, true, false, List, [], ◌∷◌, ◌++◌, codes, length, map, take, Option, None, Some, if◌then◌else◌}
 use Rattle.std.specs.Fmt.{signed_decimal}
 use Rattle.std.specs.Option.{option_and_then}
 use Rattle.nextest_places.specs.declared.step.Step.{Step}
@@ -10,7 +10,8 @@ use Rattle.nextest_tree.specs.Key.{key_text}
 use Rattle.nextest_tree.specs.Schema.{is_one_of}
 use Rattle.nextest_tree.specs.declared.fault.ElementCause.{ElementCause}
 use Rattle.nextest_tree.specs.declared.fault.ElementCause.TheVariants as causes
-use Rattle.rinqebo_faults.specs.Shapes.{key_of, wanted_at}
+use Rattle.rinqebo_faults.specs.Shapes.{wanted_at}
+use Rattle.rinqebo_faults.specs.Tables.{key_at}
 use Rattle.rinqebo_faults.specs.Words.{backquoted, listed, quoted}
 
 -- an integer in its range, in words
@@ -149,5 +150,4 @@ name_below table name = option_and_then name_words (wanted_at table)
 -- file has it
 unfoldable pub expected_name : List Step → Option (List ℕ)
 expected_name path =
-    option_and_then (name_below (take (length path - 1) path))
-    (option_and_then key_of (slice_get path (length path - 1)))
+    option_and_then (name_below (take (length path - 1) path)) (key_at path (length path - 1))

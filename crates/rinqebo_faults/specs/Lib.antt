@@ -1,5 +1,4 @@
 pub mod Checks
-pub mod Edited
 pub mod Edits
 pub mod ElementRepairs
 pub mod Elements

@@ -2,7 +2,7 @@
 ghost use Rattle.std.specs.Prelude.{◌≡◌, ◌-◌, ◌<◌, ◌^◌, ◌&&◌, [], ◌∷◌, OnOk, codes, is_some, length};
 ghost use Rattle.std.specs.Option.{option_and_then, option_copied};
 ghost use Rattle.rinqebo_faults.specs.Edits.{edits_view, with_edits};
-ghost use Rattle.rinqebo_faults.specs.ElementRepairs.{cause_edits, element_edits, ends_with_key, group_edits, is_bad_name, is_condition, is_either, is_in_rules, missing_edit, needed_edit, profile_edits, rules_edits, rules_note, script_edits, setting_edit, setting_steps, sound_entry, sound_value, table_edit, value_edits};
+ghost use Rattle.rinqebo_faults.specs.ElementRepairs.{cause_edits, element_edits, ends_with_key, group_edits, is_bad_name, is_condition, is_either, is_in_rules, missing_edit, needed_edit, profile_edits, replacement, rules_edits, rules_note, script_edits, setting_edit, setting_steps, sound_entry, sound_value, table_edit, value_edits};
 ghost use Rattle.rinqebo_faults.specs.Tables.{has_key, key_at};
 
 use crate::edits::Edits;
@@ -205,6 +205,19 @@ fn is_in_rules(path: &[Step<'_>]) -> bool
     has_key(path, 2, "overrides") || has_key(path, 2, "scripts")
 }
 
+/// Reads another value in place of the one at a path.
+fn replace_with(
+    edits: &mut Edits,
+    place: usize,
+    path: &[Step<'_>],
+    text: &'static str,
+) -> Result<(), AllocError>
+    ensures { OnOk result (edits_view edits.new ≡ with_edits (edits_view edits.old)
+        (replacement place path.now text.now ∷ [])) }
+{
+    edits.replace(place, path, text)
+}
+
 /// Leaves out a value of the rules of a profile.
 #[tactic(auto, unfolding(crate::specs::ElementRepairs::rules_edits))]
 fn leave_out_of_rules(edits: &mut Edits, place: usize, path: &[Step<'_>]) -> Result<(), AllocError>
@@ -212,7 +225,7 @@ fn leave_out_of_rules(edits: &mut Edits, place: usize, path: &[Step<'_>]) -> Res
         (rules_edits place path.now)) }
 {
     if path.len() == 4 {
-        return edits.replace(place, path, RULE);
+        return replace_with(edits, place, path, RULE);
     }
     if is_condition(path) {
         return leave_out_needed(edits, place, path, 5);

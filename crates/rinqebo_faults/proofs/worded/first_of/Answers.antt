@@ -8,4 +8,4 @@ unfolding first_of
 returns-in-Some c =
     ap (λ r. r.now) c.unwrap_or.ensures
     ∙ first_is c.args.text.now c.chars.result c.next.new.self c.in-Some.c c.len_utf8.result c.get.result _
-    c.utf8.text c.chars.ensures.rest c.in-Some.ensures.steps c.len_utf8.ensures c.get.ensures.cases
+    c.utf8.text c.chars.ensures.rest c.in-Some.ensures.steps c.len_utf8.ensures.value c.get.ensures.cases
