@@ -1,3 +1,4 @@
+pub mod EditLists
 pub mod FirstChars
 pub mod Listing
 pub mod MarkSets

@@ -17,7 +17,7 @@ sound_group = codes "{ max-threads = 1 }"
 abbrev pub sound_script : List ℕ
 sound_script = codes "{ command = \"true\" }"
 
-abbrev pub sound_rule : List ℕ
+unfoldable pub sound_rule : List ℕ
 sound_rule = codes "{ platform = \"cfg(unix)\" }"
 
 abbrev pub no_settings : List ℕ
@@ -140,12 +140,16 @@ missing_edit place path (Some entry) =
     if is_script_kind path then removal place path
     else add (mark_of place (map path_step path)) entry
 
+-- the path of the script rules that a path is in: it has three steps, where the path has so many
+unfoldable pub rules_path : List Step → List Step
+rules_path path = if nat_lt (length path) 3 then path else take 3 path
+
 -- the script rules of a profile are noted, if a value of them is refused
 unfoldable pub rules_note : List Step → List Edit
 rules_note path =
     if has_key path 0 (codes "profile") && (is_some (key_at path 1)
     && has_key path 2 (codes "scripts"))
-    then omit_rule (shown_path (take 3 path)) ∷ [] else []
+    then omit_rule (shown_path (rules_path path)) ∷ [] else []
 
 -- an element that is refused for a cause is left out, or a sound one is read in its place
 abbrev pub cause_edits : ℕ → ElementCause → List Step → List Edit

@@ -58,16 +58,14 @@ unfoldable pub feature_list : Option Node → List ConfigExperimental → List �
 feature_list listed missing =
     quoted_list (listed_features listed ++ map experimental_text missing)
 
--- how to pass a feature, behind how to write it
-abbrev pub or_pass : List ℕ → List ℕ
-or_pass feature = codes "`, or pass `--experimental " ++ (feature ++ codes "`")
-
 -- how to switch on a feature, given what a file has at `experimental`
 abbrev pub help_for : Option Node → List ℕ → List ConfigExperimental → List ℕ
 help_for (Some (Node.table es)) feature missing =
-    codes "write `experimental." ++ (feature ++ (codes " = true" ++ or_pass feature))
+    codes "write `experimental." ++ (feature ++ (codes " = true`, or pass `--experimental "
+    ++ (feature ++ codes "`")))
 help_for listed feature missing =
-    codes "write `experimental = [" ++ (feature_list listed missing ++ (codes "]" ++ or_pass feature))
+    codes "write `experimental = [" ++ (feature_list listed missing
+    ++ (codes "]`, or pass `--experimental " ++ (feature ++ codes "`")))
 
 -- how to switch on a feature, of several that are missing in a file
 abbrev pub feature_help : Option Node → List ℕ → List ConfigExperimental → List ℕ

@@ -79,7 +79,7 @@ any_filter = codes "\"all()\""
 abbrev pub any_platform : List ℕ
 any_platform = codes "\"cfg(unix)\""
 
-abbrev pub any_condition : List ℕ
+unfoldable pub any_condition : List ℕ
 any_condition = codes "platform = \"cfg(unix)\""
 
 -- an edit, if there is a reason for it

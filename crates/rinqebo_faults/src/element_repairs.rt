@@ -1,8 +1,9 @@
 //! What files are read without where a value is refused.
 ghost use Rattle.std.specs.Prelude.{◌≡◌, ◌-◌, ◌<◌, ◌^◌, ◌&&◌, [], ◌∷◌, OnOk, codes, is_some, length};
 ghost use Rattle.std.specs.Option.{option_and_then, option_copied};
-ghost use Rattle.rinqebo_faults.specs.Edits.{edits_view, with_edits};
-ghost use Rattle.rinqebo_faults.specs.ElementRepairs.{cause_edits, element_edits, ends_with_key, group_edits, is_bad_name, is_condition, is_either, is_in_rules, missing_edit, needed_edit, profile_edits, replacement, rules_edits, rules_note, script_edits, setting_edit, setting_steps, sound_entry, sound_value, table_edit, value_edits};
+ghost use Rattle.rinqebo_faults.specs.Edits.{edits_view, omit_rule, with_edits};
+ghost use Rattle.rinqebo_faults.specs.ElementRepairs.{cause_edits, element_edits, ends_with_key, group_edits, is_bad_name, is_condition, is_either, is_in_rules, missing_edit, needed_edit, profile_edits, rules_edits, rules_note, rules_path, script_edits, setting_edit, setting_steps, sound_entry, sound_rule, sound_value, table_edit, value_edits};
+ghost use Rattle.rinqebo_faults.specs.Paths.{shown_path};
 ghost use Rattle.rinqebo_faults.specs.Tables.{has_key, key_at};
 
 use crate::edits::Edits;
@@ -19,9 +20,6 @@ const SCRIPT: &str = "{ command = \"true\" }";
 
 /// A profile.
 const PROFILE: &str = "{}";
-
-/// A rule.
-const RULE: &str = "{ platform = \"cfg(unix)\" }";
 
 /// Whether a key is one of two.
 #[tactic(auto, unfolding(crate::specs::ElementRepairs::is_either))]
@@ -205,17 +203,12 @@ fn is_in_rules(path: &[Step<'_>]) -> bool
     has_key(path, 2, "overrides") || has_key(path, 2, "scripts")
 }
 
-/// Reads another value in place of the one at a path.
-fn replace_with(
-    edits: &mut Edits,
-    place: usize,
-    path: &[Step<'_>],
-    text: &'static str,
-) -> Result<(), AllocError>
-    ensures { OnOk result (edits_view edits.new ≡ with_edits (edits_view edits.old)
-        (replacement place path.now text.now ∷ [])) }
+/// A rule.
+#[tactic(auto, unfolding(crate::specs::ElementRepairs::sound_rule))]
+fn sound_rule() -> &'static str
+    ensures { result.now ≡ sound_rule }
 {
-    edits.replace(place, path, text)
+    "{ platform = \"cfg(unix)\" }"
 }
 
 /// Leaves out a value of the rules of a profile.
@@ -225,7 +218,7 @@ fn leave_out_of_rules(edits: &mut Edits, place: usize, path: &[Step<'_>]) -> Res
         (rules_edits place path.now)) }
 {
     if path.len() == 4 {
-        return replace_with(edits, place, path, RULE);
+        return edits.replace(place, path, sound_rule());
     }
     if is_condition(path) {
         return leave_out_needed(edits, place, path, 5);
@@ -302,6 +295,18 @@ fn is_in_script_rules(path: &[Step<'_>]) -> bool
     has_key(path, 0, "profile") && key_at(path, 1).is_some() && has_key(path, 2, "scripts")
 }
 
+/// Notes the script rules that a path is in.
+#[tactic(auto, unfolding(crate::specs::ElementRepairs::rules_path))]
+fn omit_rules_of(edits: &mut Edits, path: &[Step<'_>]) -> Result<(), AllocError>
+    ensures { OnOk result (edits_view edits.new ≡ with_edits (edits_view edits.old)
+        (omit_rule (shown_path (rules_path path.now)) ∷ [])) }
+{
+    match path.get(..3) {
+        Some(rules) => edits.omit_rules(rules),
+        None => edits.omit_rules(path),
+    }
+}
+
 /// Notes the profile of a script rule of which a value is refused.
 #[tactic(auto, unfolding(crate::specs::ElementRepairs::rules_note))]
 fn note_rules(edits: &mut Edits, path: &[Step<'_>]) -> Result<(), AllocError>
@@ -311,10 +316,7 @@ fn note_rules(edits: &mut Edits, path: &[Step<'_>]) -> Result<(), AllocError>
     if !is_in_script_rules(path) {
         return Ok(());
     }
-    match path.get(..3) {
-        Some(rules) => edits.omit_rules(rules),
-        None => Ok(()),
-    }
+    omit_rules_of(edits, path)
 }
 
 /// Leaves out what is refused for a cause.

@@ -6,7 +6,7 @@ ghost use Rattle.nextest_tree.specs.View.{entries_view, nodes_view, tree_view};
 ghost use Rattle.nextest_places.specs.Spans.Paths.{path_step};
 ghost use Rattle.nextest_places.specs.Spans.Paths as paths;
 ghost use Rattle.rinqebo_faults.specs.Edits.{edits_view, mark_of, remove, replace, with_edits};
-ghost use Rattle.rinqebo_faults.specs.Repairs.{edit_if, error_edits, group_edits, group_of, groups_edits, kind_path, parent_edits, parents_edits, refused_children, rule_edits, rules_edit, script_edits, script_rules_edits, scripts_edits, sections_edits};
+ghost use Rattle.rinqebo_faults.specs.Repairs.{any_condition, edit_if, error_edits, group_edits, group_of, groups_edits, kind_path, parent_edits, parents_edits, refused_children, rule_edits, rules_edit, script_edits, script_rules_edits, scripts_edits, sections_edits};
 
 use crate::edits::Edits;
 use crate::given::profiles_of;
@@ -30,9 +30,6 @@ const FILTER: &str = "\"all()\"";
 
 /// Any platform, in place of one that is refused.
 const PLATFORM: &str = "\"cfg(unix)\"";
-
-/// Any platform, for a rule that has no condition.
-const CONDITION: &str = "platform = \"cfg(unix)\"";
 
 /// The key at which an override sets a group.
 const GROUP_KEY: &str = "test-group";
@@ -200,6 +197,14 @@ pub fn leave_out_parents(
     Ok(())
 }
 
+/// Any platform, for a rule that has no condition.
+#[tactic(auto, unfolding(crate::specs::Repairs::any_condition))]
+fn any_condition() -> &'static str
+    ensures { result.now ≡ any_condition }
+{
+    "platform = \"cfg(unix)\""
+}
+
 /// Reads a text in place of the value at a key of a rule, if that value is refused.
 fn replace_if(
     alloc: Global,
@@ -233,7 +238,7 @@ fn leave_out_of_rule(
 {
     match kind {
         ConfigCompileErrorKind::ConstraintsNotSpecified { .. } => {
-            edits.add(place, rule, CONDITION)
+            edits.add(place, rule, any_condition())
         }
         ConfigCompileErrorKind::FilterAndDefaultFilterSpecified => {
             edits.remove_key(place, rule, "filter")
