@@ -49,9 +49,7 @@ fn known_by_setup<F: Filters, S: Specs>(
         (F.Tally.numbers tally.old) (F.Tally.numbers tally.new) }
 {
     if names_setup(rule) {
-        Some(open_script_rule_holds(
-            rule, number, shown, query, cx, tally,
-        ))
+        Some(open_script_rule_holds(rule, number, shown, query, cx, tally))
     } else {
         None
     }

@@ -12,12 +12,15 @@ returns-then-names_setup-clause-answer g c = λ shown. record {
 pub returns-then-names_setup-clause-tally : goal.returns-then-names_setup-clause-tally
 returns-then-names_setup-clause-tally g c = elim c.open_script_rule_holds.ensures.tally [
   | inl same ↦ inl same
-  | inr w ↦ inr (w.0, record {
+  | inr w ↦ inr (
+    w.0,
+    record {
       names = sym c.names_setup.ensures ∙ c.if-names_setup.true;
       unknown = refl;
       hidden = w.1.1;
       asked = w.1.0;
-    })
+    },
+  )
 ]
 
 pub returns-else-names_setup-clause-answer : goal.returns-else-names_setup-clause-answer

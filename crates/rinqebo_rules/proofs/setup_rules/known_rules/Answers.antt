@@ -65,8 +65,12 @@ pub returns-clause-known : goal.returns-clause-known
 returns-clause-known g c = λ passed distinct knows n rule stands.
     let rules = map (meant_script_rule g.F.Filters.meaning) c.args.rules.now in
     c.loop-number.invariant.each passed distinct knows n rule
-    (omega (arith, c.loop-number-test.false, length-map c.args.rules.now (meant_script_rule g.F.Filters.meaning),
-    slice_get_within rules n rule stands))
+    (omega (
+      arith,
+      c.loop-number-test.false,
+      length-map c.args.rules.now (meant_script_rule g.F.Filters.meaning),
+      slice_get_within rules n rule stands,
+    ))
     stands
 
 pub returns-clause-tally : goal.returns-clause-tally
