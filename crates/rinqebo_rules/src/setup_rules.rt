@@ -107,7 +107,7 @@ pub(crate) fn known_rules<F: Filters, S: Specs>(
         IsTrue (is_some w.scripts.run_wrapper) × IsShown are_distinct n passed holds) first rules)
         first (F.Tally.numbers tally.old) (F.Tally.numbers tally.new)) }
 {
-    let mut more = Vec::new(alloc);
+    let mut more = Vec::with_capacity(alloc, rules.len())?;
     for (number, rule) in rules.iter().enumerate() {
         let here = known_at(known, number);
         let shown = shown_of_script(rule, number, passed, are_distinct);

@@ -15,7 +15,7 @@ use Rattle.rinqebo_rules.proofs.setup_rules.known_rules.Goals as goal
 pub loop-number-init : goal.loop-number-init
 loop-number-init g c = record {
   each = λ passed distinct known m rule below stands. absurd (omega (arith, below));
-  long = ap length c.new-more.ensures.items;
+  long = ap length c.in_ok-more.ensures.items;
   evaluated = none_evaluated _ c.args.first (c.args.first + 0) _ (omega arith);
 }
 
