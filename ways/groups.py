@@ -1,7 +1,7 @@
 import os,re,time
 DEFAULT={'GATE':-14,'low':-9,'load':-9,'setup':-9,'flat':-9,'lines':-6,'findings':-6,'session':2,'cheap':2,'pages':2,'try':-9}
 CPUS={'GATE':{0,1,2,3},'low':{2,3},'load':{2,3},'setup':{2,3},'flat':{2,3},'try':{2,3},'lines':{3},'findings':{3},'session':{3},'cheap':{3}}
-TOP=set('rinqebo_session rinqebo_c test_runs rinqebo_objects rinqebo_object_origins rinqebo_request rinqebo_origins rinqebo_rules nextest_shape nextest_config rinqebo_faults rinqebo_findings rinqebo_checks rinqebo_load rinqebo_results rinqebo_run rinqebo_diff rinqebo_resolve rinqebo'.split())
+TOP=set("rinqebo_objects rinqebo_object_origins rinqebo_session".split())
 CHAIN=set('nextest_shape rinqebo_faults rinqebo_findings rinqebo_origins rinqebo_objects rinqebo_object_origins rinqebo_report filter_engine platform_language nextest_tree nextest_documents nextest_elements nextest_scripts nextest_tables nextest_sources nextest_rules nextest_load nextest_settings nextest_config rinqebo_forms rinqebo_request rinqebo_load rinqebo_rules rinqebo_checks rinqebo_results rinqebo_diff rinqebo_run rinqebo'.split())
 def group(p):
     comm=open(f'/proc/{p}/comm').read().strip()
@@ -38,6 +38,9 @@ while True:
                 n=-16 if crate in TOP or crate in('repo','land') else -6 if crate in CHAIN else 3
                 if os.getpriority(os.PRIO_PROCESS,int(p))!=n:
                     for t in os.listdir(f'/proc/{p}/task'): os.setpriority(os.PRIO_PROCESS,int(t),n)
+            own={'lines':-8,'objects':-15,'findings':-15,'json':4}.get(name)
+            if own is not None and os.getpriority(os.PRIO_PROCESS,int(p))!=own:
+                for t in os.listdir(f'/proc/{p}/task'): os.setpriority(os.PRIO_PROCESS,int(t),own)
             for t in os.listdir(f'/proc/{p}/task'):
                 if os.sched_getaffinity(int(t))!=c: os.sched_setaffinity(int(t),c)
         except (OSError,ValueError,IndexError): pass
