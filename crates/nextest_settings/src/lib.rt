@@ -47,7 +47,7 @@ pub use profiles::{
     law_last_group, law_settings_of_texts,
 };
 pub use setting_value::{SettingValue, SettingValues};
-pub use setup_scripts::{SetupScript, SetupScriptIter, SetupScripts};
+pub use setup_scripts::{SetupScript, SetupScriptIter, SetupScripts, names_script};
 pub use source::{SettingSource, TrackSource};
 pub use test_settings::TestSettings;
 pub use values::{

@@ -32,8 +32,8 @@ struct NamedSetupScript<'cfg> {
     config: &'cfg SetupScriptConfig,
 }
 
-/// Whether a rule names a script.
-fn names_script(setup: &[ScriptId], id: &ScriptId) -> bool
+/// Whether the setup scripts that a rule names include a script.
+pub fn names_script(setup: &[ScriptId], id: &ScriptId) -> bool
     ensures { result ≡ is_one_of (map script_text setup.now) (script_text id.now) }
 {
     for named in setup {

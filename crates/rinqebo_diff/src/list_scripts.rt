@@ -24,7 +24,7 @@ use filter_inputs::ListedBinary;
 use nextest_engines::{EvalContext, Filters, Specs, TestQuery};
 use nextest_load::ScriptConfig;
 use nextest_scripts::ScriptId;
-use nextest_settings::{EvaluatableProfile, EvaluatedScriptRule, matches_test};
+use nextest_settings::{EvaluatableProfile, EvaluatedScriptRule, matches_test, names_script};
 use rinqebo_load::Session;
 use rinqebo_report::ListScripts;
 use rinqebo_results::Profile;
@@ -33,18 +33,6 @@ use std::alloc::{AllocError, Global};
 
 /// The number of each rule in a tally. Which rules were evaluated is not read here.
 const ANY_RULE: usize = 0;
-
-/// Whether a rule names a script.
-fn names_script(setup: &[ScriptId], id: &ScriptId) -> bool
-    ensures { result ≡ is_one_of (map script_text setup.now) (script_text id.now) }
-{
-    for named in setup {
-        if named == id {
-            return true;
-        }
-    }
-    false
-}
 
 /// Whether a rule holds for a test and names a script. The filter of a rule is evaluated only if the
 /// rule names the script.

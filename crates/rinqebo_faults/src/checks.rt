@@ -1,4 +1,7 @@
 //! The checks of a load, and the sources on which its refusals depend.
+ghost use Rattle.std.specs.Prelude.{◌≡◌};
+ghost use Rattle.rinqebo_faults.specs.Checks.{check_name, check_of, check_place, scope_of};
+
 use nextest_sources::ConfigParseErrorKind;
 
 /// A check that a load makes of a source, in the order in which it makes them; the last one is of
@@ -37,7 +40,9 @@ pub const CHECKS: [Check; 8] = [
 
 impl Check {
     /// The name that a report has for it.
-    pub fn name(self) -> &'static str {
+    pub fn name(self) -> &'static str
+        ensures { result.now ≡ check_name self }
+    {
         match self {
             Check::Elements => "elements",
             Check::Names => "names",
@@ -47,6 +52,22 @@ impl Check {
             Check::Groups => "groups",
             Check::ScriptRules => "script rules",
             Check::MergedTree => "merged tree",
+        }
+    }
+
+    /// Returns its place among all checks, from 0.
+    pub fn place(self) -> usize
+        ensures { result ≡ check_place self }
+    {
+        match self {
+            Check::Elements => 0,
+            Check::Names => 1,
+            Check::Features => 2,
+            Check::Inheritance => 3,
+            Check::Compilation => 4,
+            Check::Groups => 5,
+            Check::ScriptRules => 6,
+            Check::MergedTree => 7,
         }
     }
 }
@@ -61,7 +82,9 @@ pub enum Scope {
 }
 
 /// The check that fails with a refusal of this kind: none where the source could not be read.
-pub fn check_of(kind: &ConfigParseErrorKind) -> Option<Check> {
+pub fn check_of(kind: &ConfigParseErrorKind) -> Option<Check>
+    ensures { result ≡ check_of kind.now }
+{
     match kind {
         ConfigParseErrorKind::DuplicateToolConfigFile { .. }
         | ConfigParseErrorKind::ReadError(_)
@@ -87,7 +110,9 @@ pub fn check_of(kind: &ConfigParseErrorKind) -> Option<Check> {
 }
 
 /// The sources on which a refusal of this kind depends.
-pub fn scope_of(kind: &ConfigParseErrorKind) -> Scope {
+pub fn scope_of(kind: &ConfigParseErrorKind) -> Scope
+    ensures { result ≡ scope_of kind.now }
+{
     match kind {
         ConfigParseErrorKind::ReadError(_)
         | ConfigParseErrorKind::BuildError(_)

@@ -1,4 +1,8 @@
 //! What is refused, so that another fault may only follow from it.
+ghost use Rattle.std.specs.Prelude.{◌≡◌, OnOk};
+ghost use Rattle.rinqebo_faults.specs.Edits.{left_out_view, may_be, names_view, no_names, nothing_left_out, with_name};
+ghost use Rattle.rinqebo_faults.specs.Paths.{shown_path};
+
 use crate::paths::path_text;
 use nextest_places::Step;
 use std::alloc::{AllocError, Global};
@@ -15,7 +19,9 @@ pub struct Names {
 
 impl Names {
     /// No names.
-    fn new(alloc: Global) -> Names {
+    fn new(alloc: Global) -> Names
+        ensures { names_view result ≡ no_names }
+    {
         Names {
             alloc,
             is_any: false,
@@ -24,19 +30,27 @@ impl Names {
     }
 
     /// Adds a name.
-    pub fn add(&mut self, name: &str) -> Result<(), AllocError> {
+    pub fn add(&mut self, name: &str) -> Result<(), AllocError>
+        ensures { OnOk result (names_view self.new ≡ with_name name.now (names_view self.old)) }
+    {
         self.names.insert(String::from_str(self.alloc, name)?)?;
         Ok(())
     }
 
     /// Adds a path, as findings show it.
-    pub fn add_path(&mut self, path: &[Step<'_>]) -> Result<(), AllocError> {
+    pub fn add_path(&mut self, path: &[Step<'_>]) -> Result<(), AllocError>
+        ensures { OnOk result (names_view self.new
+            ≡ with_name (shown_path path.now) (names_view self.old)) }
+    {
         let text = path_text(self.alloc, path)?;
         self.add(text.as_str())
     }
 
     /// Whether a name may be one of these.
-    pub fn has(&self, name: &str) -> bool {
+    #[tactic(auto, unfolding(crate::specs::Edits::names_view))]
+    pub fn has(&self, name: &str) -> bool
+        ensures { result ≡ may_be (names_view self.now) name.now }
+    {
         self.is_any || self.names.contains(name)
     }
 }
@@ -54,7 +68,10 @@ pub struct LeftOut {
 
 impl LeftOut {
     /// No names.
-    pub fn new(alloc: Global) -> LeftOut {
+    #[tactic(auto, unfolding(crate::specs::Edits::left_out_view))]
+    pub fn new(alloc: Global) -> LeftOut
+        ensures { left_out_view result ≡ nothing_left_out }
+    {
         LeftOut {
             groups: Names::new(alloc),
             scripts: Names::new(alloc),

@@ -33,6 +33,7 @@ mod shapes;
 mod spellings;
 mod tables;
 mod toml_lines;
+mod unknown_keys;
 mod unreached;
 mod ways;
 mod worded;
@@ -63,12 +64,11 @@ pub use refusal_repairs::{
 pub use refused_filters::{filter_help, filter_words};
 pub use refused_platforms::platform_words;
 pub use refused_values::Fault;
-pub use tables::{
-    called, keys_note, known_note, script_header, stray_key, unknown_key_help, unknown_key_text,
-};
+pub use tables::{called, keys_note, known_note, script_header, stray_key, unknown_key_text};
 pub use toml_lines::{
     earlier_definition, first_note, line_at, lines_with_first, on_one_line, range_from, start_of,
 };
+pub use unknown_keys::unknown_key_help;
 pub use unreached::{names_after, only};
 pub use worded::{Stopped, Worded};
 pub use words::{is_among, is_number, owned, quoted};

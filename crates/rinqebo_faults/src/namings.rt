@@ -1,4 +1,9 @@
 //! Where the rules of profiles name groups and scripts.
+ghost use Rattle.std.specs.Prelude.{◌≡◌, IfOk, string_bytes, ◌++◌, Some, map};
+ghost use Rattle.rinqebo_faults.specs.Repairs.{naming_mark};
+ghost use Rattle.nextest_places.specs.Spans.Paths.{path_step};
+ghost use Rattle.rinqebo_faults.specs.Namings.{earlier, first_naming, naming_of, naming_path, naming_steps};
+
 use crate::given::profiles_of;
 use crate::paths::profile_path;
 use crate::tables::longer;
@@ -20,7 +25,10 @@ struct Naming {
 
 impl Naming {
     /// The path of the name in the list at a path.
-    fn path_below<'p>(self, alloc: Global, list: &[Step<'p>]) -> Result<Vec<Step<'p>>, AllocError> {
+    fn path_below<'p>(self, alloc: Global, list: &[Step<'p>]) -> Result<Vec<Step<'p>>, AllocError>
+        ensures { IfOk result (λ path. map path_step path.items
+            ≡ map path_step list.now ++ naming_steps (Some self)) }
+    {
         let rule = [Step::Position(self.rule), Step::Key(self.key)];
         let path = longer(alloc, list, &rule)?;
         match self.item {
@@ -30,21 +38,27 @@ impl Naming {
     }
 }
 
-/// Whether a rule comes before another one, if there is one.
-fn is_before(naming: Naming, other: Option<Naming>) -> bool {
-    match other {
-        Some(other) => naming.rule < other.rule,
-        None => true,
+/// The naming that comes first: that of the lower rule, or else the earlier one.
+fn earlier(first: Option<Naming>, other: Option<Naming>) -> Option<Naming>
+    ensures { result ≡ earlier first other }
+{
+    match (first, other) {
+        (Some(first), Some(other)) if other.rule < first.rule => Some(other),
+        (Some(first), _) => Some(first),
+        (None, other) => other,
     }
 }
 
 /// The text by which a name is found that rules of a profile have at a key.
+#[tactic(auto, unfolding(crate::specs::Repairs::naming_mark))]
 pub fn naming_mark(
     alloc: Global,
     profile: &str,
     key: &str,
     name: &str,
-) -> Result<String, AllocError> {
+) -> Result<String, AllocError>
+    ensures { IfOk result (λ mark. string_bytes mark ≡ naming_mark profile.now key.now name.now) }
+{
     let length = profile.len();
     format!(in alloc; "{length}:{profile} {key} {name}")
 }
@@ -151,21 +165,24 @@ impl Namings {
         Ok(())
     }
 
+    /// The naming of a name at a key.
+    fn naming_of(&self, profile: &str, key: &str, name: &str) -> Result<Option<Naming>, AllocError>
+        ensures { IfOk result (λ naming. naming
+            ≡ naming_of self.now profile.now key.now name.now) }
+    {
+        let mark = naming_mark(self.alloc, profile, key, name)?;
+        Ok(self.firsts.get(mark.as_str()).copied())
+    }
+
     /// The first rule of a profile that has a name at one of some keys.
-    fn first(
-        &self,
-        profile: &str,
-        keys: &[&str],
-        name: &str,
-    ) -> Result<Option<Naming>, AllocError> {
+    fn first(&self, profile: &str, keys: &[&str], name: &str) -> Result<Option<Naming>, AllocError>
+        ensures { IfOk result (λ first. first
+            ≡ first_naming self.now profile.now (map (λ key. key.now) keys.now) name.now) }
+    {
         let mut first = None;
         for key in keys {
-            let mark = naming_mark(self.alloc, profile, *key, name)?;
-            if let Some(naming) = self.firsts.get(mark.as_str()) {
-                if is_before(*naming, first) {
-                    first = Some(*naming);
-                }
-            }
+            let naming = self.naming_of(profile, *key, name)?;
+            first = earlier(first, naming);
         }
         Ok(first)
     }
@@ -177,7 +194,10 @@ impl Namings {
         profile: &'p str,
         keys: &[&str],
         name: &str,
-    ) -> Result<Vec<Step<'p>>, AllocError> {
+    ) -> Result<Vec<Step<'p>>, AllocError>
+        ensures { IfOk result (λ path. map path_step path.items
+            ≡ naming_path self.now profile.entry.now (map (λ key. key.now) keys.now) name.now) }
+    {
         let alloc = self.alloc;
         let list = profile_path(profile, self.list);
         match self.first(profile, keys, name)? {

@@ -1,7 +1,12 @@
 //! Paths into files, as lists of steps, and the texts that spell them.
-ghost use Rattle.std.specs.Prelude.{◌≡◌, ◌++◌, ◌∷◌, [], IfOk, OnOk, string_bytes};
+ghost use Rattle.std.specs.Prelude.{◌≡◌, ◌++◌, ◌∷◌, [], IfOk, OnOk, string_bytes, ◌==◌, codes, map, option_map};
 ghost use Rattle.nextest_shape.specs.Faults.Found.{step_text};
-ghost use Rattle.rinqebo_faults.specs.Paths.{shown_path};
+ghost use Rattle.rinqebo_faults.specs.Paths.{shown_path, has_script, profile_path, script_kind, script_path, section_path};
+ghost use Rattle.std.specs.Option.{option_copied};
+ghost use Rattle.nextest_places.specs.Spans.Paths.{path_step};
+ghost use Rattle.nextest_tree.specs.View.{tree_view};
+ghost use Rattle.std.specs.List.{slice_split};
+ghost use Rattle.nextest_places.specs.Spans.Paths as paths;
 
 use crate::refused_values::{Fault, is_at_fault};
 use crate::ways::ways_of;
@@ -55,12 +60,16 @@ pub fn path_with<'p>(
 }
 
 /// The path of a key of a profile.
-pub fn profile_path<'p>(profile: &'p str, key: &'p str) -> [Step<'p>; 3] {
+pub fn profile_path<'p>(profile: &'p str, key: &'p str) -> [Step<'p>; 3]
+    ensures { map path_step result ≡ profile_path profile.entry.now key.entry.now }
+{
     [Step::Key("profile"), Step::Key(profile), Step::Key(key)]
 }
 
 /// The path of the parent that a profile names.
-pub fn parent_path<'p>(profile: &'p str) -> [Step<'p>; 3] {
+pub fn parent_path<'p>(profile: &'p str) -> [Step<'p>; 3]
+    ensures { map path_step result ≡ profile_path profile.entry.now (codes "inherits") }
+{
     profile_path(profile, "inherits")
 }
 
@@ -69,7 +78,10 @@ pub fn section_path<'p>(
     alloc: Global,
     profile: &'p str,
     section: ConfigCompileSection,
-) -> Result<Vec<Step<'p>>, AllocError> {
+) -> Result<Vec<Step<'p>>, AllocError>
+    ensures { IfOk result (λ path. map path_step path.items
+        ≡ section_path profile.entry.now section) }
+{
     let (root, name) = (Step::Key("profile"), Step::Key(profile));
     let (list, index) = match section {
         ConfigCompileSection::DefaultFilter => {
@@ -82,7 +94,10 @@ pub fn section_path<'p>(
 }
 
 /// Whether scripts of a kind have one of a name.
-fn has_script(tree: &Tree, kind: &str, name: &str) -> bool {
+#[tactic(auto, unfolding(crate::specs::Paths::has_script))]
+fn has_script(tree: &Tree, kind: &str, name: &str) -> bool
+    ensures { result ≡ has_script (tree_view tree.now) kind.now name.now }
+{
     let Some(scripts) = tree.get("scripts") else {
         return false;
     };
@@ -93,7 +108,10 @@ fn has_script(tree: &Tree, kind: &str, name: &str) -> bool {
 }
 
 /// The kind of the scripts of a file among which one has a name, unless it is one of the old table.
-fn script_kind(tree: Option<&Tree>, name: &str) -> Option<&'static str> {
+fn script_kind(tree: Option<&Tree>, name: &str) -> Option<&'static str>
+    ensures { option_copied result
+        ≡ script_kind (option_map (λ tree. tree_view tree.now) tree.entry) name.now }
+{
     match tree {
         Some(tree) if has_script(tree, "setup", name) => Some("setup"),
         Some(tree) if has_script(tree, "wrapper", name) => Some("wrapper"),
@@ -106,7 +124,10 @@ pub fn script_path<'p>(
     alloc: Global,
     tree: Option<&Tree>,
     name: &'p str,
-) -> Result<Vec<Step<'p>>, AllocError> {
+) -> Result<Vec<Step<'p>>, AllocError>
+    ensures { IfOk result (λ path. map path_step path.items
+        ≡ script_path (option_map (λ tree. tree_view tree.now) tree.entry) name.entry.now) }
+{
     match script_kind(tree, name) {
         Some(kind) => {
             Vec::from_slice(
@@ -118,11 +139,23 @@ pub fn script_path<'p>(
     }
 }
 
+/// The parts of a text between its dots.
+fn parts_of<'s>(alloc: Global, text: &'s str) -> Result<Vec<&'s str>, AllocError>
+    ensures { IfOk result (λ parts. map (λ part. part.now) parts.items
+        ≡ slice_split (λ b. b == 46) text.entry.now) }
+{
+    text.split('.').collect(alloc)
+}
+
 /// The keys of a text that no file has: parted at its dots.
-pub fn parted<'s>(alloc: Global, text: &'s str) -> Result<Vec<Step<'s>>, AllocError> {
+pub fn parted<'s>(alloc: Global, text: &'s str) -> Result<Vec<Step<'s>>, AllocError>
+    ensures { IfOk result (λ steps. map path_step steps.items
+        ≡ map paths.key (slice_split (λ b. b == 46) text.entry.now)) }
+{
+    let parts = parts_of(alloc, text)?;
     let mut steps = Vec::new(alloc);
-    for part in text.split('.') {
-        steps.push(Step::Key(part))?;
+    for part in &parts {
+        steps.push(Step::Key(*part))?;
     }
     Ok(steps)
 }

@@ -1,5 +1,9 @@
 //! What is wrong with filters that are refused, in words: the part that is at fault, what is
 //! expected there, and what to do.
+ghost use Rattle.std.specs.Prelude.{◌≡◌};
+ghost use Rattle.std.specs.Option.{option_copied};
+ghost use Rattle.rinqebo_faults.specs.Filters.{filter_help};
+
 use crate::hints::near_name;
 use crate::regex_words::regex_fault;
 use crate::worded::{Stopped, Worded, first_of};
@@ -462,7 +466,9 @@ pub fn filter_words(alloc: Global, stopped: Stopped<'_>) -> Result<Option<Worded
 }
 
 /// What to do about a refused filter that needs more than its text.
-pub fn filter_help(label: &str) -> Option<&'static str> {
+pub fn filter_help(label: &str) -> Option<&'static str>
+    ensures { option_copied result ≡ filter_help label.now }
+{
     if label == FaultKind::NoPackageGraph.label() {
         return Some(
             "pass `--metadata F`, where F has the output of `cargo metadata --format-version 1`",

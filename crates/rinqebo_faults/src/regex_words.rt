@@ -1,4 +1,7 @@
 //! What is wrong with regular expressions, where that is plain.
+ghost use Rattle.std.specs.Prelude.{◌≡◌, IfOk, string_bytes};
+ghost use Rattle.rinqebo_faults.specs.Regexes.{end_flaw, flaw_expected, flaw_message, flaw_of, read, within, without};
+
 use std::alloc::{AllocError, Global};
 
 /// What is wrong with a regular expression.
@@ -31,7 +34,10 @@ struct Scan {
 
 impl Scan {
     /// Reads a character of a class.
-    fn within(self, c: char) -> Result<Scan, Flaw> {
+    #[tactic(auto, unfolding(crate::specs::Regexes::within))]
+    fn within(self, c: char) -> Result<Scan, Flaw>
+        ensures { result ≡ within self c }
+    {
         let mut next = self;
         if c == '-' {
             next.from = self.last;
@@ -48,7 +54,10 @@ impl Scan {
     }
 
     /// Reads a character outside classes.
-    fn without(self, c: char) -> Result<Scan, Flaw> {
+    #[tactic(auto, unfolding(crate::specs::Regexes::without))]
+    fn without(self, c: char) -> Result<Scan, Flaw>
+        ensures { result ≡ without self c }
+    {
         let mut next = self;
         if c == '[' {
             next.in_class = true;
@@ -66,7 +75,10 @@ impl Scan {
     }
 
     /// Reads a character.
-    fn read(self, c: char) -> Result<Scan, Flaw> {
+    #[tactic(auto, unfolding(crate::specs::Regexes::read))]
+    fn read(self, c: char) -> Result<Scan, Flaw>
+        ensures { result ≡ read self c }
+    {
         let mut next = self;
         if self.is_escaped || c == '\\' {
             next.is_escaped = !self.is_escaped;
@@ -82,7 +94,10 @@ impl Scan {
     }
 
     /// What is wrong at the end.
-    fn end(self) -> Option<Flaw> {
+    #[tactic(auto, unfolding(crate::specs::Regexes::end_flaw))]
+    fn end(self) -> Option<Flaw>
+        ensures { result ≡ end_flaw self }
+    {
         if self.in_class {
             return Some(Flaw::OpenClass);
         }
@@ -94,7 +109,9 @@ impl Scan {
 }
 
 /// What is wrong with a regular expression, where that is plain.
-fn flaw_of(pattern: &str) -> Option<Flaw> {
+fn flaw_of(pattern: &str) -> Option<Flaw>
+    ensures { result ≡ flaw_of pattern.now }
+{
     let mut scan = Scan {
         depth: 0,
         in_class: false,
@@ -111,27 +128,27 @@ fn flaw_of(pattern: &str) -> Option<Flaw> {
     scan.end()
 }
 
-/// What is wrong with a regular expression that has a flaw, in words behind it.
-fn flaw_words(flaw: Option<Flaw>) -> &'static str {
-    match flaw {
-        Some(Flaw::OpenGroup) => "has a group that is not closed",
-        Some(Flaw::StrayClose) => "has a `)` that closes no group",
-        Some(Flaw::OpenClass) => "has a class that is not closed",
-        Some(Flaw::Range(_, _)) | None => "is not a regular expression",
-    }
-}
-
 /// A flaw of a regular expression, in words.
-fn flaw_message(alloc: Global, pattern: &str, flaw: Option<Flaw>) -> Result<String, AllocError> {
-    if let Some(Flaw::Range(from, to)) = flaw {
-        return format!(in alloc; "the range `{from}-{to}` ends before it starts");
+fn flaw_message(alloc: Global, pattern: &str, flaw: Option<Flaw>) -> Result<String, AllocError>
+    ensures { IfOk result (λ message. string_bytes message ≡ flaw_message pattern.now flaw) }
+{
+    match flaw {
+        Some(Flaw::OpenGroup) => { format!(in alloc; "`{pattern}` has a group that is not closed") }
+        Some(Flaw::StrayClose) => {
+            format!(in alloc; "`{pattern}` has a `)` that closes no group")
+        }
+        Some(Flaw::OpenClass) => { format!(in alloc; "`{pattern}` has a class that is not closed") }
+        Some(Flaw::Range(from, to)) => {
+            format!(in alloc; "the range `{from}-{to}` ends before it starts")
+        }
+        None => format!(in alloc; "`{pattern}` is not a regular expression"),
     }
-    let words = flaw_words(flaw);
-    format!(in alloc; "`{pattern}` {words}")
 }
 
 /// What is expected in place of a regular expression that is refused.
-fn flaw_expected(flaw: Option<Flaw>) -> &'static str {
+fn flaw_expected(flaw: Option<Flaw>) -> &'static str
+    ensures { result.now ≡ flaw_expected flaw }
+{
     match flaw {
         Some(Flaw::OpenGroup) => "a regular expression with a closing `)`",
         Some(Flaw::StrayClose) => "a regular expression with a `(` for each `)`",
@@ -142,7 +159,11 @@ fn flaw_expected(flaw: Option<Flaw>) -> &'static str {
 }
 
 /// What is wrong with a regular expression that is refused, and what is expected instead.
-pub fn regex_fault(alloc: Global, pattern: &str) -> Result<(String, &'static str), AllocError> {
+pub fn regex_fault(alloc: Global, pattern: &str) -> Result<(String, &'static str), AllocError>
+    ensures message { IfOk result (λ fault. string_bytes fault.0
+        ≡ flaw_message pattern.now (flaw_of pattern.now)) }
+    ensures expected { IfOk result (λ fault. fault.1.now ≡ flaw_expected (flaw_of pattern.now)) }
+{
     let flaw = flaw_of(pattern);
     let message = flaw_message(alloc, pattern, flaw)?;
     Ok((message, flaw_expected(flaw)))

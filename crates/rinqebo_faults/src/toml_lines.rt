@@ -1,34 +1,64 @@
 //! Lines of texts that are not TOML: where they are at fault, and which ones are shown.
+ghost use Rattle.std.specs.Prelude.{◌≡◌, IfOk, OnOk, option_map, slice_get, string_bytes};
+ghost use Rattle.std.specs.Str.Lines.{lines};
+ghost use Rattle.std.specs.Option.{option_copied};
+ghost use Rattle.rinqebo_faults.specs.TomlLines.{first_note, from_one, line_at, on_one_line, range_from, start_of, with_line};
+
 use crate::lines::{Mark, indent_of, lines_of};
 use crate::meant::{BadLine, first_definition};
 use nextest_places::TextPosition;
 use rinqebo_report::{Position, Range, Sign, SourceLine};
 use std::alloc::{AllocError, Global};
 
+/// Adds a line to a text, behind a space if the text has something.
+#[tactic(auto, unfolding(crate::specs::TomlLines::with_line))]
+fn add_line(text: &mut String, line: &str) -> Result<(), AllocError>
+    ensures { OnOk result (string_bytes text.new ≡ with_line (string_bytes text.old) line.now) }
+{
+    if !text.is_empty() {
+        text.push(' ')?;
+    }
+    text.push_str(line)
+}
+
 /// A text on one line.
-pub fn on_one_line(alloc: Global, text: &str) -> Result<String, AllocError> {
+#[tactic(auto, unfolding(crate::specs::TomlLines::on_one_line))]
+pub fn on_one_line(alloc: Global, text: &str) -> Result<String, AllocError>
+    ensures { IfOk result (λ joined. string_bytes joined ≡ on_one_line text.now) }
+{
     let mut joined = String::new(alloc);
     for line in text.lines() {
-        if !joined.is_empty() {
-            joined.push(' ')?;
-        }
-        joined.push_str(line)?;
+        add_line(&mut joined, line)?;
     }
     Ok(joined)
 }
 
 /// A line or a column as users count it, from 1, of one that is counted from 0.
-fn from_one(count: usize) -> u64 {
+#[tactic(auto, unfolding(crate::specs::TomlLines::from_one))]
+fn from_one(count: usize) -> u64
+    ensures { result ≡ from_one count }
+{
     (count as u64).saturating_add(1)
 }
 
+/// The line of a text, from 0.
+fn line_of(text: &str, line: usize) -> Option<&str>
+    ensures { option_copied result ≡ slice_get (lines text.now) line }
+{
+    text.lines().nth(line)
+}
+
 /// The line of a text, from 0, that is at fault.
-pub fn line_at(text: Option<&str>, line: usize) -> Option<&str> {
-    text?.lines().nth(line)
+pub fn line_at(text: Option<&str>, line: usize) -> Option<&str>
+    ensures { option_copied result ≡ line_at (option_copied text.entry) line }
+{
+    line_of(text?, line)
 }
 
 /// The range of some characters of a line from a position on.
-pub fn range_from(start: Position, len: usize) -> Range {
+pub fn range_from(start: Position, len: usize) -> Range
+    ensures { result ≡ range_from start len }
+{
     Range {
         start,
         end: Position {
@@ -39,7 +69,9 @@ pub fn range_from(start: Position, len: usize) -> Range {
 }
 
 /// A position as users count it, of one that is counted from 0.
-pub fn start_of(position: TextPosition) -> Position {
+pub fn start_of(position: TextPosition) -> Position
+    ensures { result ≡ start_of position }
+{
     Position {
         line: from_one(position.line),
         column: from_one(position.column),
@@ -81,7 +113,9 @@ pub fn lines_with_first(
 }
 
 /// The note that names the line, from 0, that first defines what another one does.
-pub fn first_note(alloc: Global, first: Option<usize>) -> Result<Option<String>, AllocError> {
+pub fn first_note(alloc: Global, first: Option<usize>) -> Result<Option<String>, AllocError>
+    ensures { IfOk result (λ note. option_map string_bytes note ≡ first_note first) }
+{
     match first {
         Some(first) => {
             let number = from_one(first);

@@ -3,6 +3,7 @@ use Rattle.std.specs.Prelude.{◌≡◌, ℕ, List, Option, String, map}
 use Rattle.std.specs.List.Sorted.{IsPermutation, IsSortedByKey}
 use Rattle.std.specs.declared.alloc.Global.{Global}
 use Rattle.rinqebo_report.specs.declared.finding.Finding.{Finding}
+use Rattle.rinqebo_report.specs.declared.finding.FindingStep.{FindingStep}
 use Rattle.rinqebo_report.specs.declared.finding.HelpPlace.{HelpPlace}
 use Rattle.rinqebo_report.specs.declared.finding.Level.{Level}
 use Rattle.rinqebo_report.specs.declared.finding.RefusedExpression.{RefusedExpression}
@@ -17,6 +18,7 @@ pub record Facts : Type 0 where
   pub place : Option FilePlace
   pub column : Option ℕ
   pub path : Option (String Global)
+  pub steps : List FindingStep
   pub message : String Global
   pub expression : Option RefusedExpression
   pub expected : Option (String Global)
@@ -34,6 +36,7 @@ facts f =
       place = f.place;
       column = f.column;
       path = f.path;
+      steps = f.steps.items;
       message = f.message;
       expression = f.expression;
       expected = f.expected;

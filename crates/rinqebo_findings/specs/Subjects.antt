@@ -11,11 +11,20 @@ use Rattle.rinqebo_report.specs.declared.codes.code.Code.TheVariants.{WrongKind,
 use Rattle.rinqebo_request.specs.declared.files.layers.Layer.{Layer}
 use Rattle.rinqebo_request.specs.declared.files.places.SpanPart.{SpanPart}
 use Rattle.rinqebo_request.specs.declared.files.places.SpanPart.TheVariants as parts
+use Rattle.nextest_places.specs.Spans.Paths.{PathStep}
+use Rattle.nextest_places.specs.Spans.Paths as paths
 use Rattle.rinqebo_report.specs.declared.finding.Finding.{Finding}
+use Rattle.rinqebo_report.specs.declared.finding.FindingStep.{FindingStep}
+use Rattle.rinqebo_report.specs.declared.finding.FindingStep.TheVariants as own
 use Rattle.rinqebo_report.specs.declared.finding.Level.{Level}
 use Rattle.rinqebo_report.specs.declared.finding.Level.TheVariants as levels
 use Rattle.rinqebo_faults.specs.Paths.{shown_path}
 use Rattle.rinqebo_findings.specs.Placed.{IsOnLines, IsPlacedAt}
+
+-- a step of the path of a finding
+abbrev pub step_view : FindingStep → PathStep
+step_view (own.Key key) = paths.key (string_bytes key)
+step_view (own.Position place) = paths.position place
 
 -- what a finding is about: how bad it is, what it is called, and the path that leads to it
 pub record Subject : Type 0 where

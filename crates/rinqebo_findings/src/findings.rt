@@ -1,9 +1,10 @@
 //! Findings: how they are made, and those of warnings.
-ghost use Rattle.std.specs.Prelude.{◌≡◌, IfOk, Some, None};
+ghost use Rattle.std.specs.Prelude.{◌≡◌, IfOk, Some, None, map};
 ghost use Rattle.rinqebo_report.specs.Codes.Codes.{code_word};
 ghost use Rattle.rinqebo_faults.specs.Paths.{shown_path};
 ghost use Rattle.rinqebo_findings.specs.Placed.{IsPlaceIn};
-ghost use Rattle.rinqebo_findings.specs.Subjects.{subject};
+ghost use Rattle.nextest_places.specs.Spans.Paths.{path_step};
+ghost use Rattle.rinqebo_findings.specs.Subjects.{step_view, subject};
 
 use crate::given::value_at;
 use crate::paths::spelled_path;
@@ -13,7 +14,7 @@ use nextest_tree::Tree;
 use rinqebo_faults::{
     Fault, header_text, keys_note, path_text, profile_path, unknown_key_help, unknown_key_text,
 };
-use rinqebo_report::{Code, FilePlace, Finding, Level};
+use rinqebo_report::{Code, FilePlace, Finding, FindingStep, Level};
 use rinqebo_request::{Layer, NoDocument, SpanPart, part_place, place_of};
 use std::alloc::{AllocError, Global};
 
@@ -132,6 +133,27 @@ pub fn finding(
     Ok(found)
 }
 
+/// A step of a path, as findings have it.
+fn finding_step(alloc: Global, step: &Step<'_>) -> Result<FindingStep, AllocError>
+    ensures { IfOk result (λ own. step_view own ≡ path_step step.now) }
+{
+    match step {
+        Step::Key(key) => Ok(FindingStep::Key(String::from_str(alloc, *key)?)),
+        Step::Position(position) => Ok(FindingStep::Position(*position)),
+    }
+}
+
+/// The steps of a path, as findings have them.
+fn steps_of(alloc: Global, path: &[Step<'_>]) -> Result<Vec<FindingStep>, AllocError>
+    ensures { IfOk result (λ steps. map step_view steps.items ≡ map path_step path.now) }
+{
+    let mut steps = Vec::new(alloc);
+    for step in path {
+        steps.push(finding_step(alloc, step)?)?;
+    }
+    Ok(steps)
+}
+
 /// A finding about the value at a path of a source, or about its key.
 pub fn finding_at(
     alloc: Global,
@@ -149,11 +171,15 @@ pub fn finding_at(
     }) }
     ensures place { IfOk result (λ found.
         IsPlaceIn part source.entry.layers.now source.entry.position path.now found.place) }
+    ensures steps { IfOk result (λ found. map step_view found.steps.items
+        ≡ map path_step path.now) }
 {
     let text = path_text(alloc, path)?;
+    let steps = steps_of(alloc, path)?;
     let mut found = finding(alloc, level, label, source, message)?;
     found.place = source.place_at(path, part);
     found.path = Some(text);
+    found.steps = steps;
     Ok(found)
 }
 

@@ -8,7 +8,6 @@ ghost use Rattle.nextest_settings.specs.Deciding.{rule_holds};
 ghost use Rattle.nextest_settings.specs.Engines.{test_query_by};
 ghost use Rattle.nextest_settings.specs.Queries.{is_enabled_for, query_in};
 ghost use Rattle.nextest_settings.specs.View.{meant_script_rule};
-ghost use Rattle.nextest_tree.specs.Schema.{is_one_of};
 ghost use Rattle.rinqebo_objects.specs.Enabling.{test_data, tests_enabling};
 ghost use Rattle.rinqebo_objects.specs.Scripts.{enabling_data};
 ghost use Rattle.rinqebo_objects.specs.Used.{listed_view, used_in};
@@ -17,7 +16,7 @@ ghost use Rattle.rinqebo_report.specs.Documents.{list_data};
 use crate::listed::Listed;
 use nextest_engines::{EvalContext, Filters, Specs, TestQuery};
 use nextest_scripts::ScriptId;
-use nextest_settings::{EvaluatableProfile, EvaluatedScriptRule, matches_test};
+use nextest_settings::{EvaluatableProfile, EvaluatedScriptRule, matches_test, names_script};
 use serde_json::{Value, json};
 use std::alloc::{AllocError, Global};
 
@@ -32,18 +31,6 @@ fn test_json(alloc: Global, query: &TestQuery<'_>) -> Result<Value, AllocError>
         "binary-id": query.binary_query.binary_id,
         "name": query.test_name
     })
-}
-
-/// Whether a rule names a script.
-fn names_script(setup: &[ScriptId], id: &ScriptId) -> bool
-    ensures { result ≡ is_one_of (map script_text setup.now) (script_text id.now) }
-{
-    for named in setup {
-        if named == id {
-            return true;
-        }
-    }
-    false
 }
 
 /// Whether a script rule holds for a test and is wanted. Its filter is evaluated where its

@@ -6,10 +6,12 @@ use Rattle.serde_json.specs.Find.{of_integer}
 use Rattle.serde_json.specs.Read.{max_depth}
 use Rattle.serde_json.specs.Written.{has_float}
 use Rattle.rinqebo_report.specs.Document.{check_members, common_members, document_data, document_members, is_check, with_checks, with_content, with_files, with_ignored, with_objects, with_requested}
-use Rattle.rinqebo_report.specs.Documents.{count_data, text_data, optional_text_data, optional_count_data, list_data, pair_data, lines_data, range_data, scalar_data, value_data, optional_value_data, part_data, kind_data, origin_data, setting_data, runs_data, test_data, test_id_data, entry_data, rule_data, tool_data, source_data, unreached_data, wrapper_data, place_source_data, place_lines_data, place_range_data, span_data, expression_data, expression_span_data, with_fault, with_site, with_expression, with_advice, finding_data, summary_data}
+use Rattle.rinqebo_report.specs.Documents.{count_data, text_data, optional_text_data, optional_count_data, list_data, pair_data, lines_data, range_data, scalar_data, value_data, optional_value_data, part_data, kind_data, origin_data, setting_data, runs_data, test_data, test_id_data, entry_data, rule_data, tool_data, source_data, unreached_data, wrapper_data, place_source_data, place_lines_data, place_range_data, span_data, expression_data, expression_span_data, with_fault, with_site, with_expression, with_advice, finding_data, summary_data, step_data}
 use Rattle.rinqebo_report.specs.declared.exact_value.ExactValue.{ExactValue}
 use Rattle.rinqebo_report.specs.declared.finding.RefusedExpression.{RefusedExpression}
 use Rattle.rinqebo_report.specs.declared.finding.Finding.{Finding}
+use Rattle.rinqebo_report.specs.declared.finding.FindingStep.{FindingStep}
+use Rattle.rinqebo_report.specs.declared.finding.FindingStep.TheVariants as steps
 use Rattle.rinqebo_report.specs.declared.finding.CharSpan.{CharSpan}
 use Rattle.rinqebo_report.specs.declared.origin.FileLines.{FileLines}
 use Rattle.rinqebo_report.specs.declared.origin.Origin.{Origin}
@@ -209,11 +211,15 @@ fault f h =
     (exact_put (codes "message") _ _ (text 2 f.message)
     (exact_put (codes "level") _ _ (exact_text 2 _) (exact_put (codes "code") _ _ (text 2 f.code) h)))
 
+step : (n : ℕ) (s : FindingStep) → IsExact n (step_data s)
+step n (steps.Key k) = text n k
+step n (steps.Position m) = count n m
+
 site : {ms : Members} (f : Finding) → AreExact 2 ms → AreExact 2 (with_site f ms)
 site f h =
     exact_filled (codes "source") _ _ (place_source 2 f.place)
     (exact_filled (codes "range") _ _ (place_range 0 f.place)
-    (exact_filled (codes "path") _ _ (optional_text 2 f.path)
+    (exact_filled (codes "path") _ _ (exact_list 1 step_data (step 1) f.steps.items)
     (exact_filled (codes "lines") _ _ (place_lines 1 f.place)
     (exact_filled (codes "column") _ _ (optional_count 2 f.column) h))))
 

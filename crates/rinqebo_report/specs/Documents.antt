@@ -6,6 +6,8 @@ use Rattle.serde_json.specs.Find.{of_integer}
 use Rattle.serde_json.specs.View.{items_of}
 use Rattle.rinqebo_report.specs.declared.finding.RefusedExpression.{RefusedExpression}
 use Rattle.rinqebo_report.specs.declared.finding.Finding.{Finding}
+use Rattle.rinqebo_report.specs.declared.finding.FindingStep.{FindingStep}
+use Rattle.rinqebo_report.specs.declared.finding.FindingStep.TheVariants as steps
 use Rattle.rinqebo_report.specs.declared.finding.CharSpan.{CharSpan}
 use Rattle.rinqebo_report.specs.declared.origin.FileLines.{FileLines}
 use Rattle.rinqebo_report.specs.declared.origin.Origin.{Origin}
@@ -264,12 +266,17 @@ with_fault finding members =
     (put (codes "message") (text_data finding.message) (put (codes "level")
     (string (level_word finding.level)) (put (codes "code") (text_data finding.code) members)))
 
+-- a step of a path: a key, or a position
+abbrev pub step_data : FindingStep → Data
+step_data (steps.Key key) = text_data key
+step_data (steps.Position place) = count_data place
+
 -- members, with where it is
 abbrev pub with_site : Finding → Members → Members
 with_site finding members =
     put_filled (codes "source") (place_source_data finding.place)
     (put_filled (codes "range") (place_range_data finding.place)
-    (put_filled (codes "path") (optional_text_data finding.path)
+    (put_filled (codes "path") (list_data step_data finding.steps.items)
     (put_filled (codes "lines") (place_lines_data finding.place)
     (put_filled (codes "column") (optional_count_data finding.column) members))))
 

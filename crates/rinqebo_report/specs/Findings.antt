@@ -13,6 +13,7 @@ pub record IsBare (l : Level) (c m : String Global) (finding : Finding) : Type 0
   pub place : finding.place ≡ None
   pub column : finding.column ≡ None
   pub path : finding.path ≡ None
+  pub steps : finding.steps.items ≡ []
   pub message : finding.message ≡ m
   pub lines : finding.lines.items ≡ []
   pub expression : finding.expression ≡ None

@@ -62,6 +62,15 @@ pub struct SourceLine {
     pub parts: Vec<LinePart>,
 }
 
+/// A step of the path to what a finding is about.
+#[derive(Drop)]
+pub enum FindingStep {
+    /// To what a table has at a key.
+    Key(String),
+    /// To what an array has at a position, from 0.
+    Position(usize),
+}
+
 /// Where a page shows the help of a finding.
 #[derive(Clone, Copy)]
 pub enum HelpPlace {
@@ -85,6 +94,8 @@ pub struct Finding {
     pub column: Option<u64>,
     /// The keys that lead to it, with dots between them.
     pub path: Option<String>,
+    /// The same keys and positions, one by one.
+    pub steps: Vec<FindingStep>,
     /// The message, on one line.
     pub message: String,
     /// The lines of the file that show it.
@@ -111,6 +122,7 @@ impl Drop for Finding {
             place: _place,
             column: _column,
             path: _path,
+            steps: _steps,
             message: _message,
             lines: _lines,
             expression: _expression,
@@ -134,6 +146,7 @@ impl Finding {
             place: None,
             column: None,
             path: None,
+            steps: Vec::new(alloc),
             message,
             lines: Vec::new(alloc),
             expression: None,

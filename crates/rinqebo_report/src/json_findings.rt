@@ -1,11 +1,11 @@
 //! Findings as JSON.
 ghost use Rattle.std.specs.Prelude.{◌≡◌, IfOk, OnOk};
 ghost use Rattle.serde_json.specs.View.{members_view, view};
-ghost use Rattle.rinqebo_report.specs.Documents.{list_data, place_source_data, place_lines_data, place_range_data, span_data, expression_data, expression_span_data, with_fault, with_site, with_expression, with_advice, finding_data, summary_data};
+ghost use Rattle.rinqebo_report.specs.Documents.{list_data, step_data, place_source_data, place_lines_data, place_range_data, span_data, expression_data, expression_span_data, with_fault, with_site, with_expression, with_advice, finding_data, summary_data};
 
 use crate::check_page::{errors_of, warnings_of};
 use crate::filled::put_filled;
-use crate::finding::{CharSpan, Finding, RefusedExpression};
+use crate::finding::{CharSpan, Finding, FindingStep, RefusedExpression};
 use crate::json_parts::{
     lines_json, optional_count_json, optional_text_json, range_json, texts_json,
 };
@@ -41,6 +41,27 @@ fn place_range_json(alloc: Global, place: Option<FilePlace>) -> Result<Value, Al
         Some(place) => range_json(alloc, place.range),
         None => Ok(Value::Null),
     }
+}
+
+/// A step of a path: a key, or a position.
+fn step_json(alloc: Global, step: &FindingStep) -> Result<Value, AllocError>
+    ensures { IfOk result (λ value. view value ≡ step_data step.now) }
+{
+    match step {
+        FindingStep::Key(key) => Value::try_from_str(alloc, key.as_str()),
+        FindingStep::Position(position) => Ok(Value::from(*position)),
+    }
+}
+
+/// The steps of a path.
+fn steps_json(alloc: Global, steps: &[FindingStep]) -> Result<Value, AllocError>
+    ensures { IfOk result (λ value. view value ≡ list_data step_data steps.now) }
+{
+    let mut list = Vec::new(alloc);
+    for step in steps {
+        list.push(step_json(alloc, step)?)?;
+    }
+    Ok(Value::Array(list))
 }
 
 /// The text of an expression, or null.
@@ -111,7 +132,7 @@ fn put_site(
     put_filled(members, alloc, "column", column)?;
     let lines = place_lines_json(alloc, finding.place)?;
     put_filled(members, alloc, "lines", lines)?;
-    let path = optional_text_json(alloc, &finding.path)?;
+    let path = steps_json(alloc, &finding.steps)?;
     put_filled(members, alloc, "path", path)?;
     let range = place_range_json(alloc, finding.place)?;
     put_filled(members, alloc, "range", range)?;

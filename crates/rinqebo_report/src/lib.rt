@@ -39,7 +39,7 @@ mod why_page;
 pub use codes::{CODES, Code, code_page, codes_document, codes_list, find_code, law_all_codes};
 pub use exact_value::ExactValue;
 pub use finding::{
-    CharSpan, Finding, HelpPlace, Level, LinePart, RefusedExpression, Sign, SourceLine,
+    CharSpan, Finding, FindingStep, HelpPlace, Level, LinePart, RefusedExpression, Sign, SourceLine,
 };
 pub use format::{Format, render, render_findings};
 pub use github::{add_file, add_message, add_property};

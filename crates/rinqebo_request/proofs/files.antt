@@ -4,3 +4,5 @@ pub mod Highest
 pub mod Ranges
 pub mod Documents
 pub mod Reading
+pub mod Passing
+pub mod RuleTables

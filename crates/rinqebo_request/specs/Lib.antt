@@ -1,1 +1,11 @@
 pub mod Files
+pub mod ArgumentTable
+pub mod Variables
+pub mod Lines
+pub mod Rows
+pub mod NamedView
+pub mod Hints
+pub mod Stops
+pub mod Refusals
+pub mod Requests
+pub mod NoteTexts

@@ -1,4 +1,7 @@
 //! What the program reads from its process: variables, and whether its streams are terminals.
+ghost use Rattle.std.specs.Prelude.{◌≡◌, ◌↔◌, IsTrue, option_map};
+ghost use Rattle.rinqebo_request.specs.Variables.{IsSwitchedOn, some_text, text_set};
+
 use nextest_elements::ConfigExperimental;
 
 /// The variables that override all files in a run of nextest. A variable that is not set is absent.
@@ -45,16 +48,27 @@ pub struct Environment {
 }
 
 /// Returns the text of a variable if it is set and not empty.
-pub fn set(variable: &Option<String>) -> Option<&str> {
+pub fn set(variable: &Option<String>) -> Option<&str>
+    ensures { option_map (λ text. text.now) result ≡ text_set variable.now }
+{
     match variable {
-        Some(value) if !value.is_empty() => Some(value.as_str()),
-        _ => None,
+        Some(value) => some_text(value.as_str()),
+        None => None,
     }
+}
+
+/// Returns a text, if it is not empty.
+fn some_text(text: &str) -> Option<&str>
+    ensures { option_map (λ text. text.now) result ≡ some_text text.now }
+{
+    if text.is_empty() { None } else { Some(text) }
 }
 
 impl Environment {
     /// Whether a variable enables a feature.
-    pub fn switches_on(&self, feature: ConfigExperimental) -> bool {
+    pub fn switches_on(&self, feature: ConfigExperimental) -> bool
+        ensures { IsTrue result ↔ IsSwitchedOn self.now feature }
+    {
         let variable = match feature {
             ConfigExperimental::SetupScripts => &self.setup_scripts,
             ConfigExperimental::WrapperScripts => &self.wrapper_scripts,

@@ -4,13 +4,17 @@
 //! switch on.
 #![tactic(auto)]
 
+mod check_words;
 mod environment;
 mod features;
 mod files;
 mod hints;
+mod line;
 mod named;
+mod named_features;
 mod notes;
 pub mod options;
+mod pages;
 mod request;
 pub mod rows;
 mod test_words;

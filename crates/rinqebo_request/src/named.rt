@@ -1,5 +1,6 @@
 //! What messages call the parts of a command line.
 ghost use Rattle.std.specs.Prelude.{◌≡◌, IfOk, option_map, string_bytes};
+ghost use Rattle.rinqebo_request.specs.Requests.{source_variable};
 
 use std::alloc::{AllocError, Global};
 use std::fmt;
@@ -85,7 +86,9 @@ pub enum ProfileSource {
 
 impl ProfileSource {
     /// The variable that names the profile, if one does.
-    pub fn variable(self) -> Option<&'static str> {
+    pub fn variable(self) -> Option<&'static str>
+        ensures { option_map (λ name. name.now) result ≡ source_variable self }
+    {
         match self {
             ProfileSource::Variable => Some("NEXTEST_PROFILE"),
             ProfileSource::CommandLine | ProfileSource::Fallback => None,

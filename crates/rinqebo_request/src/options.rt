@@ -1,4 +1,9 @@
 //! The commands of the program, and their options.
+ghost use Rattle.std.specs.Prelude.{IfOk, codes};
+ghost use Rattle.clap.specs.declared.builder.value_parser.ValueParser.{ValueParser};
+ghost use Rattle.clap.specs.declared.builder.value_parser.ValueParser.TheVariants as parsers;
+ghost use Rattle.rinqebo_request.specs.ArgumentTable.{Adds, AreChoices, AreTestChoices, Choices, IsArgument, IsChoice, IsCommand, IsProgram, check_formats, check_rules, choice_rule, colour_words, command_with, explain_rules, file_rules, flag_rule, keys_rule, list_rules, mode_words, option_rule, output_rules, platform_rules, profile_rule, profile_rules, result_formats, schema_rules, show_rules, test_rules, word_rule};
+
 use clap::{Arg, ArgAction, Command};
 use std::alloc::{AllocError, Global};
 
@@ -108,7 +113,9 @@ Exit status:
   6  the output could not be written";
 
 /// An option with a value.
-pub fn option<'a>(alloc: Global, name: &'a str, value: &'a str, help: &'a str) -> Arg<'a> {
+pub fn option<'a>(alloc: Global, name: &'a str, value: &'a str, help: &'a str) -> Arg<'a>
+    ensures { IsArgument (option_rule name.entry.now) result }
+{
     Arg::new(alloc, name)
         .long(name)
         .value_name(value)
@@ -123,14 +130,18 @@ fn choice<'a>(
     value: &'a str,
     words: &'a [&'a str],
     help: &'a str,
-) -> Arg<'a> {
+) -> Arg<'a>
+    ensures { IsArgument (choice_rule name.entry.now (parsers.Names words.entry)) result }
+{
     option(alloc, name, value, help)
         .value_parser(words)
         .hide_possible_values(true)
 }
 
 /// A flag.
-pub fn flag<'a>(alloc: Global, name: &'a str, help: &'a str) -> Arg<'a> {
+pub fn flag<'a>(alloc: Global, name: &'a str, help: &'a str) -> Arg<'a>
+    ensures { IsArgument (flag_rule name.entry.now) result }
+{
     Arg::new(alloc, name)
         .long(name)
         .action(ArgAction::SetTrue)
@@ -138,7 +149,9 @@ pub fn flag<'a>(alloc: Global, name: &'a str, help: &'a str) -> Arg<'a> {
 }
 
 /// A word of the command line that is not an option.
-pub fn word<'a>(alloc: Global, name: &'a str, help: &'a str) -> Arg<'a> {
+pub fn word<'a>(alloc: Global, name: &'a str, help: &'a str) -> Arg<'a>
+    ensures { IsArgument (word_rule name.entry.now) result }
+{
     Arg::new(alloc, name)
         .value_name(name)
         .action(ArgAction::Set)
@@ -146,7 +159,9 @@ pub fn word<'a>(alloc: Global, name: &'a str, help: &'a str) -> Arg<'a> {
 }
 
 /// Adds the options that name files.
-pub fn with_files<'a>(alloc: Global, command: Command<'a>) -> Result<Command<'a>, AllocError> {
+pub fn with_files<'a>(alloc: Global, command: Command<'a>) -> Result<Command<'a>, AllocError>
+    ensures { IfOk result (Adds file_rules command.entry) }
+{
     let tools = option(
         alloc,
         "tool-config-file",
@@ -194,7 +209,10 @@ pub fn with_output<'a>(
     command: Command<'a>,
     formats: &'a [&'a str],
     help: &'a str,
-) -> Result<Command<'a>, AllocError> {
+) -> Result<Command<'a>, AllocError>
+    ensures { IfOk result (λ added. (colours : ValueParser) × IsChoice colour_words colours
+        × Adds (output_rules (parsers.Names formats.entry) colours) command.entry added) }
+{
     let format = choice(alloc, "format", "FORMAT", formats, help);
     command
         .arg(format.default_value("text").hide_default_value(true))?
@@ -228,7 +246,9 @@ fn with_triples<'a>(
     command: Command<'a>,
     host_help: &'a str,
     target_help: &'a str,
-) -> Result<Command<'a>, AllocError> {
+) -> Result<Command<'a>, AllocError>
+    ensures { IfOk result (Adds platform_rules command.entry) }
+{
     let host = option(alloc, "host", "TRIPLE", host_help);
     command
         .arg(host.conflicts_with("rustc-version")?)?
@@ -254,12 +274,16 @@ fn with_triples<'a>(
 }
 
 /// Adds the options that describe the platforms of tests, to a command that may read a list.
-pub fn with_platforms<'a>(alloc: Global, command: Command<'a>) -> Result<Command<'a>, AllocError> {
+pub fn with_platforms<'a>(alloc: Global, command: Command<'a>) -> Result<Command<'a>, AllocError>
+    ensures { IfOk result (Adds platform_rules command.entry) }
+{
     with_triples(alloc, command, LISTED_HOST_HELP, LISTED_TARGET_HELP)
 }
 
 /// The KEYs of a command. The help says what the command shows without one.
-pub fn keys<'a>(alloc: Global, help: &'a str) -> Arg<'a> {
+pub fn keys<'a>(alloc: Global, help: &'a str) -> Arg<'a>
+    ensures { IsArgument keys_rule result }
+{
     Arg::new(alloc, "KEY")
         .value_name("KEY")
         .num_args(0..)
@@ -268,7 +292,9 @@ pub fn keys<'a>(alloc: Global, help: &'a str) -> Arg<'a> {
 }
 
 /// The option that names the profile.
-fn profile<'a>(alloc: Global) -> Arg<'a> {
+fn profile<'a>(alloc: Global) -> Arg<'a>
+    ensures { IsArgument profile_rule result }
+{
     option(
         alloc,
         "profile",
@@ -279,7 +305,10 @@ fn profile<'a>(alloc: Global) -> Arg<'a> {
 }
 
 /// Adds the options that name the profile and the run mode.
-pub fn with_profile<'a>(alloc: Global, command: Command<'a>) -> Result<Command<'a>, AllocError> {
+pub fn with_profile<'a>(alloc: Global, command: Command<'a>) -> Result<Command<'a>, AllocError>
+    ensures { IfOk result (λ added. (modes : ValueParser) × IsChoice mode_words modes
+        × Adds (profile_rules modes) command.entry added) }
+{
     let help = "Run mode: test or benchmark\n[default: test]";
     let mode = choice(alloc, "mode", "MODE", MODES, help);
     command
@@ -288,7 +317,9 @@ pub fn with_profile<'a>(alloc: Global, command: Command<'a>) -> Result<Command<'
 }
 
 /// Adds the words and options that name a test, and what to show of it.
-fn with_test<'a>(alloc: Global, command: Command<'a>) -> Result<Command<'a>, AllocError> {
+fn with_test<'a>(alloc: Global, command: Command<'a>) -> Result<Command<'a>, AllocError>
+    ensures { IfOk result (Adds test_rules command.entry) }
+{
     let list = option(
         alloc,
         "list",
@@ -327,7 +358,11 @@ fn with_test<'a>(alloc: Global, command: Command<'a>) -> Result<Command<'a>, All
 }
 
 /// The command that explains the settings of a test.
-fn explain_command<'a>(alloc: Global) -> Result<Command<'a>, AllocError> {
+fn explain_command<'a>(alloc: Global) -> Result<Command<'a>, AllocError>
+    ensures { IfOk result (λ command. (choices : Choices)
+        × AreTestChoices result_formats choices
+        × IsCommand (command_with (codes "explain") (explain_rules choices)) command) }
+{
     let command = Command::new(alloc, "explain")
         .about("Show the settings of one test, and where each value comes from")
         .after_help(EXPLAIN_NOTES)
@@ -344,7 +379,11 @@ fn explain_command<'a>(alloc: Global) -> Result<Command<'a>, AllocError> {
 }
 
 /// The command that lists the tests of a workspace with their settings.
-fn list_command<'a>(alloc: Global) -> Result<Command<'a>, AllocError> {
+fn list_command<'a>(alloc: Global) -> Result<Command<'a>, AllocError>
+    ensures { IfOk result (λ command. (choices : Choices)
+        × AreTestChoices result_formats choices
+        × IsCommand (command_with (codes "list") (list_rules choices)) command) }
+{
     let list = word(
         alloc,
         "LIST",
@@ -367,7 +406,10 @@ fn list_command<'a>(alloc: Global) -> Result<Command<'a>, AllocError> {
 }
 
 /// The command that shows the leaves of the configuration.
-fn show_command<'a>(alloc: Global) -> Result<Command<'a>, AllocError> {
+fn show_command<'a>(alloc: Global) -> Result<Command<'a>, AllocError>
+    ensures { IfOk result (λ command. (choices : Choices) × AreChoices result_formats choices
+        × IsCommand (command_with (codes "show-config") (show_rules choices)) command) }
+{
     let hidden = flag(alloc, "hidden", "Also show overridden values");
     let command = Command::new(alloc, "show-config")
         .about("Show a profile's configuration, and where each value comes from")
@@ -384,7 +426,9 @@ fn show_command<'a>(alloc: Global) -> Result<Command<'a>, AllocError> {
 }
 
 /// The command that prints a schema.
-fn schema_command<'a>(alloc: Global) -> Result<Command<'a>, AllocError> {
+fn schema_command<'a>(alloc: Global) -> Result<Command<'a>, AllocError>
+    ensures { IfOk result (IsCommand (command_with (codes "schema") schema_rules)) }
+{
     Command::new(alloc, "schema")
         .about("Print the JSON schema of a configuration file, for editors")
         .after_help(SCHEMA_NOTES)
@@ -396,7 +440,10 @@ fn schema_command<'a>(alloc: Global) -> Result<Command<'a>, AllocError> {
 }
 
 /// The command that checks files.
-fn check_command<'a>(alloc: Global) -> Result<Command<'a>, AllocError> {
+fn check_command<'a>(alloc: Global) -> Result<Command<'a>, AllocError>
+    ensures { IfOk result (λ command. (choices : Choices) × AreChoices check_formats choices
+        × IsCommand (command_with (codes "check") (check_rules choices)) command) }
+{
     let command = Command::new(alloc, "check")
         .about("Report errors and warnings in the configuration files")
         .after_help(CHECK_NOTES)
@@ -430,7 +477,9 @@ fn check_command<'a>(alloc: Global) -> Result<Command<'a>, AllocError> {
 }
 
 /// The program's commands.
-pub fn program<'a>(alloc: Global) -> Result<Command<'a>, AllocError> {
+pub fn program<'a>(alloc: Global) -> Result<Command<'a>, AllocError>
+    ensures { IfOk result IsProgram }
+{
     Command::new(alloc, "rinqebo")
         .bin_name("rinqebo")?
         .about("Explain and check the configuration of cargo nextest")

@@ -1,6 +1,9 @@
 //! The request of a user.
+ghost use Rattle.std.specs.List.{list_any};
 ghost use Rattle.std.specs.Prelude.{◌≡◌};
 ghost use Rattle.rinqebo_request.specs.Files.Gathering.{is_discovered, list_named};
+ghost use Rattle.rinqebo_request.specs.NoteTexts.{is_same_setting, may_report};
+ghost use Rattle.rinqebo_request.specs.Requests.{IsListAt, is_input, list_path, reads_input};
 
 use crate::named::ProfileSource;
 use nextest_elements::{ConfigExperimental, NextestRunMode, Setting, ToolName};
@@ -19,7 +22,9 @@ pub enum ListFile<'a> {
 
 impl<'a> ListFile<'a> {
     /// The list at a path that a user writes: `-` is standard input.
-    pub fn at(path: &'a str) -> ListFile<'a> {
+    pub fn at(path: &'a str) -> ListFile<'a>
+        ensures { IsListAt path.entry.now result }
+    {
         match path {
             "-" => ListFile::Input,
             path => ListFile::Named(path),
@@ -27,7 +32,9 @@ impl<'a> ListFile<'a> {
     }
 
     /// The path of the list, as messages show it.
-    pub fn path(self) -> &'a str {
+    pub fn path(self) -> &'a str
+        ensures { result.now ≡ list_path self.entry }
+    {
         match self {
             ListFile::Named(path) => path,
             ListFile::Input => "-",
@@ -65,12 +72,21 @@ pub enum RequestedSettings {
     },
 }
 
+/// Whether a setting is among some.
+fn is_among(settings: &[Setting], setting: Setting) -> bool
+    ensures { result ≡ list_any (λ one. is_same_setting one setting) settings.now }
+{
+    settings.iter().any(|one| one.name() == setting.name())
+}
+
 impl RequestedSettings {
     /// Whether a report lists a setting, if rules decide it.
-    pub fn may_report(&self, setting: Setting) -> bool {
+    pub fn may_report(&self, setting: Setting) -> bool
+        ensures { result ≡ may_report setting self.now }
+    {
         match self {
             RequestedSettings::Decided => true,
-            RequestedSettings::These { settings, .. } => settings.iter().any(|one| *one == setting),
+            RequestedSettings::These { settings, .. } => is_among(settings, setting),
         }
     }
 }
@@ -150,6 +166,13 @@ impl ConfigFile<'_> {
             ConfigFile::Discovered => true,
             ConfigFile::Named(_) | ConfigFile::Input(_) => false,
         }
+    }
+
+    /// Whether the file is standard input.
+    fn is_input(self) -> bool
+        ensures { result ≡ is_input self.entry }
+    {
+        matches!(self, ConfigFile::Input(_))
     }
 }
 
@@ -254,9 +277,10 @@ impl<'a> Request<'a> {
     }
 
     /// Whether the program reads standard input.
-    pub fn reads_input(&self) -> bool {
-        matches!(self.files.config_file, ConfigFile::Input(_))
-            || matches!(self.list(), Some(ListFile::Input))
+    pub fn reads_input(&self) -> bool
+        ensures { result ≡ reads_input self.now }
+    {
+        self.files.config_file.is_input() || matches!(self.list(), Some(ListFile::Input))
     }
 }
 

@@ -1,5 +1,17 @@
 //! The rows of a test that a command line names: whether the test runs, and settings.
+ghost use Rattle.std.specs.List.{filter};
+ghost use Rattle.std.specs.Prelude.{◌≡◌, ◌≢◌, [], true, IfErr, IfOk, OnOk, None, Some, if◌then◌else◌, map};
+ghost use Rattle.nextest_elements.specs.Settings.{settings};
+ghost use Rattle.nextest_elements.specs.declared.setting.Setting.{Setting};
+ghost use Rattle.rinqebo_keys.specs.Keys.{is_named_by, key_text};
+ghost use Rattle.rinqebo_request.specs.Lines.{line_of};
+ghost use Rattle.rinqebo_request.specs.NamedView.{named_view};
+ghost use Rattle.rinqebo_request.specs.Rows.{AreExplainedRows, AreKnownKeys, AreListedRows, IsKnownKey, IsRowOf, all_rows, is_no_row, keys_of, requested, rows_by, with_all, with_key};
+ghost use Rattle.rinqebo_request.specs.Refusals.{IsRefusedWith, SaysNoSetting};
+ghost use Rattle.rinqebo_request.specs.Stops.{IsInvalid, IsRefusedFor};
+
 use crate::hints::key_hint;
+use crate::line::{is_on, value, values};
 use crate::request::RequestedSettings;
 use crate::words::{ParseStop, usage};
 use clap::ArgMatches;
@@ -8,7 +20,9 @@ use rinqebo_keys::{RUNS, run_key, setting_of, settings_of};
 use std::alloc::{AllocError, Global};
 
 /// Why a key names no setting of a test.
-fn no_setting(alloc: Global, key: &str, mode: NextestRunMode) -> Result<ParseStop, AllocError> {
+fn no_setting(alloc: Global, key: &str, mode: NextestRunMode) -> Result<ParseStop, AllocError>
+    ensures { IfOk result (SaysNoSetting mode key.now) }
+{
     if let Some(shown) = run_key(key) {
         let message = format!(in alloc;
             "`{key}` is a setting of the whole run: see `rinqebo show-config {shown}`"
@@ -21,16 +35,27 @@ fn no_setting(alloc: Global, key: &str, mode: NextestRunMode) -> Result<ParseSto
 }
 
 /// The settings that a key names: one, or those of a table.
-fn named_settings(
-    alloc: Global,
-    key: &str,
-    mode: NextestRunMode,
-) -> Result<Vec<Setting>, ParseStop> {
+fn named_settings(alloc: Global, key: &str, mode: NextestRunMode) -> Result<Vec<Setting>, ParseStop>
+    ensures ok { IfOk result (λ named.
+        (named.items ≡ filter (is_named_by key.now mode) settings) × (named.items ≢ [])) }
+    ensures err { IfErr result (IsRefusedWith (filter (is_named_by key.now mode) settings ≡ [])
+        (SaysNoSetting mode key.now)) }
+{
     let settings = settings_of(alloc, key, mode)?;
     if settings.is_empty() {
         return Err(no_setting(alloc, key, mode)?);
     }
     Ok(settings)
+}
+
+/// Why a key is not that of one setting: it is that of a table.
+fn is_table(alloc: Global, option: &str, key: &str) -> Result<ParseStop, AllocError>
+    ensures { IfOk result IsInvalid }
+{
+    let message = format!(in alloc;
+        "`{option}` takes one setting, and `{key}` is a table of them"
+    )?;
+    usage(alloc, message.as_str(), None)
 }
 
 /// The setting that the value of an option names. The option takes one setting.
@@ -39,15 +64,16 @@ pub fn one_setting(
     option: &str,
     key: &str,
     mode: NextestRunMode,
-) -> Result<Setting, ParseStop> {
+) -> Result<Setting, ParseStop>
+    ensures ok { IfOk result (λ setting. key_text setting mode ≡ key.now) }
+    ensures err { IfErr result
+        (IsRefusedFor ((setting : Setting) → key_text setting mode ≢ key.now)) }
+{
     if let Some(setting) = setting_of(alloc, key, mode)? {
         return Ok(setting);
     }
     named_settings(alloc, key, mode)?;
-    let message = format!(in alloc;
-        "`{option}` takes one setting, and `{key}` is a table of them"
-    )?;
-    Err(usage(alloc, message.as_str(), None)?)
+    Err(is_table(alloc, option, key)?)
 }
 
 /// The rows of a test that a user names: whether the test runs, and settings.
@@ -59,41 +85,47 @@ struct NamedRows {
 
 impl NamedRows {
     /// Whether the user names no row.
-    fn is_empty(&self) -> bool {
+    fn is_empty(&self) -> bool
+        ensures { result ≡ is_no_row (named_view self.now) }
+    {
         !self.runs && self.settings.is_empty()
     }
 
     /// Adds the rows that a key names.
-    fn add(&mut self, alloc: Global, key: &str, mode: NextestRunMode) -> Result<(), ParseStop> {
+    fn add(&mut self, alloc: Global, key: &str, mode: NextestRunMode) -> Result<(), ParseStop>
+        ensures { OnOk result ((named_view self.new ≡ with_key mode (named_view self.old) key.now)
+            × IsKnownKey mode key.now) }
+    {
         if key == RUNS {
             self.runs = true;
             return Ok(());
         }
-        for setting in &named_settings(alloc, key, mode)? {
-            self.settings.push(*setting).map_err(AllocError::from)?;
-        }
+        let settings = named_settings(alloc, key, mode)?;
+        self.settings.extend_from_slice(settings.as_slice())?;
         Ok(())
     }
 
-    /// Adds the row that the value of an option names. The option takes one row.
-    fn add_one(
+    /// Adds the rows that keys name.
+    fn add_all(
         &mut self,
         alloc: Global,
-        option: &str,
-        key: &str,
+        keys: &[&str],
         mode: NextestRunMode,
-    ) -> Result<(), ParseStop> {
-        if key == RUNS {
-            self.runs = true;
-            return Ok(());
+    ) -> Result<(), ParseStop>
+        ensures { let names = map (λ key. key.now) keys.now in
+            OnOk result ((named_view self.new ≡ with_all mode (named_view self.old) names)
+            × AreKnownKeys mode names) }
+    {
+        for key in keys {
+            self.add(alloc, *key, mode)?;
         }
-        let setting = one_setting(alloc, option, key, mode)?;
-        self.settings.push(setting).map_err(AllocError::from)?;
         Ok(())
     }
 
     /// The rows, as a request has them.
-    fn requested(self) -> RequestedSettings {
+    fn requested(self) -> RequestedSettings
+        ensures { requested result ≡ Some (named_view self) }
+    {
         let NamedRows { runs, settings } = self;
         RequestedSettings::These { runs, settings }
     }
@@ -104,28 +136,26 @@ fn named_rows(
     alloc: Global,
     matches: &ArgMatches<'_>,
     mode: NextestRunMode,
-) -> Result<NamedRows, ParseStop> {
+) -> Result<NamedRows, ParseStop>
+    ensures { IfOk result (λ named. let keys = keys_of (line_of matches.now) in
+        (named_view named ≡ rows_by mode keys) × AreKnownKeys mode keys) }
+{
     let mut named = NamedRows {
         runs: false,
         settings: Vec::new(alloc),
     };
-    for id in ["KEY", "key"] {
-        for key in matches.get_strs(id).unwrap_or(&[]) {
-            named.add(alloc, *key, mode)?;
-        }
-    }
+    named.add_all(alloc, values(matches, "KEY").unwrap_or(&[]), mode)?;
+    named.add_all(alloc, values(matches, "key").unwrap_or(&[]), mode)?;
     Ok(named)
 }
 
 /// All rows: whether a test runs, and all settings.
-fn all_rows(alloc: Global) -> Result<RequestedSettings, AllocError> {
-    let mut settings = Vec::new(alloc);
-    for setting in Setting::ALL.iter() {
-        settings.push(*setting)?;
-    }
+fn all_rows(alloc: Global) -> Result<RequestedSettings, AllocError>
+    ensures { IfOk result (λ rows. requested rows ≡ Some all_rows) }
+{
     Ok(RequestedSettings::These {
         runs: true,
-        settings,
+        settings: Vec::from_slice(alloc, &Setting::ALL)?,
     })
 }
 
@@ -134,7 +164,9 @@ pub fn explained_rows(
     alloc: Global,
     matches: &ArgMatches<'_>,
     mode: NextestRunMode,
-) -> Result<RequestedSettings, ParseStop> {
+) -> Result<RequestedSettings, ParseStop>
+    ensures { IfOk result (AreExplainedRows mode (line_of matches.now)) }
+{
     let named = named_rows(alloc, matches, mode)?;
     if named.is_empty() {
         return Ok(all_rows(alloc)?);
@@ -142,28 +174,89 @@ pub fn explained_rows(
     Ok(named.requested())
 }
 
+/// The row that the value of an option names. The option takes one row.
+fn one_row(
+    alloc: Global,
+    option: &str,
+    key: &str,
+    mode: NextestRunMode,
+) -> Result<RequestedSettings, ParseStop>
+    ensures { IfOk result (IsRowOf mode key.now) }
+{
+    if key == RUNS {
+        return Ok(RequestedSettings::These {
+            runs: true,
+            settings: Vec::new(alloc),
+        });
+    }
+    let setting = one_setting(alloc, option, key, mode)?;
+    Ok(RequestedSettings::These {
+        runs: false,
+        settings: Vec::from_slice(alloc, &[setting])?,
+    })
+}
+
+/// The requested rows of each test if the user requests all.
+fn all_listed(
+    alloc: Global,
+    named: &NamedRows,
+    by: Option<&str>,
+) -> Result<RequestedSettings, ParseStop>
+    ensures { IfOk result (λ rows. (is_no_row (named_view named.now) ≡ true) × (by.entry ≡ None)
+        × (requested rows ≡ Some all_rows)) }
+{
+    if !named.is_empty() {
+        return Err(usage(alloc, "`--all` cannot be used with KEYs", None)?);
+    }
+    if by.is_some() {
+        return Err(usage(alloc, "`--by` cannot be used with KEYs", None)?);
+    }
+    Ok(all_rows(alloc)?)
+}
+
+/// The requested row of each test if the user groups the tests by its value.
+fn grouping_row(
+    alloc: Global,
+    named: &NamedRows,
+    key: &str,
+    mode: NextestRunMode,
+) -> Result<RequestedSettings, ParseStop>
+    ensures { IfOk result (λ rows. (is_no_row (named_view named.now) ≡ true)
+        × IsRowOf mode key.now rows) }
+{
+    if !named.is_empty() {
+        return Err(usage(alloc, "`--by` cannot be used with KEYs", None)?);
+    }
+    one_row(alloc, "--by", key, mode)
+}
+
+/// The rows that the user names, or if there are none, the settings that rules decide.
+fn named_or_decided(named: NamedRows) -> RequestedSettings
+    ensures { requested result
+        ≡ (if is_no_row (named_view named) then None else Some (named_view named)) }
+{
+    if named.is_empty() {
+        RequestedSettings::Decided
+    } else {
+        named.requested()
+    }
+}
+
 /// The requested rows of each test: if the user names none, the settings that rules decide.
 pub fn listed_rows(
     alloc: Global,
     matches: &ArgMatches<'_>,
     mode: NextestRunMode,
-) -> Result<RequestedSettings, ParseStop> {
-    let mut named = named_rows(alloc, matches, mode)?;
-    let is_all = matches.get_flag("all");
-    if is_all && !named.is_empty() {
-        return Err(usage(alloc, "`--all` cannot be used with KEYs", None)?);
+) -> Result<RequestedSettings, ParseStop>
+    ensures { IfOk result (AreListedRows mode (line_of matches.now)) }
+{
+    let named = named_rows(alloc, matches, mode)?;
+    let by = value(matches, "by");
+    if is_on(matches, "all") {
+        return all_listed(alloc, &named, by);
     }
-    if let Some(key) = matches.get_str("by") {
-        if is_all || !named.is_empty() {
-            return Err(usage(alloc, "`--by` cannot be used with KEYs", None)?);
-        }
-        named.add_one(alloc, "--by", key, mode)?;
+    match by {
+        Some(key) => grouping_row(alloc, &named, key, mode),
+        None => Ok(named_or_decided(named)),
     }
-    if is_all {
-        return Ok(all_rows(alloc)?);
-    }
-    if named.is_empty() {
-        return Ok(RequestedSettings::Decided);
-    }
-    Ok(named.requested())
 }

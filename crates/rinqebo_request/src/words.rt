@@ -1,11 +1,25 @@
 //! Reads a command line.
-ghost use Rattle.std.specs.Prelude.{◌≤◌};
+ghost use Rattle.std.specs.List.{AllZip};
+ghost use Rattle.std.specs.Option.{option_or};
+ghost use Rattle.std.specs.Prelude.{◌≡◌, ◌≢◌, ◌++◌, ◌∷◌, ◌&&◌, [], IfErr, IfOk, IfSome, None, OnOk, codes, is_some, map, not, option_map, string_bytes};
+ghost use Rattle.clap.specs.Simple.{subcommand_of, subcommand_rows_of};
+ghost use Rattle.clap.specs.Values.{kind_of};
+ghost use Rattle.nextest_elements.specs.Identifier.{IsPart};
+ghost use Rattle.nextest_elements.specs.IdentifierText.{tool_name_text};
+ghost use Rattle.rinqebo_request.specs.ArgumentTable.{AreProgramChoices, ProgramChoices, program_app};
+ghost use Rattle.rinqebo_request.specs.Lines.{line_of, value_at, values_at};
+ghost use Rattle.rinqebo_request.specs.Requests.{AreEnginesOf, AreFilesOf, IsCommandOf, IsConfigOf, IsListOf, IsListRequest, IsListing, IsNamedCommand, IsSchemaBy, IsShowRequest, IsToolNamed, LacksTarget, mode_by, mode_of, profile_of, source_by, source_of};
+ghost use Rattle.rinqebo_request.specs.Variables.{text_set};
+ghost use Rattle.rinqebo_request.specs.Stops.{IsInvalid, IsRefusedFor, IsStopFor, IsToolRefusal, IsUsage};
 
+use crate::check_words::check_command;
 use crate::environment::{Environment, set};
-use crate::features::{FEATURES, feature_of};
-use crate::hints::name_hint;
+use crate::line::{is_on, value, values};
 use crate::named::ProfileSource;
+pub use crate::named_features::features;
 use crate::options::program;
+use crate::pages::list_format;
+pub use crate::pages::{format, paper};
 use crate::request::{
     Command, ConfigFile, EngineOptions, FileOptions, ListFile, Question, Request, ToolFile,
 };
@@ -13,16 +27,8 @@ use crate::rows::listed_rows;
 use crate::test_words::explain_request;
 use clap::ArgMatches;
 use clap::error::ErrorKind;
-use nextest_elements::{ConfigExperimental, InvalidIdentifier, NextestRunMode, ToolName};
-use rinqebo_report::{CODES, Code, Colour, Format, Paper, find_code};
+use nextest_elements::{InvalidIdentifier, NextestRunMode, ToolName};
 use std::alloc::{AllocError, Global};
-use std::collections::BTreeSet;
-
-/// How many columns a line of a page has if no variable says so.
-const COLUMNS: usize = 80;
-
-/// The least number of columns that a line of a page may have.
-const LEAST_COLUMNS: usize = 20;
 
 /// Why a command line is not a request.
 #[derive(Debug, Drop)]
@@ -36,88 +42,138 @@ pub enum ParseStop {
 }
 
 impl From<AllocError> for ParseStop {
+    ghost use Rattle.std.specs.Prelude.{◌≡◌};
+    ghost use Rattle.rinqebo_request.specs.declared.words.ParseStop.TheVariants.{Memory};
+
+    ghost from_gives = { λ _ stop. stop ≡ Memory };
+
     fn from(_error: AllocError) -> ParseStop {
         ParseStop::Memory
     }
 }
 
 /// A usage error, with a hint if there is one.
-pub fn usage(alloc: Global, message: &str, hint: Option<String>) -> Result<ParseStop, AllocError> {
+pub fn usage(alloc: Global, message: &str, hint: Option<String>) -> Result<ParseStop, AllocError>
+    ensures text { IfOk result (IsUsage message.now (option_map string_bytes hint)) }
+    ensures invalid { IfOk result IsInvalid }
+{
     match hint {
         Some(hint) => Ok(ParseStop::Usage(format!(in alloc; "error: {message}\n  {hint}\n")?)),
         None => Ok(ParseStop::Usage(format!(in alloc; "error: {message}\n")?)),
     }
 }
 
+/// What clap says in place of what it reads: help, or why a command line is not valid.
+fn stop_with(kind: ErrorKind, text: String) -> ParseStop
+    ensures { kind ≢ ErrorKind.OutOfMemory → IsStopFor kind result }
+{
+    match kind {
+        ErrorKind::DisplayHelp | ErrorKind::DisplayVersion => ParseStop::Help(text),
+        _ => ParseStop::Usage(text),
+    }
+}
+
 /// Why the command line was not read.
-pub fn stop_of(alloc: Global, error: &clap::Error) -> Result<ParseStop, AllocError> {
+pub fn stop_of(alloc: Global, error: &clap::Error) -> Result<ParseStop, AllocError>
+    ensures { IfOk result (IsStopFor (kind_of error.now)) }
+{
     match error.kind() {
         ErrorKind::OutOfMemory => Ok(ParseStop::Memory),
-        ErrorKind::DisplayHelp | ErrorKind::DisplayVersion => {
-            Ok(ParseStop::Help(error.to_string(alloc)?))
-        }
-        _ => Ok(ParseStop::Usage(error.to_string(alloc)?)),
+        kind => Ok(stop_with(kind, error.to_string(alloc)?)),
+    }
+}
+
+/// Why a text is not the name of a tool.
+fn no_tool_name(
+    alloc: Global,
+    name: &str,
+    fault: &InvalidIdentifier,
+) -> Result<ParseStop, AllocError>
+    ensures { IfOk result IsInvalid }
+{
+    let message = format!(in alloc; "`{name}` is not a valid tool name: {fault}")?;
+    usage(alloc, message.as_str(), None)
+}
+
+/// Why a name is not that of a tool: a text that is not one, or that memory ran out.
+fn tool_refusal(
+    alloc: Global,
+    name: &str,
+    fault: &InvalidIdentifier,
+) -> Result<ParseStop, AllocError>
+    ensures { IfOk result (IsToolRefusal fault.now) }
+{
+    match fault {
+        InvalidIdentifier::Memory => Ok(ParseStop::Memory),
+        _ => no_tool_name(alloc, name, fault),
     }
 }
 
 /// The name of a tool.
-fn tool_name(alloc: Global, name: &str) -> Result<ToolName, ParseStop> {
+fn tool_name(alloc: Global, name: &str) -> Result<ToolName, ParseStop>
+    ensures ok { IfOk result (λ tool. tool_name_text tool ≡ name.now) }
+    ensures err { IfErr result (IsRefusedFor (¬ IsPart name.now)) }
+{
     match ToolName::new(alloc, name) {
         Ok(tool) => Ok(tool),
-        Err(InvalidIdentifier::Memory) => Err(ParseStop::Memory),
-        Err(fault) => {
-            let message = format!(in alloc; "`{name}` is not a valid tool name: {fault}")?;
-            Err(usage(alloc, message.as_str(), None)?)
-        }
+        Err(fault) => Err(tool_refusal(alloc, name, &fault)?),
     }
 }
 
+/// What is before the first colon of a text, and behind it.
+fn cut_at_colon(text: &str) -> Option<(&str, &str)>
+    ensures { IfSome result (λ parts. text.now ≡ parts.0.now ++ 58 ∷ parts.1.now) }
+{
+    text.split_once(':')
+}
+
+/// The same, if something is behind the colon.
+fn split_at_colon(text: &str) -> Option<(&str, &str)>
+    ensures { IfSome result (λ parts. (text.now ≡ parts.0.now ++ 58 ∷ parts.1.now)
+        × (parts.1.now ≢ [])) }
+{
+    let (tool, path) = cut_at_colon(text)?;
+    if path.is_empty() {
+        return None;
+    }
+    Some((tool, path))
+}
+
 /// The file of a tool, from the value of its option.
-fn tool_file<'a>(alloc: Global, value: &'a str) -> Result<ToolFile<'a>, ParseStop> {
-    match value.split_once(':') {
-        Some((tool, path)) if !path.is_empty() => Ok(ToolFile {
+fn tool_file<'a>(alloc: Global, value: &'a str) -> Result<ToolFile<'a>, ParseStop>
+    ensures { IfOk result (IsToolNamed value.entry.now) }
+{
+    match split_at_colon(value) {
+        Some((tool, path)) => Ok(ToolFile {
             tool: tool_name(alloc, tool)?,
             path,
         }),
-        _ => {
+        None => {
             let message = format!(in alloc; "`{value}` is not of the form TOOL:PATH")?;
             Err(usage(alloc, message.as_str(), None)?)
         }
     }
 }
 
-/// The files of tools, from the values of their option.
-pub fn tool_files<'a>(alloc: Global, values: &[&'a str]) -> Result<Vec<ToolFile<'a>>, ParseStop> {
-    let mut tools = Vec::new(alloc);
-    for value in values {
-        tools
-            .push(tool_file(alloc, *value)?)
-            .map_err(AllocError::from)?;
-    }
-    Ok(tools)
+/// Adds the file of a tool.
+fn add_file<'a>(tools: &mut Vec<ToolFile<'a>>, file: ToolFile<'a>) -> Result<(), AllocError>
+    ensures { OnOk result (tools.new.items ≡ tools.old.items ++ file.entry ∷ []) }
+{
+    tools.push(file)?;
+    Ok(())
 }
 
-/// The experimental features that variables and options enable.
-pub fn features(
-    alloc: Global,
-    matches: &ArgMatches<'_>,
-    environment: &Environment,
-) -> Result<BTreeSet<ConfigExperimental>, ParseStop> {
-    let mut features = BTreeSet::new(alloc);
-    for feature in FEATURES.iter() {
-        if environment.switches_on(*feature) {
-            features.insert(*feature).map_err(AllocError::from)?;
-        }
+/// The files of tools, from the values of their option.
+pub fn tool_files<'a>(alloc: Global, values: &[&'a str]) -> Result<Vec<ToolFile<'a>>, ParseStop>
+    ensures { IfOk result (λ tools. AllZip IsToolNamed (map (λ value. value.now) values.now)
+        tools.items) }
+{
+    let mut tools = Vec::new(alloc);
+    for value in values {
+        let file = tool_file(alloc, *value)?;
+        add_file(&mut tools, file)?;
     }
-    for name in matches.get_strs("experimental").unwrap_or(&[]) {
-        let Some(feature) = feature_of(*name) else {
-            let message = format!(in alloc; "unknown experimental feature `{name}`")?;
-            let hint = name_hint(alloc, *name, &["setup-scripts", "wrapper-scripts"])?;
-            return Err(usage(alloc, message.as_str(), hint)?);
-        };
-        features.insert(feature).map_err(AllocError::from)?;
-    }
-    Ok(features)
+    Ok(tools)
 }
 
 /// The files that options name, with the repository's file.
@@ -125,54 +181,49 @@ pub fn files<'a>(
     alloc: Global,
     matches: &ArgMatches<'a>,
     config_file: ConfigFile<'a>,
-) -> Result<FileOptions<'a>, ParseStop> {
+) -> Result<FileOptions<'a>, ParseStop>
+    ensures { IfOk result (AreFilesOf (λ file. file ≡ config_file.entry) (line_of matches.now)) }
+{
     Ok(FileOptions {
-        root: matches.get_str("root"),
+        root: value(matches, "root"),
         config_file,
-        organisation_config_file: matches.get_str("organisation-config-file"),
-        tools: tool_files(alloc, matches.get_strs("tool-config-file").unwrap_or(&[]))?,
+        organisation_config_file: value(matches, "organisation-config-file"),
+        tools: tool_files(alloc, values(matches, "tool-config-file").unwrap_or(&[]))?,
     })
 }
 
 /// The repository's file that an option names.
-pub fn named_file<'a>(matches: &ArgMatches<'a>) -> ConfigFile<'a> {
-    match matches.get_str("config-file") {
+pub fn named_file<'a>(matches: &ArgMatches<'a>) -> ConfigFile<'a>
+    ensures { IsConfigOf (line_of matches.now) result }
+{
+    match value(matches, "config-file") {
         Some(path) => ConfigFile::Named(path),
         None => ConfigFile::Discovered,
     }
 }
 
-/// The repository's file that a user names for a check, by FILE or by its option. Only standard
-/// input takes `--stdin-path`.
-fn checked_file<'a>(alloc: Global, matches: &ArgMatches<'a>) -> Result<ConfigFile<'a>, ParseStop> {
-    let file = matches.get_str("FILE");
-    let shown = matches.get_str("stdin-path");
-    if file.is_some() && matches.contains_id("config-file") {
-        return Err(usage(alloc, "FILE cannot be used with `--config-file`", None)?);
-    }
-    match (file, shown) {
-        (Some("-"), shown) => Ok(ConfigFile::Input(shown.unwrap_or("-"))),
-        (_, Some(_)) => {
-            let message = "`--stdin-path` goes with `-`, which stands for standard input";
-            Err(usage(alloc, message, None)?)
-        }
-        (Some(path), None) => Ok(ConfigFile::Named(path)),
-        (None, None) => Ok(named_file(matches)),
+/// What options say of platforms and packages. A list of tests may name the target, so that the
+/// program decides later whether there is one.
+pub fn engines<'a>(matches: &ArgMatches<'a>, environment: &'a Environment) -> EngineOptions<'a>
+    ensures { AreEnginesOf environment.now (line_of matches.now) result }
+{
+    EngineOptions {
+        host: value(matches, "host"),
+        rustc_version: value(matches, "rustc-version"),
+        target: value(matches, "target"),
+        build_target: set(&environment.target),
+        host_cfg: value(matches, "host-cfg"),
+        target_cfg: value(matches, "target-cfg"),
+        metadata: value(matches, "metadata"),
     }
 }
 
-/// What options say of platforms and packages. A list of tests may name the target, so that the
-/// program decides later whether there is one.
-pub fn engines<'a>(matches: &ArgMatches<'a>, environment: &'a Environment) -> EngineOptions<'a> {
-    EngineOptions {
-        host: matches.get_str("host"),
-        rustc_version: matches.get_str("rustc-version"),
-        target: matches.get_str("target"),
-        build_target: set(&environment.target),
-        host_cfg: matches.get_str("host-cfg"),
-        target_cfg: matches.get_str("target-cfg"),
-        metadata: matches.get_str("metadata"),
-    }
+/// Whether there is no target for the compiler's output that an option names.
+fn lacks_target(engines: &EngineOptions<'_>) -> bool
+    ensures { result ≡ (is_some engines.now.target_cfg
+        && not (is_some (option_or engines.now.target engines.now.build_target))) }
+{
+    engines.target_cfg.is_some() && engines.target.or(engines.build_target).is_none()
 }
 
 /// The same for a command without a list. `--target-cfg` needs a target.
@@ -180,80 +231,23 @@ pub fn target_engines<'a>(
     alloc: Global,
     matches: &ArgMatches<'a>,
     environment: &'a Environment,
-) -> Result<EngineOptions<'a>, ParseStop> {
+) -> Result<EngineOptions<'a>, ParseStop>
+    ensures ok { IfOk result (λ engines. AreEnginesOf environment.now (line_of matches.now) engines
+        × ¬ LacksTarget environment.now (line_of matches.now)) }
+    ensures err { IfErr result
+        (IsRefusedFor (LacksTarget environment.now (line_of matches.now))) }
+{
     let engines = engines(matches, environment);
-    let has_target = engines.target.or(engines.build_target).is_some();
-    if engines.target_cfg.is_some() && !has_target {
+    if lacks_target(&engines) {
         return Err(usage(alloc, "`--target-cfg` goes with `--target`", None)?);
     }
     Ok(engines)
 }
 
-/// What options say of packages, for a command that is about no test.
-fn file_engines<'a>(matches: &ArgMatches<'a>) -> EngineOptions<'a> {
-    EngineOptions {
-        host: None,
-        rustc_version: None,
-        target: None,
-        build_target: None,
-        host_cfg: None,
-        target_cfg: None,
-        metadata: matches.get_str("metadata"),
-    }
-}
-
-/// The format of the output.
-pub fn format<'a>(matches: &ArgMatches<'a>, environment: &'a Environment) -> Format<'a> {
-    match matches.get_str("format") {
-        Some("json") => Format::Json,
-        Some("short" | "concise") => Format::Concise,
-        Some("github") => Format::Github(set(&environment.workflow_folder).unwrap_or("")),
-        _ => Format::Text,
-    }
-}
-
-/// Whether the output has colours.
-fn colour(matches: &ArgMatches<'_>, environment: &Environment) -> Colour {
-    let when = matches
-        .get_str("color")
-        .or(set(&environment.colour))
-        .unwrap_or("auto");
-    let is_coloured = match when {
-        "always" => true,
-        "never" => false,
-        _ => environment.is_terminal && set(&environment.no_colour).is_none(),
-    };
-    if is_coloured {
-        Colour::Coloured
-    } else {
-        Colour::Plain
-    }
-}
-
-/// How many columns a line of a page has: those of `COLUMNS`, if that is a number that is large
-/// enough.
-fn columns(environment: &Environment) -> usize
-    ensures { 20 ≤ result }
-{
-    let Some(text) = set(&environment.columns) else {
-        return COLUMNS;
-    };
-    match text.parse::<usize>() {
-        Ok(columns) if columns >= LEAST_COLUMNS => columns,
-        _ => COLUMNS,
-    }
-}
-
-/// Whether the output has colours, and how many columns its lines have.
-pub fn paper(matches: &ArgMatches<'_>, environment: &Environment) -> Paper {
-    Paper {
-        colour: colour(matches, environment),
-        columns: columns(environment),
-    }
-}
-
 /// The mode that a word names.
-pub fn mode_of(word: &str) -> NextestRunMode {
+pub fn mode_of(word: &str) -> NextestRunMode
+    ensures { result ≡ mode_by word.now }
+{
     match word {
         "benchmark" => NextestRunMode::Benchmark,
         _ => NextestRunMode::Test,
@@ -261,26 +255,48 @@ pub fn mode_of(word: &str) -> NextestRunMode {
 }
 
 /// The requested mode.
-pub fn mode(matches: &ArgMatches<'_>) -> NextestRunMode {
-    mode_of(matches.get_str("mode").unwrap_or("test"))
+pub fn mode(matches: &ArgMatches<'_>) -> NextestRunMode
+    ensures { result ≡ mode_of (line_of matches.now) }
+{
+    mode_of(value(matches, "mode").unwrap_or("test"))
 }
 
 /// The requested profile.
-pub fn profile<'a>(matches: &ArgMatches<'a>, environment: &'a Environment) -> &'a str {
-    matches
-        .get_str("profile")
+pub fn profile<'a>(matches: &ArgMatches<'a>, environment: &'a Environment) -> &'a str
+    ensures { result.now ≡ profile_of environment.now (line_of matches.now) }
+{
+    value(matches, "profile")
         .or(set(&environment.profile))
         .unwrap_or("default")
 }
 
+/// What names the profile of a command line that does not.
+fn source_unnamed(environment: &Environment) -> ProfileSource
+    ensures { result ≡ source_by None (text_set environment.now.profile) }
+{
+    match set(&environment.profile) {
+        Some(_) => ProfileSource::Variable,
+        None => ProfileSource::Fallback,
+    }
+}
+
 /// What names the requested profile.
-pub fn profile_source(matches: &ArgMatches<'_>, environment: &Environment) -> ProfileSource {
-    if matches.get_str("profile").is_some() {
-        ProfileSource::CommandLine
-    } else if set(&environment.profile).is_some() {
-        ProfileSource::Variable
-    } else {
-        ProfileSource::Fallback
+pub fn profile_source(matches: &ArgMatches<'_>, environment: &Environment) -> ProfileSource
+    ensures { result ≡ source_of environment.now (line_of matches.now) }
+{
+    match value(matches, "profile") {
+        Some(_) => ProfileSource::CommandLine,
+        None => source_unnamed(environment),
+    }
+}
+
+/// The list of tests of the command `list`.
+fn tests_list<'a>(matches: &ArgMatches<'a>) -> ListFile<'a>
+    ensures { IsListOf (value_at (codes "LIST") (line_of matches.now)) result }
+{
+    match value(matches, "LIST") {
+        Some(path) => ListFile::at(path),
+        None => ListFile::Input,
     }
 }
 
@@ -289,25 +305,16 @@ fn list_question<'a>(
     alloc: Global,
     matches: &ArgMatches<'a>,
     environment: &'a Environment,
-) -> Result<Question<'a>, ParseStop> {
+) -> Result<Question<'a>, ParseStop>
+    ensures { IfOk result (IsListing environment.now (line_of matches.now)) }
+{
     let mode = mode(matches);
-    let list = matches
-        .get_str("LIST")
-        .map_or(ListFile::Input, ListFile::at);
     Ok(Question::List {
         profile: profile(matches, environment),
         mode,
-        list,
+        list: tests_list(matches),
         asked: listed_rows(alloc, matches, mode)?,
     })
-}
-
-/// The format of the output of `list`.
-fn list_format<'a>(matches: &ArgMatches<'a>, environment: &'a Environment) -> Format<'a> {
-    match format(matches, environment) {
-        Format::Text if matches.contains_id("by") => Format::Grouped,
-        format => format,
-    }
 }
 
 /// The request of the command `list`.
@@ -315,7 +322,9 @@ fn list_request<'a>(
     alloc: Global,
     matches: &ArgMatches<'a>,
     environment: &'a Environment,
-) -> Result<Request<'a>, ParseStop> {
+) -> Result<Request<'a>, ParseStop>
+    ensures { IfOk result (IsListRequest environment.now (line_of matches.now)) }
+{
     Ok(Request {
         question: list_question(alloc, matches, environment)?,
         profile_source: profile_source(matches, environment),
@@ -329,8 +338,11 @@ fn list_request<'a>(
 }
 
 /// The KEYs of `show-config`.
-fn leaf_keys<'a>(alloc: Global, matches: &ArgMatches<'a>) -> Result<Vec<&'a str>, AllocError> {
-    Vec::from_slice(alloc, matches.get_strs("KEY").unwrap_or(&[]))
+fn leaf_keys<'a>(alloc: Global, matches: &ArgMatches<'a>) -> Result<Vec<&'a str>, AllocError>
+    ensures { IfOk result (λ keys. map (λ key. key.now) keys.items
+        ≡ values_at (codes "KEY") (line_of matches.now)) }
+{
+    Vec::from_slice(alloc, values(matches, "KEY").unwrap_or(&[]))
 }
 
 /// The request of the command `show-config`.
@@ -338,12 +350,14 @@ fn show_request<'a>(
     alloc: Global,
     matches: &ArgMatches<'a>,
     environment: &'a Environment,
-) -> Result<Request<'a>, ParseStop> {
+) -> Result<Request<'a>, ParseStop>
+    ensures { IfOk result (IsShowRequest environment.now (line_of matches.now)) }
+{
     Ok(Request {
         question: Question::ShowConfig {
             profile: profile(matches, environment),
             keys: leaf_keys(alloc, matches)?,
-            with_hidden: matches.get_flag("hidden"),
+            with_hidden: is_on(matches, "hidden"),
         },
         profile_source: profile_source(matches, environment),
         files: files(alloc, matches, named_file(matches))?,
@@ -355,78 +369,32 @@ fn show_request<'a>(
     })
 }
 
-/// Whether a check with warnings ends with status 1.
-fn denies_warnings(alloc: Global, matches: &ArgMatches<'_>) -> Result<bool, ParseStop> {
-    match matches.get_str("deny") {
-        Some("warnings") => Ok(true),
-        Some(_) => Err(usage(alloc, "`--deny` takes `warnings`", None)?),
-        None => Ok(matches.get_flag("deny-warnings")),
-    }
-}
-
-/// The words of all codes.
-fn code_words(alloc: Global) -> Result<Vec<&'static str>, AllocError> {
-    let mut words = Vec::new(alloc);
-    for code in CODES.iter() {
-        words.push(code.word())?;
-    }
-    Ok(words)
-}
-
-/// The code of a word.
-fn code_named(alloc: Global, word: &str) -> Result<Code, ParseStop> {
-    match find_code(word) {
-        Some(code) => Ok(code),
-        None => {
-            let message = format!(in alloc; "no code is `{word}`: `--codes` lists all")?;
-            let hint = name_hint(alloc, word, &code_words(alloc)?)?;
-            Err(usage(alloc, message.as_str(), hint)?)
-        }
-    }
-}
-
-/// What a command line of `check` requests.
-fn check_command<'a>(
-    alloc: Global,
-    matches: &ArgMatches<'a>,
-    environment: &'a Environment,
-) -> Result<Command<'a>, ParseStop> {
-    if let Some(word) = matches.get_str("explain") {
-        return Ok(Command::CodePage(code_named(alloc, word)?));
-    }
-    if matches.get_flag("codes") {
-        return Ok(Command::Codes);
-    }
-    let request = check_request(alloc, matches, environment)?;
-    Ok(Command::Answer(request))
-}
-
-/// The request of the command `check`.
-fn check_request<'a>(
-    alloc: Global,
-    matches: &ArgMatches<'a>,
-    environment: &'a Environment,
-) -> Result<Request<'a>, ParseStop> {
-    Ok(Request {
-        question: Question::Check {
-            deny_warnings: denies_warnings(alloc, matches)?,
-        },
-        profile_source: ProfileSource::Fallback,
-        files: files(alloc, matches, checked_file(alloc, matches)?)?,
-        engines: file_engines(matches),
-        features: features(alloc, matches, environment)?,
-        format: format(matches, environment),
-        paper: paper(matches, environment),
-        shows_progress: false,
-    })
-}
-
 /// The schema that a command line names.
-fn schema_command<'a>(matches: &ArgMatches<'a>) -> Command<'a> {
-    if matches.get_flag("document") {
+fn schema_command<'a>(matches: &ArgMatches<'a>) -> Command<'a>
+    ensures { IsSchemaBy (line_of matches.now) result }
+{
+    if is_on(matches, "document") {
         Command::DocumentSchema
     } else {
         Command::Schema
+    }
+}
+
+/// The command of a command line behind a name.
+fn named_command<'a>(
+    alloc: Global,
+    name: &str,
+    matches: &ArgMatches<'a>,
+    environment: &'a Environment,
+) -> Result<Command<'a>, ParseStop>
+    ensures { IfOk result (IsNamedCommand environment.now name.now (line_of matches.now)) }
+{
+    match name {
+        "explain" => Ok(Command::Answer(explain_request(alloc, matches, environment)?)),
+        "list" => Ok(Command::Answer(list_request(alloc, matches, environment)?)),
+        "show-config" => Ok(Command::Answer(show_request(alloc, matches, environment)?)),
+        "schema" => Ok(schema_command(matches)),
+        _ => check_command(alloc, matches, environment),
     }
 }
 
@@ -435,16 +403,13 @@ pub fn command_of<'a>(
     alloc: Global,
     matches: &ArgMatches<'a>,
     environment: &'a Environment,
-) -> Result<Command<'a>, ParseStop> {
-    let request = match matches.subcommand() {
-        Some(("explain", matches)) => explain_request(alloc, matches, environment)?,
-        Some(("list", matches)) => list_request(alloc, matches, environment)?,
-        Some(("show-config", matches)) => show_request(alloc, matches, environment)?,
-        Some(("schema", matches)) => return Ok(schema_command(matches)),
-        Some((_, matches)) => return check_command(alloc, matches, environment),
-        None => return Err(usage(alloc, "no command", None)?),
-    };
-    Ok(Command::Answer(request))
+) -> Result<Command<'a>, ParseStop>
+    ensures { IfOk result (IsCommandOf environment.now (subcommand_rows_of matches.now)) }
+{
+    match matches.subcommand() {
+        Some((name, matches)) => named_command(alloc, name, matches, environment),
+        None => Err(usage(alloc, "no command", None)?),
+    }
 }
 
 /// Reads a command line, which begins with the program's name, and the environment.
@@ -452,7 +417,11 @@ pub fn parse<'a>(
     alloc: Global,
     words: &'a [String],
     environment: &'a Environment,
-) -> Result<Command<'a>, ParseStop> {
+) -> Result<Command<'a>, ParseStop>
+    ensures { IfOk result (λ command. (choices : ProgramChoices) × AreProgramChoices choices
+        × IsCommandOf environment.now
+        (subcommand_of (program_app choices) (map string_bytes words.now)) command) }
+{
     match program(alloc)?.try_get_matches_from(words) {
         Ok(matches) => command_of(alloc, &matches, environment),
         Err(error) => Err(stop_of(alloc, &error)?),

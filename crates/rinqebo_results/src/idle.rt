@@ -4,7 +4,9 @@ use rinqebo_findings::warning_findings;
 use rinqebo_keys::SettingKey;
 use rinqebo_load::Session;
 use rinqebo_origins::idle_grounds;
-use rinqebo_report::{Asked, Code, Content, Finding, Level, Origin, SettingRow, Written};
+use rinqebo_report::{
+    Asked, Code, Content, Finding, FindingStep, Level, Origin, SettingRow, Written,
+};
 use rinqebo_request::Layer;
 use std::alloc::{AllocError, Global};
 
@@ -53,6 +55,17 @@ fn names_of<'c>(alloc: Global, chain: &'c [String]) -> Result<Vec<&'c str>, Allo
     Ok(names)
 }
 
+/// The steps to a setting of a profile, whose key is spelled with dots between the keys of tables.
+fn steps_to(alloc: Global, profile: &str, key: &str) -> Result<Vec<FindingStep>, AllocError> {
+    let mut steps = Vec::new(alloc);
+    steps.push(FindingStep::Key(String::from_str(alloc, "profile")?))?;
+    steps.push(FindingStep::Key(String::from_str(alloc, profile)?))?;
+    for part in key.split('.') {
+        steps.push(FindingStep::Key(String::from_str(alloc, part)?))?;
+    }
+    Ok(steps)
+}
+
 /// The warning that what a file writes at a key of the JUnit report has no effect.
 fn idle_finding(alloc: Global, written: &Written, key: &str) -> Result<Finding, AllocError> {
     let profile = written.profile.as_str();
@@ -62,6 +75,7 @@ fn idle_finding(alloc: Global, written: &Written, key: &str) -> Result<Finding, 
     let mut found = Finding::new(alloc, Level::Warning, code, message);
     found.place = Some(written.place);
     found.path = Some(path);
+    found.steps = steps_to(alloc, profile, key)?;
     Ok(found)
 }
 

@@ -32,7 +32,6 @@ pub use condition_texts::{
 pub use leaves::{entries_in, show};
 pub use list_page::RequestedList;
 pub use list_report::{Profile, list, profile_on};
-pub use list_scripts::scripts_of_list;
 pub use list_stop::ListStop;
 pub use list_text::write_list;
 pub use looked_up::config_looked_up;

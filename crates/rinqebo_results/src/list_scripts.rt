@@ -15,24 +15,8 @@ use filter_engine::NextestTally;
 use nextest_elements::NextestRunMode;
 use rinqebo_load::Session;
 use rinqebo_report::ListScripts;
-use rinqebo_rules::{UsedRules, scripts_by, scripts_of};
+use rinqebo_rules::{UsedRules, scripts_by};
 use std::alloc::{AllocError, Global};
-
-/// The scripts that a profile gives to the list of a session.
-pub fn scripts_of_list(
-    alloc: Global,
-    session: &Session<'_>,
-    profile: &Profile<'_>,
-) -> Result<ListScripts, AllocError>
-    ensures { let list = list_view session.now.tests in
-        IfOk result (AreScriptsReported filter_holds filter_holds_binary
-        (profile_meaning (marks_view names_of) profile.now) (all_tests list) (all_binaries list)) }
-{
-    let tests = session.tests.queries(alloc)?;
-    let binaries = session.tests.binary_queries(alloc)?;
-    let mut tally = NextestTally::new();
-    scripts_of(alloc, profile, &tests, &binaries, &mut tally)
-}
 
 /// The scripts that a profile gives to the list of a session, by the rules that hold for some of its
 /// tests. No filter is evaluated for a test.

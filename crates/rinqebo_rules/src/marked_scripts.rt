@@ -14,20 +14,8 @@ use crate::unused::is_marked;
 use nextest_engines::{Filters, Specs};
 use nextest_load::ScriptConfig;
 use nextest_scripts::ScriptId;
-use nextest_settings::EvaluatedScriptRule;
+use nextest_settings::{EvaluatedScriptRule, names_script};
 use std::alloc::{AllocError, Global};
-
-/// Whether a rule names a script.
-fn names_script(setup: &[ScriptId], id: &ScriptId) -> bool
-    ensures { result ≡ is_one_of (map script_text setup.now) (script_text id.now) }
-{
-    for named in setup {
-        if named == id {
-            return true;
-        }
-    }
-    false
-}
 
 /// Whether the script rule of a number is marked and names a script.
 fn is_marked_for<F: Filters, S: Specs>(

@@ -172,9 +172,12 @@ pub const REPORTS: &str = r##"{
           "minimum": 1
         },
         "path": {
-          "description": "The keys that lead to the value.",
-          "type": "string",
-          "minLength": 1
+          "description": "The keys and the positions that lead to the value.",
+          "type": "array",
+          "items": {
+            "anyOf": [{ "type": "string" }, { "$ref": "#/$defs/count" }]
+          },
+          "minItems": 1
         },
         "expression": {
           "description": "The refused expression.",

@@ -4,8 +4,14 @@ use Rattle.std.specs.Borrow.{Bor}
 use Rattle.std.specs.List.{AllZip}
 use Rattle.nextest_elements.specs.IdentifierText.{tool_name_text}
 use Rattle.nextest_scripts.specs.Paths.{joined_path}
-use Rattle.nextest_sources.specs.Sources.{Outcome, text, not_found, InputFile, ToolFile, file_view, tool_file_view}
+use Rattle.nextest_sources.specs.Sources.{Outcome, text, not_found, not_a_directory, failed, InputFile, ToolFile, file_view, tool_file_view}
+use Rattle.rinqebo_request.specs.declared.files.gathering.GatherFault.{GatherFault}
+use Rattle.rinqebo_request.specs.declared.files.gathering.GatherFault.TheVariants as faults
 use Rattle.rinqebo_request.specs.declared.files.gathering.Gathered.{Gathered}
+use Rattle.rinqebo_request.specs.declared.named.FileOption.{FileOption}
+use Rattle.rinqebo_request.specs.declared.named.FileOption.TheVariants as options
+use Rattle.rinqebo_request.specs.declared.named.NamedFile.{NamedFile}
+use Rattle.rinqebo_request.specs.declared.request.FileOptions.{FileOptions}
 use Rattle.rinqebo_request.specs.declared.request.ConfigFile.{ConfigFile}
 use Rattle.rinqebo_request.specs.declared.request.ConfigFile.TheVariants as kinds
 use Rattle.rinqebo_request.specs.declared.request.ListFile.{ListFile}
@@ -116,3 +122,92 @@ pub record AreFilesFor (gives : List ℕ → Outcome → Type 0) (request : Requ
       (option_map string_bytes gathered.metadata)
   pub list : IsListText gives (list_named request.question) input
       (option_map string_bytes gathered.list)
+
+-- why an outcome is no text
+abbrev pub IsReason : Outcome → List ℕ → Type 0
+IsReason (text bytes) reason = ⊥
+IsReason not_found reason = reason ≡ codes "no such file"
+IsReason not_a_directory reason = reason ≡ codes "a part of it is not a directory"
+IsReason (failed message) reason = reason ≡ message
+
+-- a fault is that the file at a path, which an option names, has no text, for a reason
+abbrev pub IsUnreadable : List ℕ → FileOption → List ℕ → GatherFault → Type 0
+IsUnreadable path option reason (faults.Unreadable file why) =
+    (option_map string_bytes file.path ≡ Some path) × (file.option ≡ option)
+    × (string_bytes why ≡ reason)
+IsUnreadable path option reason faults.NoRoot = ⊥
+IsUnreadable path option reason (faults.NoFolder folder) = ⊥
+IsUnreadable path option reason faults.Memory = ⊥
+
+-- A fault is that the file at a path, which an option names, has no text: an outcome of reading it is
+-- none, and the fault says why.
+pub record IsUnread (path : List ℕ) (option : FileOption) (given : Outcome → Type 0)
+    (file : NamedFile) (reason : List ℕ) : Type 0 where
+  pub path_is : option_map string_bytes file.path ≡ Some path
+  pub option_is : file.option ≡ option
+  pub outcome : Outcome
+  pub is_given : given outcome
+  pub reason_is : IsReason outcome reason
+
+-- the text of an option is not read: the file at its path has none, or memory ran out
+abbrev pub IsNoText : List ℕ → FileOption → (Outcome → Type 0) → GatherFault → Type 0
+IsNoText path option given (faults.Unreadable file reason) =
+    IsUnread path option given file (string_bytes reason)
+IsNoText path option given faults.Memory = Unit {0}
+IsNoText path option given faults.NoRoot = ⊥
+IsNoText path option given (faults.NoFolder folder) = ⊥
+
+-- the text of an option is not read, if it names a path
+abbrev pub IsNoTextIn : (List ℕ → Outcome → Type 0) → Option (Bor (List ℕ)) → FileOption
+    → GatherFault → Type 0
+IsNoTextIn gives None option fault = ⊥
+IsNoTextIn gives (Some path) option fault = IsNoText path.now option (gives path.now) fault
+
+-- the list of tests is not read, if a request names one: a file, or standard input
+abbrev pub IsNoList : (List ℕ → Outcome → Type 0) → Option ListFile → Outcome → GatherFault
+    → Type 0
+IsNoList gives None input fault = ⊥
+IsNoList gives (Some (lists.Named path)) input fault =
+    IsNoText path.now options.List (gives path.now) fault
+IsNoList gives (Some lists.Input) input fault =
+    IsNoText (codes "-") options.List (λ outcome. outcome ≡ input) fault
+
+-- there is no folder at a path, or memory ran out
+abbrev pub IsNoFolder : List ℕ → GatherFault → Type 0
+IsNoFolder path (faults.NoFolder folder) = string_bytes folder ≡ path
+IsNoFolder path faults.Memory = Unit {0}
+IsNoFolder path faults.NoRoot = ⊥
+IsNoFolder path (faults.Unreadable file reason) = ⊥
+
+-- no root is found, beside which no user names the repository's file; or memory ran out
+abbrev pub IsNotFound : ConfigFile → GatherFault → Type 0
+IsNotFound config_file faults.NoRoot = is_discovered config_file ≡ true
+IsNotFound config_file faults.Memory = Unit {0}
+IsNotFound config_file (faults.NoFolder folder) = ⊥
+IsNotFound config_file (faults.Unreadable file reason) = ⊥
+
+-- There is no root: none is named, and nor is the repository's file; or there is no folder at the
+-- path that names it.
+abbrev pub IsNoRoot : FileOptions → GatherFault → Type 0
+IsNoRoot files faults.NoRoot =
+    (files.root ≡ None) × (is_discovered files.config_file ≡ true)
+IsNoRoot files (faults.NoFolder folder) =
+    option_map (λ path. path.now) files.root ≡ Some (string_bytes folder)
+IsNoRoot files faults.Memory = Unit {0}
+IsNoRoot files (faults.Unreadable file reason) = ⊥
+
+-- Why the files of a request are not read: there is no root, or a text that an option names is none.
+pub data HasGatherCause (gives : List ℕ → Outcome → Type 0) (request : Request) (input : Outcome)
+    (fault : GatherFault) : Type 0 where
+  of_memory : fault ≡ faults.Memory → HasGatherCause gives request input fault
+  of_root : IsNoRoot request.files fault → HasGatherCause gives request input fault
+  of_list : IsNoList gives (list_named request.question) input fault
+      → HasGatherCause gives request input fault
+  of_rustc_version : IsNoTextIn gives request.engines.rustc_version options.RustcVersion fault
+      → HasGatherCause gives request input fault
+  of_host_cfg : IsNoTextIn gives request.engines.host_cfg options.HostCfg fault
+      → HasGatherCause gives request input fault
+  of_target_cfg : IsNoTextIn gives request.engines.target_cfg options.TargetCfg fault
+      → HasGatherCause gives request input fault
+  of_metadata : IsNoTextIn gives request.engines.metadata options.Metadata fault
+      → HasGatherCause gives request input fault

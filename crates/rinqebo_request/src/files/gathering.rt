@@ -1,9 +1,9 @@
 //! Reads the files that a request names.
-ghost use Rattle.std.specs.Prelude.{◌≡◌, IfOk, MatchOption, Some, map, option_map, string_bytes};
+ghost use Rattle.std.specs.Prelude.{◌≡◌, ◌⊎◌, IfErr, IfOk, MatchOption, MatchResult, Some, codes, map, option_map, string_bytes};
 ghost use Rattle.std.specs.List.{AllZip};
 ghost use Rattle.std.specs.Option.{ForSome};
 ghost use Rattle.nextest_sources.specs.Sources.{file_view, not_found, outcome_view, text, tool_file_view};
-ghost use Rattle.rinqebo_request.specs.Files.Gathering.{AreFilesFor, IsFileIn, IsListText, IsNamedFile, IsOwnFile, IsReadAt, IsText, IsTextAt, IsToolFile, input_left};
+ghost use Rattle.rinqebo_request.specs.Files.Gathering.{AreFilesFor, HasGatherCause, IsFileIn, IsListText, IsNoFolder, IsNoList, IsNoRoot, IsNoText, IsNoTextIn, IsNotFound, IsUnreadable, IsNamedFile, IsOwnFile, IsReadAt, IsReason, IsText, IsTextAt, IsToolFile, input_left};
 
 use crate::environment::Environment;
 use crate::files::root::root_above;
@@ -73,6 +73,11 @@ pub enum GatherFault {
 }
 
 impl From<AllocError> for GatherFault {
+    ghost use Rattle.std.specs.Prelude.{◌≡◌};
+    ghost use Rattle.rinqebo_request.specs.declared.files.gathering.GatherFault.TheVariants.{Memory};
+
+    ghost from_gives = { λ _ fault. fault ≡ Memory };
+
     fn from(_error: AllocError) -> GatherFault {
         GatherFault::Memory
     }
@@ -80,7 +85,8 @@ impl From<AllocError> for GatherFault {
 
 /// The root that an option names.
 fn named_root<R: FileReader>(alloc: Global, root: &str, files: &R) -> Result<String, GatherFault>
-    ensures { IfOk result (λ named. string_bytes named ≡ root.now) }
+    ensures ok { IfOk result (λ named. string_bytes named ≡ root.now) }
+    ensures err { IfErr result (IsNoFolder root.now) }
 {
     let root = String::from_str(alloc, root)?;
     if files.has_folder(root.as_str()) {
@@ -90,6 +96,28 @@ fn named_root<R: FileReader>(alloc: Global, root: &str, files: &R) -> Result<Str
     }
 }
 
+/// A root at a path.
+fn root_at(alloc: Global, path: &str) -> Result<String, GatherFault>
+    ensures { IfErr result (λ fault. fault ≡ GatherFault.Memory) }
+{
+    Ok(String::from_str(alloc, path)?)
+}
+
+/// The root where none is found upward from a folder: the folder itself, if a user names the
+/// repository's file.
+fn root_at_folder(
+    alloc: Global,
+    config_file: ConfigFile<'_>,
+    folder: &str,
+) -> Result<String, GatherFault>
+    ensures { IfErr result (IsNotFound config_file.entry) }
+{
+    if !config_file.is_discovered() {
+        return root_at(alloc, folder);
+    }
+    Err(GatherFault::NoRoot)
+}
+
 /// The root that is found upward from a folder. Where there is none, and a user names the repository's
 /// file, it is the folder itself.
 fn found_root<R: FileReader>(
@@ -97,13 +125,13 @@ fn found_root<R: FileReader>(
     config_file: ConfigFile<'_>,
     folder: &str,
     files: &R,
-) -> Result<String, GatherFault> {
-    let root = match (root_above(alloc, folder, files)?, config_file) {
-        (Some(root), _) => root,
-        (None, ConfigFile::Named(_) | ConfigFile::Input(_)) => folder,
-        (None, ConfigFile::Discovered) => return Err(GatherFault::NoRoot),
-    };
-    Ok(String::from_str(alloc, root)?)
+) -> Result<String, GatherFault>
+    ensures { IfErr result (IsNotFound config_file.entry) }
+{
+    match root_above(alloc, folder, files)? {
+        Some(root) => root_at(alloc, root),
+        None => root_at_folder(alloc, config_file, folder),
+    }
 }
 
 /// The root of the workspace.
@@ -113,8 +141,9 @@ fn root_of<R: FileReader>(
     environment: &Environment,
     files: &R,
 ) -> Result<String, GatherFault>
-    ensures { IfOk result (λ root. ForSome options.now.root
+    ensures ok { IfOk result (λ root. ForSome options.now.root
         (λ named. string_bytes root ≡ named.now)) }
+    ensures err { IfErr result (IsNoRoot options.now) }
 {
     match options.root {
         Some(root) => named_root(alloc, root, files),
@@ -259,6 +288,34 @@ fn tool_files<R: FileReader>(
     Ok(read)
 }
 
+/// That the file at the path of an option has no text, and why.
+fn unreadable(alloc: Global, path: &str, option: FileOption, reason: String) -> GatherFault
+    ensures { (result ≡ GatherFault.Memory)
+        ⊎ IsUnreadable path.now option (string_bytes reason) result }
+{
+    match NamedFile::new(alloc, Some(path), option) {
+        Ok(file) => GatherFault::Unreadable(file, reason),
+        Err(_) => GatherFault::Memory,
+    }
+}
+
+/// The text that was read, or the reason why there is none.
+fn text_or_reason(alloc: Global, outcome: ReadOutcome) -> Result<Result<String, String>, AllocError>
+    ensures { IfOk result (λ read. MatchResult read
+        (λ text. IsText (outcome_view outcome) (string_bytes text))
+        (λ reason. IsReason (outcome_view outcome) (string_bytes reason))) }
+{
+    match outcome {
+        ReadOutcome::Text(text) => Ok(Ok(text)),
+        ReadOutcome::NotFound => Ok(Err(String::from_str(alloc, "no such file")?)),
+        ReadOutcome::NotADirectory => {
+            let reason = String::from_str(alloc, "a part of it is not a directory")?;
+            Ok(Err(reason))
+        }
+        ReadOutcome::Failed(message) => Ok(Err(message)),
+    }
+}
+
 /// The text that was read at the path of an option, or why there is none.
 fn text_of(
     alloc: Global,
@@ -266,16 +323,14 @@ fn text_of(
     option: FileOption,
     outcome: ReadOutcome,
 ) -> Result<String, GatherFault>
-    ensures { IfOk result (λ read. IsText (outcome_view outcome) (string_bytes read)) }
+    ensures ok { IfOk result (λ read. IsText (outcome_view outcome) (string_bytes read)) }
+    ensures err { IfErr result
+        (IsNoText path.now option (λ given. given ≡ outcome_view outcome)) }
 {
-    let reason = match outcome {
-        ReadOutcome::Text(text) => return Ok(text),
-        ReadOutcome::NotFound => String::from_str(alloc, "no such file")?,
-        ReadOutcome::NotADirectory => String::from_str(alloc, "a part of it is not a directory")?,
-        ReadOutcome::Failed(message) => message,
-    };
-    let file = NamedFile::new(alloc, Some(path), option)?;
-    Err(GatherFault::Unreadable(file, reason))
+    match text_or_reason(alloc, outcome)? {
+        Ok(text) => Ok(text),
+        Err(reason) => Err(unreadable(alloc, path, option, reason)),
+    }
 }
 
 /// The text of the file at the path of an option, if it is given.
@@ -285,8 +340,9 @@ fn text_at<R: FileReader>(
     option: FileOption,
     files: &R,
 ) -> Result<Option<String>, GatherFault>
-    ensures { IfOk result (λ read. IsTextAt (R.MayGive files.now) path.entry
+    ensures ok { IfOk result (λ read. IsTextAt (R.MayGive files.now) path.entry
         (option_map string_bytes read)) }
+    ensures err { IfErr result (IsNoTextIn (R.MayGive files.now) path.entry option) }
 {
     let Some(path) = path else {
         return Ok(None);
@@ -306,6 +362,7 @@ fn named_list<R: FileReader>(
     ensures text { IfOk result (λ read. MatchOption (option_map string_bytes read.0) ⊥
         (λ bytes. R.MayGive files.now path.now (text bytes))) }
     ensures left { IfOk result (λ read. outcome_view read.1 ≡ outcome_view input) }
+    ensures err { IfErr result (IsNoText path.now FileOption.List (R.MayGive files.now path.now)) }
 {
     let read = text_at(alloc, Some(path), FileOption::List, files)?;
     Ok((read, input))
@@ -319,6 +376,8 @@ fn input_list(
     ensures text { IfOk result (λ read. MatchOption (option_map string_bytes read.0) ⊥
         (IsText (outcome_view input))) }
     ensures left { IfOk result (λ read. outcome_view read.1 ≡ not_found) }
+    ensures err { IfErr result
+        (IsNoText (codes "-") FileOption.List (λ given. given ≡ outcome_view input)) }
 {
     let read = text_of(alloc, ListFile::Input.path(), FileOption::List, input)?;
     Ok((Some(read), ReadOutcome::NotFound))
@@ -335,6 +394,8 @@ fn text_of_list<R: FileReader>(
         (outcome_view input) (option_map string_bytes read.0)) }
     ensures left { IfOk result (λ read. outcome_view read.1
         ≡ input_left (Some list.entry) (outcome_view input)) }
+    ensures err { IfErr result
+        (IsNoList (R.MayGive files.now) (Some list.entry) (outcome_view input)) }
 {
     match list {
         ListFile::Named(path) => named_list(alloc, path, input, files),
@@ -353,6 +414,7 @@ fn list_text<R: FileReader>(
         (outcome_view input) (option_map string_bytes read.0)) }
     ensures left { IfOk result (λ read. outcome_view read.1
         ≡ input_left list.entry (outcome_view input)) }
+    ensures err { IfErr result (IsNoList (R.MayGive files.now) list.entry (outcome_view input)) }
 {
     match list {
         Some(named) => text_of_list(alloc, named, input, files),
@@ -372,6 +434,8 @@ pub fn gather<R: FileReader>(
         (λ named. string_bytes gathered.paths.workspace_root ≡ named.now)) }
     ensures files { IfOk result
         (AreFilesFor (R.MayGive files.now) request.now (outcome_view input)) }
+    ensures cause { IfErr result
+        (HasGatherCause (R.MayGive files.now) request.now (outcome_view input)) }
 {
     let options = &request.files;
     let engines = &request.engines;

@@ -1,9 +1,12 @@
 //! The sources of a run, with their texts and trees.
 ghost use Rattle.std.specs.Prelude.{◌≡◌, ◌++◌, ◌↔◌, Some, IfOk, IsTrue, MatchOption, OnOk, map, option_map, reverse, string_bytes};
-ghost use Rattle.nextest_sources.specs.Sources.{source_kind_view, source_view};
+ghost use Rattle.std.specs.List.{position};
+ghost use Rattle.nextest_elements.specs.OwnerView.{owner_view};
+ghost use Rattle.nextest_sources.specs.Sources.{path_view, source_kind_view, source_view};
 ghost use Rattle.nextest_tree.specs.View.{tree_view};
 ghost use Rattle.rinqebo_request.specs.Files.Layers.{default_layer, file_layer, layer_tree, layer_view, layers_read, organisation_layers, repository_layer, tool_layer};
 ghost use Rattle.rinqebo_request.specs.Files.Origins.{HasNoFile, IsFileAt, reported_file, reported_kind};
+ghost use Rattle.rinqebo_request.specs.Files.RuleTables.{host_spec, is_owned_by, lies_at, profile_node, rule_in, rule_node, target_spec, text_in};
 
 use crate::files::document::{Document, NoDocument, read_document};
 use crate::files::gathering::Gathered;
@@ -235,35 +238,56 @@ pub fn place_of(layers: &[Layer], source: &ConfigSource) -> Option<usize>
 }
 
 /// Whether a file that is reported is the one of an owner, a tool or the organisation, or with no
-/// owner the repository's, and lies at a path.
-fn lies_at(reported: &Source, owner: IdentifierOwner<'_>, path: &ConfigPath) -> bool {
-    let is_owned = match (&reported.kind, owner) {
+/// owner the repository's.
+fn is_owned_by(kind: &SourceKind, owner: IdentifierOwner<'_>) -> bool
+    ensures { result ≡ is_owned_by (owner_view owner.entry) (reported_kind kind.now) }
+{
+    match (kind, owner) {
         (SourceKind::Tool(name), IdentifierOwner::Tool(tool)) => name.as_str() == tool,
         (SourceKind::Organisation, IdentifierOwner::Organisation) => true,
         (SourceKind::Explicit | SourceKind::Discovered, IdentifierOwner::Nobody) => true,
         _ => false,
-    };
+    }
+}
+
+/// Whether a file that is reported is the one of an owner at a path.
+fn lies_at(reported: &Source, owner: IdentifierOwner<'_>, path: &ConfigPath) -> bool
+    ensures { result
+        ≡ lies_at (owner_view owner.entry) (path_view path.now) (reported_file reported.now) }
+{
     match &reported.path {
-        Some(reported) => is_owned && reported.as_str() == path.absolute_path(),
+        Some(reported_path) => {
+            is_owned_by(&reported.kind, owner) && reported_path.as_str() == path.absolute_path()
+        }
         None => false,
     }
 }
 
 /// The place among layers of the file of an owner, a tool or the organisation, or with no owner of
 /// the repository's.
-pub fn place_at(layers: &[Layer], owner: IdentifierOwner<'_>, path: &ConfigPath) -> Option<usize> {
+pub fn place_at(layers: &[Layer], owner: IdentifierOwner<'_>, path: &ConfigPath) -> Option<usize>
+    ensures { result ≡ position (λ layer.
+        lies_at (owner_view owner.entry) (path_view path.now) (reported_file layer.source))
+        layers.now }
+{
     layers
         .iter()
         .position(|layer| lies_at(&layer.source, owner, path))
 }
 
 /// The table of a profile in a tree.
-pub fn profile_table<'t>(tree: &'t Tree, profile: &str) -> Option<&'t Tree> {
+pub fn profile_table<'t>(tree: &'t Tree, profile: &str) -> Option<&'t Tree>
+    ensures { option_map (λ table. tree_view table.now) result
+        ≡ profile_node profile.now (tree_view tree.now) }
+{
     tree.get("profile")?.get(profile)
 }
 
 /// The rule at a position of a list of a profile.
-pub fn rule_table<'t>(tree: &'t Tree, profile: &str, list: &str, index: usize) -> Option<&'t Tree> {
+pub fn rule_table<'t>(tree: &'t Tree, profile: &str, list: &str, index: usize) -> Option<&'t Tree>
+    ensures { option_map (λ table. tree_view table.now) result
+        ≡ rule_node profile.now list.now index (tree_view tree.now) }
+{
     profile_table(tree, profile)?
         .get(list)?
         .as_array()?
@@ -277,23 +301,35 @@ pub fn rule_at<'t>(
     profile: &str,
     list: &str,
     index: usize,
-) -> Option<&'t Tree> {
+) -> Option<&'t Tree>
+    ensures { option_map (λ table. tree_view table.now) result
+        ≡ rule_in layers.now place profile.now list.now index }
+{
     let layer = layers.get(place?)?;
     rule_table(layer.tree()?, profile, list, index)
 }
 
 /// A text at a key of a table.
-pub fn text_at<'t>(table: Option<&'t Tree>, key: &str) -> Option<&'t str> {
+pub fn text_at<'t>(table: Option<&'t Tree>, key: &str) -> Option<&'t str>
+    ensures { option_map (λ text. text.now) result
+        ≡ text_in key.now (option_map (λ tree. tree_view tree.now) table.entry) }
+{
     table?.get(key)?.as_str()
 }
 
 /// The text of what the host has to meet for a rule.
-pub fn host_text(rule: Option<&Tree>) -> Option<&str> {
+pub fn host_text(rule: Option<&Tree>) -> Option<&str>
+    ensures { option_map (λ text. text.now) result
+        ≡ host_spec (option_map (λ tree. tree_view tree.now) rule.entry) }
+{
     text_at(rule?.get("platform"), "host")
 }
 
 /// The text of what the platform has to meet for a rule which a binary runs on.
-pub fn target_text(rule: Option<&Tree>) -> Option<&str> {
+pub fn target_text(rule: Option<&Tree>) -> Option<&str>
+    ensures { option_map (λ text. text.now) result
+        ≡ target_spec (option_map (λ tree. tree_view tree.now) rule.entry) }
+{
     let platform = rule?.get("platform")?;
     match platform.as_str() {
         Some(text) => Some(text),

@@ -2,7 +2,9 @@
 use crate::reports::line::Line;
 use crate::reports::parts::{expression_of, place_of};
 use crate::row::RowError;
-use rinqebo_report::{CharSpan, Finding, HelpPlace, Level, LinePart, Sign, SourceLine};
+use rinqebo_report::{
+    CharSpan, Finding, FindingStep, HelpPlace, Level, LinePart, Sign, SourceLine,
+};
 use std::alloc::{AllocError, Global};
 
 /// The level of a word.
@@ -61,12 +63,28 @@ fn add_part(finding: &mut Finding, part: LinePart) -> Result<(), RowError> {
     Ok(())
 }
 
+/// The steps that a text spells: keys, and numbers for positions, with dots between them.
+fn steps_of(alloc: Global, text: &str) -> Result<Vec<FindingStep>, RowError> {
+    let mut steps = Vec::new(alloc);
+    for part in text.split('.') {
+        let step = match part.parse::<usize>() {
+            Ok(position) => FindingStep::Position(position),
+            Err(_) => FindingStep::Key(String::from_str(alloc, part)?),
+        };
+        steps.push(step).map_err(AllocError::from)?;
+    }
+    Ok(steps)
+}
+
 /// Sets the advice of a line.
 fn set_advice(alloc: Global, finding: &mut Finding, line: &Line) -> Result<(), RowError> {
     let text = line.text(alloc, 1)?;
     match line.word(0)? {
         "upstream" => finding.upstream = Some(text),
-        "path" => finding.path = Some(text),
+        "path" => {
+            finding.steps = steps_of(alloc, text.as_str())?;
+            finding.path = Some(text);
+        }
         "expected" => finding.expected = Some(text),
         "note" => finding.notes.push(text).map_err(AllocError::from)?,
         "help-beside" => {

@@ -12,3 +12,6 @@ returns-in-None-clause-text g c = rw c.in-None.is refl
 
 pub returns-in-None-clause-left : goal.returns-in-None-clause-left
 returns-in-None-clause-left g c = rw c.in-None.is refl
+
+pub returns-in-Some-clause-err : goal.returns-in-Some-clause-err
+returns-in-Some-clause-err g c = rw c.in-Some.is c.text_of_list.ensures.err

@@ -1,0 +1,5 @@
+pub mod FirstChars
+pub mod Listing
+pub mod MarkSets
+pub mod Numbers
+pub mod Suffixes

@@ -1,0 +1,9 @@
+use Rattle.std.proofs.Common.{rules, tests, eqb}
+use Rattle.std.proofs.lemmas.Iterator.{YieldsList-from_chars}
+use Rattle.std.proofs.lemmas.Iterator.Search.{any_from_yields_List}
+use Rattle.rinqebo_faults.proofs.hints.has_char.Goals as goal
+
+pub returns : goal.returns
+returns c =
+    any_from_yields_List (λ d. eqb d c.args.c) _ _ c.any.result c.any.ensures.ran
+    (YieldsList-from_chars c.args.text.now c.utf8.text (cc)) (λ x b q k. search (rules, tests))

@@ -1,0 +1,42 @@
+-- Where the rules of profiles name groups and scripts.
+use Rattle.std.specs.Prelude.{ℕ, nat_lt, List, [], ◌∷◌, ◌++◌, fold, Option, None, Some, if◌then◌else◌}
+use Rattle.std.specs.BTreeMap.{get_by_text}
+use Rattle.nextest_places.specs.Spans.Paths.{PathStep}
+use Rattle.nextest_places.specs.Spans.Paths as paths
+use Rattle.rinqebo_faults.specs.declared.namings.Naming.{Naming}
+use Rattle.rinqebo_faults.specs.declared.namings.Namings.{Namings}
+use Rattle.rinqebo_faults.specs.Paths.{profile_path}
+use Rattle.rinqebo_faults.specs.Repairs.{naming_mark}
+
+-- the naming that comes first: that of the lower rule, or else the earlier one
+abbrev pub earlier : Option Naming → Option Naming → Option Naming
+earlier None other = other
+earlier (Some first) None = Some first
+earlier (Some first) (Some other) =
+    if nat_lt other.rule first.rule then Some other else Some first
+
+-- the naming of a name at a key
+abbrev pub naming_of : Namings → (profile key name : List ℕ) → Option Naming
+naming_of namings profile key name = get_by_text namings.firsts (naming_mark profile key name)
+
+-- the first rule of a profile that has a name at one of some keys
+abbrev pub first_naming : Namings → (profile : List ℕ) → (keys : List (List ℕ)) → (name : List ℕ) → Option Naming
+first_naming namings profile keys name =
+    fold (λ first key. earlier first (naming_of namings profile key name)) None keys
+
+-- the position of a name in an array, if it is in one
+abbrev pub item_step : Option ℕ → List PathStep
+item_step None = []
+item_step (Some place) = paths.position place ∷ []
+
+-- the steps from the list of a profile to a name
+abbrev pub naming_steps : Option Naming → List PathStep
+naming_steps None = []
+naming_steps (Some naming) =
+    paths.position naming.rule ∷ paths.key naming.key.now ∷ item_step naming.item
+
+-- the path at which the first rule of a profile has a name at one of some keys, or else that of the
+-- list
+abbrev pub naming_path : Namings → (profile : List ℕ) → (keys : List (List ℕ)) → (name : List ℕ) → List PathStep
+naming_path namings profile keys name =
+    profile_path profile namings.list.now ++ naming_steps (first_naming namings profile keys name)

@@ -1,0 +1,19 @@
+use Rattle.std.proofs.Common.{refl}
+use Rattle.rinqebo_request.proofs.NamedTools.{with_config}
+use Rattle.rinqebo_request.proofs.test_words.explain_request.Goals as goal
+
+pub returns : goal.returns
+returns c =
+    record {
+      question = c.in_ok-question.ensures;
+      source = c.profile_source.ensures;
+      line_is = record {
+        files = with_config _ _ _ _ c.named_file.ensures c.in_ok-files.ensures;
+        features = c.in_ok-features.ensures.ok;
+        paper = c.paper.ensures;
+      };
+      engines = c.in_ok-engines.ensures.0;
+      target = c.in_ok-engines.ensures.1;
+      format = c.format.ensures;
+      progress = refl;
+    }
