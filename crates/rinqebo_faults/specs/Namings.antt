@@ -20,7 +20,8 @@ abbrev pub naming_of : Namings → (profile key name : List ℕ) → Option Nami
 naming_of namings profile key name = get_by_text namings.firsts (naming_mark profile key name)
 
 -- the first rule of a profile that has a name at one of some keys
-abbrev pub first_naming : Namings → (profile : List ℕ) → (keys : List (List ℕ)) → (name : List ℕ) → Option Naming
+abbrev pub first_naming : Namings → (profile : List ℕ) → (keys : List (List ℕ)) → (name : List ℕ)
+    → Option Naming
 first_naming namings profile keys name =
     fold (λ first key. earlier first (naming_of namings profile key name)) None keys
 
@@ -37,6 +38,7 @@ naming_steps (Some naming) =
 
 -- the path at which the first rule of a profile has a name at one of some keys, or else that of the
 -- list
-abbrev pub naming_path : Namings → (profile : List ℕ) → (keys : List (List ℕ)) → (name : List ℕ) → List PathStep
+abbrev pub naming_path : Namings → (profile : List ℕ) → (keys : List (List ℕ)) → (name : List ℕ)
+    → List PathStep
 naming_path namings profile keys name =
     profile_path profile namings.list.now ++ naming_steps (first_naming namings profile keys name)
