@@ -1,6 +1,7 @@
 use Rattle.std.proofs.Common.{◌≡◌, ◌∙◌, ◌++◌, ◌+◌, ◌∷◌, Global, List, Vec, ap, append-nil, drop, false, map, option_map, refl, slice_get, sym, true, unwrap_or}
 use Rattle.nextest_engines.specs.Engines.{test_view}
 use Rattle.nextest_scripts.specs.ScriptId.{script_text}
+use Rattle.serde_json.proofs.Views.{view-Array}
 use Rattle.serde_json.specs.Data.{Data, array}
 use Rattle.serde_json.specs.View.{items_of, view}
 use Rattle.serde_json.specs.declared.value.Value.{Value}
@@ -44,7 +45,8 @@ returns c =
     let uses = c.args.uses.now in
     let n = c.loop-number.number in
     let told = map view c.loop-number.list.items in
-    ap (λ ds. array (items_of ds))
+    view-Array c.loop-number.list
+    ∙ ap (λ ds. array (items_of ds))
     (sym (append-nil told)
     ∙ ap (λ ts. told ++ map test_data ts) (sym (enabling_none id test_view tests uses n c.loop-number-test.false))
     ∙ c.loop-number.invariant)
