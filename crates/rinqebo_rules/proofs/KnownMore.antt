@@ -49,8 +49,8 @@ module _ {A : Type 0} (P : ℕ → A → Option Bool → Type 0) (rules : List A
       ]
 
 not_true : (b : Bool) → (b ≡ true → ⊥) → b ≡ false
-not_true true no = absurd (no refl)
-not_true false no = refl
+not_true true never = absurd (never refl)
+not_true false never = refl
 
 module _ {M : Type 0} (query : QueryContext M) (rule : EvaluatedRule M ScriptRuleUse) (known : Option Bool) where
   -- a rule that is known to hold holds
