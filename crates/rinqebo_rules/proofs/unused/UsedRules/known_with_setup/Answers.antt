@@ -17,7 +17,7 @@ use Rattle.rinqebo_rules.specs.Distinct.{AreDistinct}
 use Rattle.rinqebo_rules.specs.Evaluations.{EvaluatesOnly, IsNamedAt, IsOpenNamed}
 use Rattle.rinqebo_rules.specs.Passed.{IsPassed, IsShown, ids_of}
 use Rattle.rinqebo_rules.specs.SetupRules.{AreKnownMore}
-use Rattle.rinqebo_rules.proofs.used_scripts.UsedRules.known_with_setup.Goals as goal
+use Rattle.rinqebo_rules.proofs.unused.UsedRules.known_with_setup.Goals as goal
 
 pub returns-clause-known : goal.returns-clause-known
 returns-clause-known g c = λ tests mode knows of_profile are.

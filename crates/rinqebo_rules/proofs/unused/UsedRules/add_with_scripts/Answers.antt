@@ -16,7 +16,7 @@ use Rattle.rinqebo_rules.proofs.KnownMore.{unnamed_in}
 use Rattle.rinqebo_rules.proofs.ScriptRules.{meant_scripts}
 use Rattle.rinqebo_rules.specs.BinaryRules.{AreKnownIn}
 use Rattle.rinqebo_rules.specs.SetupRules.{AreKnownMore}
-use Rattle.rinqebo_rules.proofs.used_scripts.UsedRules.add_with_scripts.Goals as goal
+use Rattle.rinqebo_rules.proofs.unused.UsedRules.add_with_scripts.Goals as goal
 
 or_none : {X : Type 0} (o : Option X) → option_or o None ≡ o
 or_none None = refl
