@@ -17,6 +17,12 @@ one_more see gives old new v x left all so_far is_new same =
     ∙ ap (λ d. map see old ++ d ∷ map gives left) same
     ∙ so_far
 
+-- the same, where what is put behind is what an element gives
+pub one_put : {V B A D : Type 0} (see : V → D) (gives : A → D) (view : B → A) (v : V) (q : B) → see v ≡ gives (view q)
+    → (old new : List V) (left : List A) (all : List D) → map see old ++ map gives (view q ∷ left) ≡ all → new ≡ old ++ v ∷ []
+    → map see new ++ map gives left ≡ all
+one_put see gives view v q same old new left all so_far is_new = one_more see gives old new v (view q) left all so_far is_new same
+
 module _ {B V : Type 0} (see : B → V) (old new : List B) (found : Option B) (gives : Option V)
     (is : option_map see found ≡ gives) where
   -- what is found is put behind the others

@@ -1,4 +1,4 @@
-use Rattle.std.proofs.Common.{◌≡◌, ◌∙◌, ◌++◌, ◌+◌, ◌∷◌, Global, List, Vec, ap, append-nil, drop, false, map, option_map, refl, slice_get, sym, true, unwrap_or}
+use Rattle.std.proofs.Common.{◌≡◌, ◌∙◌, ◌++◌, ◌+◌, Global, List, Vec, ap, append-nil, drop, get_or, map, refl, sym}
 use Rattle.nextest_engines.specs.Engines.{test_view}
 use Rattle.nextest_scripts.specs.ScriptId.{script_text}
 use Rattle.serde_json.proofs.Views.{view-Array}
@@ -7,7 +7,7 @@ use Rattle.serde_json.specs.View.{items_of, view}
 use Rattle.serde_json.specs.declared.value.Value.{Value}
 use Rattle.rinqebo_objects.specs.Enabling.{test_data}
 use Rattle.rinqebo_objects.specs.Uses.{enabling_by}
-use Rattle.rinqebo_objects.proofs.Gathered.{one_more}
+use Rattle.rinqebo_objects.proofs.Gathered.{one_put}
 use Rattle.rinqebo_objects.proofs.KnownUses.{enabling_here, enabling_none, enabling_past}
 use Rattle.rinqebo_objects.proofs.enabling.tests_json.Goals as goal
 use Rattle.rinqebo_objects.proofs.enabling.tests_json.Goals.{then-enables+in_ok-test_json+in_ok-push, else-enables}
@@ -24,12 +24,13 @@ loop-number-preserved c =
     let left = enabling_by (drop (n + 1) uses) (map test_view (drop (n + 1) tests)) id in
     elim c.if-enables.branch [
       | then-enables+in_ok-test_json+in_ok-push w ↦
-          one_more view test_data old.items _ w.in_ok-test_json.field-0 _ left _
+          one_put view test_data test_view w.in_ok-test_json.field-0 (get_or tests n _) w.in_ok-test_json.ensures
+          old.items _ left _
           (ap (λ ts. views old ++ map test_data ts)
-          (sym (enabling_here id test_view tests uses n _ _ c.loop-number-test.true refl
+          (sym (enabling_here id test_view tests uses n (get_or tests n _) _ c.loop-number-test.true refl
           (sym c.enables.ensures ∙ w.if-enables.true)))
           ∙ c.loop-number.invariant)
-          (ap items w.list-is ∙ w.in_ok-push.ensures.items) w.in_ok-test_json.ensures
+          (ap items w.list-is ∙ w.in_ok-push.ensures.items)
       | else-enables w ↦
           ap (λ list. views list ++ map test_data left) w.list-is
           ∙ ap (λ ts. views old ++ map test_data ts)
