@@ -1,7 +1,7 @@
 use Rattle.std.proofs.Common.{◌≡◌, map, drop}
 use Rattle.nextest_scripts.specs.ScriptId.{script_text}
 use Rattle.nextest_tree.specs.Schema.{is_one_of}
-use Rattle.rinqebo_objects.proofs.wrappers.is_one_of.Given as goal
+use Rattle.rinqebo_objects.proofs.script_use.is_one_of.Given as goal
 
 abbrev pub invariant-loop-used : goal.invariant-loop-used
 invariant-loop-used l =
