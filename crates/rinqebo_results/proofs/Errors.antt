@@ -23,7 +23,7 @@ use Rattle.rinqebo_report.specs.declared.format.Format.TheVariants as formats
 use Rattle.rinqebo_report.specs.declared.report.Report.{Report}
 use Rattle.rinqebo_request.specs.declared.request.Request.{Request}
 use Rattle.rinqebo_results.specs.Refused.{Fails, IsReportOfFailure}
-use Rattle.rinqebo_results.specs.StandardError.{AddsNotes, AreNotes, GetsBefore, GetsErrors, GetsNotes, GetsReason, GetsStop, GetsWarnings, GetsWarningsFor, HasNotes, IsReason, document_given, memory_given, memory_message, no_note, of_failure, of_list, of_memory, of_result, one_more, reason_given}
+use Rattle.rinqebo_results.specs.StandardError.{AddsNotes, AreNotes, GetsBefore, GetsErrors, GetsFault, GetsNotes, GetsReason, GetsStop, GetsWarnings, GetsWarningsFor, HasNotes, IsFaultMessage, IsReason, document_given, memory_given, memory_message, no_note, of_failure, of_list, of_memory, of_result, one_more, reason_given}
 use Rattle.rinqebo_results.specs.Statuses.{failure_status}
 
 -- a text was written with a status, or a write failed
@@ -74,6 +74,20 @@ pub message_lost : (status n : ℕ) (old new : Option (List ℕ)) (message : Res
     → MessageTold status n old new message
 message_lost status n old new message fault is ends told =
     subst (MessageTold status n old new) (sym is) (memory_told n old new ends told)
+
+-- the message of a fault was written
+pub fault_told : (n : ℕ) (old new : Option (List ℕ)) (message : Result (String Global) AllocError)
+    → IfOk message (λ text. IsFaultMessage (string_bytes text)) → MessageTold 2 n old new message
+    → (n ≡ 6) ⊎ GetsFault n old new
+fault_told n old new message is (inl six) = inl six
+fault_told n old new (Ok text) is (inr told) = inr (inl (string_bytes text, told.0, is, told.1))
+fault_told n old new (Err e) is (inr told) = inr (inr (told.0, told.1))
+
+-- memory ran out, in place of what words are
+pub words_lost : (n : ℕ) (out_old out_new old new : Option (List ℕ)) → out_new ≡ out_old
+    → (n ≡ 6) ⊎ Appends old new memory_message → (n ≡ 6) ⊎ ((out_new ≡ out_old) × Appends old new memory_message)
+words_lost n out_old out_new old new same (inl six) = inl six
+words_lost n out_old out_new old new same (inr told) = inr (same, told)
 
 -- a message that is the reason
 pub by_message : (failure : Failure) (request : Request) (status n : ℕ) (old new : Option (List ℕ))

@@ -1,6 +1,6 @@
 -- What standard error gets of a run whose progress is not shown: the notes on a result, or the
 -- reason why there is none.
-use Rattle.std.specs.Prelude.{◌≡◌, ◌++◌, ◌∷◌, ◌⊎◌, ◌||◌, ◌==◌, None, Some, decimal, ℕ, Bool, false, true, List, [], Option, codes, if◌then◌else◌}
+use Rattle.std.specs.Prelude.{◌≡◌, ◌++◌, ◌∷◌, ◌⊎◌, ◌||◌, ◌==◌, None, Some, decimal, ℕ, Bool, false, true, List, [], Option, codes, if◌then◌else◌, string_bytes}
 use Rattle.std.specs.Io.KnownBytes.{Appends}
 use Rattle.rinqebo_checks.specs.Reports.{IsReportOf}
 use Rattle.rinqebo_load.specs.SessionOf.{IsSessionOf}
@@ -18,6 +18,8 @@ use Rattle.rinqebo_report.specs.declared.report.Report.{Report}
 use Rattle.rinqebo_request.specs.Requests.{source_variable}
 use Rattle.rinqebo_request.specs.declared.files.gathering.Gathered.{Gathered}
 use Rattle.rinqebo_request.specs.declared.request.Request.{Request}
+use Rattle.rinqebo_request.specs.declared.words.ParseStop.{ParseStop}
+use Rattle.rinqebo_request.specs.declared.words.ParseStop.TheVariants as stops
 use Rattle.rinqebo_results.specs.Answered.{IsAnswer}
 use Rattle.rinqebo_results.specs.Prefixes.{Grows}
 use Rattle.rinqebo_results.specs.Refused.{Fails, IsReportOfFailure}
@@ -29,6 +31,23 @@ use Rattle.rinqebo_results.specs.declared.list_stop.ListStop.TheVariants as faul
 abbrev pub memory_message : List ℕ
 memory_message = codes "error: out of memory" ++ 10 ∷ []
 
+-- The program reports words that are not a request: help goes to standard output, and why they are
+-- not one to standard error, beside which standard output receives nothing.
+abbrev pub ReportsWords : ParseStop → Option (List ℕ) → Option (List ℕ) → Option (List ℕ)
+    → Option (List ℕ) → Type 0
+ReportsWords (stops.Help text) out_old out_new err_old err_new =
+    Appends out_old out_new (string_bytes text)
+ReportsWords (stops.Usage text) out_old out_new err_old err_new =
+    (out_new ≡ out_old) × Appends err_old err_new (string_bytes text)
+ReportsWords stops.Memory out_old out_new err_old err_new =
+    (out_new ≡ out_old) × Appends err_old err_new memory_message
+
+-- what standard error gets of a run that prints a page which needs no file, by its status: nothing,
+-- or that memory ran out
+abbrev pub GetsNothing : ℕ → Option (List ℕ) → Option (List ℕ) → Type 0
+GetsNothing status old new =
+    ((status ≡ 0) × (new ≡ old)) ⊎ ((status ≡ 5) × Appends old new memory_message)
+
 -- the note on the variable that names a profile that is missing, if one does
 abbrev pub profile_note : Option (List ℕ) → List ℕ
 profile_note None = []
@@ -38,6 +57,13 @@ profile_note (Some variable) =
 -- a text is the message of a fault
 abbrev pub IsFaultMessage : List ℕ → Type 0
 IsFaultMessage text = (said : List ℕ) × (text ≡ codes "error: " ++ said ++ 10 ∷ [])
+
+-- what standard error gets of a run whose files are not read, by its status: the message of the
+-- fault, or that memory ran out
+abbrev pub GetsFault : ℕ → Option (List ℕ) → Option (List ℕ) → Type 0
+GetsFault status old new =
+    ((text : List ℕ) × (status ≡ 2) × IsFaultMessage text × Appends old new text)
+    ⊎ ((status ≡ 5) × Appends old new memory_message)
 
 -- The reason why a run has no result: the page of its findings, behind which a note follows, if a
 -- variable names a profile that is missing; or a message about what the request names.

@@ -40,6 +40,6 @@ pub use note_lines::{is_json, push_note};
 pub use printing::{print_text, print_texts, refuse_for_memory, refuse_message};
 pub use profile::{Early, early_profile};
 pub use progress::ProgressLine;
-pub use refusing::{refuse, refuse_in};
+pub use refusing::{error_line, refuse, refuse_in};
 pub use reporting::answer_on_test;
 pub use status::Status;

@@ -51,8 +51,8 @@ fn profile_message(
     Ok(message)
 }
 
-/// The message that begins with `error: `.
-fn error_line(alloc: Global, said: &str) -> Result<String, AllocError>
+/// The line of a message, which begins with `error: `.
+pub fn error_line(alloc: Global, said: &str) -> Result<String, AllocError>
     ensures { IfOk result (λ line. string_bytes line ≡ codes "error: " ++ said.now ++ 10 ∷ []) }
 {
     Ok(format!(in alloc; "error: {said}\n")?)

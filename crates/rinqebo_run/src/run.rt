@@ -16,8 +16,8 @@ ghost use Rattle.rinqebo_results.specs.Received.{IsWhole};
 ghost use Rattle.rinqebo_results.specs.Refused.{Fails, IsFailureAboutTest, IsFailureIn, IsReportedBy, ReportsRefusal};
 ghost use Rattle.rinqebo_results.specs.RunsReasons.{ReportsRunsReasons};
 ghost use Rattle.rinqebo_results.specs.ReportsReasons.{ReportsReasons};
-ghost use Rattle.rinqebo_results.specs.StandardError.{AddsNotes, GetsErrors, GetsNotes, GetsStop, HasNotes, findings_beside, is_check, is_json};
-ghost use Rattle.rinqebo_results.specs.Statuses.{IsStatus, IsAnswerStatus, IsGatherStatus, IsWordsStatus, ReportsWords};
+ghost use Rattle.rinqebo_results.specs.StandardError.{AddsNotes, GetsErrors, GetsFault, GetsNotes, GetsNothing, GetsStop, HasNotes, IsFaultMessage, ReportsWords, findings_beside, is_check, is_json};
+ghost use Rattle.rinqebo_results.specs.Statuses.{IsStatus, IsAnswerStatus, IsGatherStatus, IsWordsStatus};
 ghost use Rattle.rinqebo_results.specs.Written.{AsksList, IsStopStatus};
 ghost use Rattle.rinqebo_report.specs.declared.format.Format.TheVariants as formats;
 
@@ -36,8 +36,8 @@ use rinqebo_request::{
     GatherFault, Gathered, ParseStop, Question, Request, RequestedSettings, RequestedTest,
 };
 use rinqebo_results::{
-    Answer, ListStop, ProgressLine, RequestedList, Status, is_json, list, print_text, print_texts,
-    push_note, refuse, refuse_for_memory, refuse_in, refuse_message, show, write_list,
+    Answer, ListStop, ProgressLine, RequestedList, Status, error_line, is_json, list, print_text,
+    print_texts, push_note, refuse, refuse_for_memory, refuse_in, refuse_message, show, write_list,
 };
 use rinqebo_rules::{NoProgress, Progress};
 use std::alloc::{AllocError, Global};
@@ -448,6 +448,8 @@ pub fn print_schema<O: Write, E: Write>(alloc: Global, out: &mut O, err: &mut E)
     ensures begun { (O.contents out.new ≡ O.contents out.old)
         ⊎ AppendsPrefix (O.contents out.old) (O.contents out.new)
         (compact_text (schema_data file_form) ++ 10 ∷ []) }
+    ensures errors { (result ≡ 6)
+        ⊎ GetsNothing result (E.contents err.old) (E.contents err.new) }
 {
     match schema_page(alloc) {
         Ok(text) => print_text(text.as_str(), Status::Success as u8, out),
@@ -481,14 +483,24 @@ pub fn refuse_words<O: Write, E: Write>(stop: &ParseStop, out: &mut O, err: &mut
     }
 }
 
+/// The message of why the files of a request were not read.
+fn gathering_message(alloc: Global, fault: &GatherFault) -> Result<String, AllocError>
+    ensures { IfOk result (λ message. IsFaultMessage (string_bytes message)) }
+{
+    let said = fault.to_string(alloc)?;
+    error_line(alloc, said.as_str())
+}
+
 /// Reports why the files of a request were not read, and returns the exit status.
 pub fn refuse_gathering<E: Write>(alloc: Global, fault: &GatherFault, err: &mut E) -> u8
-    ensures { IsGatherStatus fault.now result }
+    ensures status { IsGatherStatus fault.now result }
+    ensures errors { (result ≡ 6)
+        ⊎ GetsFault result (E.contents err.old) (E.contents err.new) }
 {
     match fault {
         GatherFault::Memory => refuse_for_memory(err),
         fault => {
-            let message = format!(in alloc; "error: {fault}\n");
+            let message = gathering_message(alloc, fault);
             refuse_message(message, Status::Usage as u8, err)
         }
     }
