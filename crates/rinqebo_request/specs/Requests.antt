@@ -21,7 +21,7 @@ use Rattle.rinqebo_report.specs.declared.layout.Paper.{Paper}
 use Rattle.rinqebo_report.specs.declared.piece.Colour.{Colour}
 use Rattle.rinqebo_report.specs.declared.piece.Colour.TheVariants.{Coloured, Plain}
 use Rattle.rinqebo_report.specs.declared.reported_request.ReportCommand.{ReportCommand}
-use Rattle.rinqebo_report.specs.declared.reported_request.ReportCommand.TheVariants as named
+use Rattle.rinqebo_report.specs.declared.reported_request.ReportCommand.TheVariants as reports
 use Rattle.rinqebo_request.specs.Files.Gathering.{list_named}
 use Rattle.rinqebo_request.specs.Lines.{IsFlag, Line, has, value_at, values_at}
 use Rattle.rinqebo_request.specs.Rows.{AreExplainedRows, AreListedRows, is_runs, keys_of}
@@ -355,7 +355,7 @@ pub record HasLine (IsConfig : ConfigFile → Type 0) (environment : Environment
 pub record IsExplainRequest (environment : Environment) (line : Line) (request : Request)
     : Type 0 where
   pub question : IsExplainedBy environment line (value_at (codes "why") line) request.question
-  pub words : AreCommandWords named.Explain line request.words
+  pub words : AreCommandWords reports.Explain line request.words
   pub source : request.profile_source ≡ source_of environment line
   pub line_is : HasLine (IsConfigOf line) environment line request
   pub engines : AreEnginesOf environment line request.engines
@@ -367,7 +367,7 @@ pub record IsExplainRequest (environment : Environment) (line : Line) (request :
 pub record IsListRequest (environment : Environment) (line : Line) (request : Request)
     : Type 0 where
   pub question : IsListing environment line request.question
-  pub words : AreCommandWords named.List line request.words
+  pub words : AreCommandWords reports.List line request.words
   pub source : request.profile_source ≡ source_of environment line
   pub line_is : HasLine (IsConfigOf line) environment line request
   pub engines : AreEnginesOf environment line request.engines
@@ -379,7 +379,7 @@ pub record IsListRequest (environment : Environment) (line : Line) (request : Re
 pub record IsShowRequest (environment : Environment) (line : Line) (request : Request)
     : Type 0 where
   pub question : IsShowing environment line request.question
-  pub words : AreCommandWords named.ShowConfig line request.words
+  pub words : AreCommandWords reports.ShowConfig line request.words
   pub source : request.profile_source ≡ source_of environment line
   pub line_is : HasLine (IsConfigOf line) environment line request
   pub engines : AreEnginesOf environment line request.engines
@@ -391,7 +391,7 @@ pub record IsShowRequest (environment : Environment) (line : Line) (request : Re
 pub record IsCheckRequest (environment : Environment) (line : Line) (request : Request)
     : Type 0 where
   pub question : IsChecking line request.question
-  pub words : AreCommandWords named.Check line request.words
+  pub words : AreCommandWords reports.Check line request.words
   pub source : request.profile_source ≡ sources.Fallback
   pub line_is : HasLine (IsCheckedFile line) environment line request
   pub engines : AreFileEngines line request.engines
