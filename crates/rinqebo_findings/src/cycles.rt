@@ -1,8 +1,11 @@
 //! The findings of profiles that inherit in a cycle.
+ghost use Rattle.std.specs.Prelude.{◌∷◌, [], OnOk, map, string_bytes};
+ghost use Rattle.rinqebo_findings.specs.Later.{AddsLater, cycle_fault};
+
 use crate::below::file_at;
 use crate::refused::Refused;
 use rinqebo_faults::{Mark, lines_of, parent_path};
-use rinqebo_report::{Code, FileLines, FilePlace, Sign, SourceLine};
+use rinqebo_report::{Code, FileLines, FilePlace, Finding, Sign, SourceLine};
 use std::alloc::{AllocError, Global};
 
 /// The place at which a profile names its parent.
@@ -100,15 +103,22 @@ fn cycle_lines(
 }
 
 /// Adds that profiles inherit in a cycle: at the parent of the first one.
-pub fn add_cycle(refused: &mut Refused<'_, '_>, cycle: &[String]) -> Result<(), AllocError> {
+pub fn add_cycle(
+    refused: &Refused<'_, '_>,
+    findings: &mut Vec<Finding>,
+    cycle: &[String],
+) -> Result<(), AllocError>
+    ensures { OnOk result (AddsLater refused.now.source.layers.now refused.now.source.position
+        (cycle_fault (map string_bytes cycle.now) ∷ []) findings.old.items findings.new.items) }
+{
     let alloc = refused.alloc;
     let words = cycle_words(alloc, refused, cycle)?;
     let Some(first) = cycle.first() else {
-        return refused.add_whole(Code::InheritanceCycle, words.as_str());
+        return refused.add_whole(findings, Code::InheritanceCycle, words.as_str());
     };
     let path = parent_path(first.as_str());
     let lines = cycle_lines(refused, refused.place_at(&path), cycle)?;
     let mut found = refused.at(Code::InheritanceCycle, &path, words.as_str())?;
     found.lines = lines;
-    refused.add_finding(found)
+    refused.add_finding(findings, found)
 }

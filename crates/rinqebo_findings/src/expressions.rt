@@ -1,15 +1,26 @@
 //! Filters and platforms that are refused, with the part that is wrong.
+ghost use Rattle.std.specs.Prelude.{◌≡◌, ◌∷◌, ◌++◌, [], IfOk, OnOk, codes, map, option_map};
+ghost use Rattle.std.specs.Option.{option_copied};
+ghost use Rattle.nextest_places.specs.Spans.Paths.{path_step};
+ghost use Rattle.nextest_places.specs.Spans.Paths as paths;
+ghost use Rattle.nextest_tree.specs.View.{tree_view};
+ghost use Rattle.rinqebo_findings.specs.Compile.{platform_of, refused_bytes, refused_texts, table_path, target_keys, target_text, text_fault, text_in, texts_of};
+ghost use Rattle.rinqebo_findings.specs.Later.{AddsLater, document_at, in_text};
+ghost use Rattle.rinqebo_findings.specs.Placed.{file_and_lines, IsOnLines};
+ghost use Rattle.rinqebo_findings.specs.Subjects.{error_at, subject};
+
 use crate::refused::Refused;
+use crate::rule_texts::{host_text, section_table, target_text, text_in};
 use nextest_engines::Refusal;
 use nextest_places::Step;
 use nextest_sources::{ConfigCompileError, ConfigCompileErrorKind, ConfigCompileSection};
 use nextest_tree::Tree;
 use rinqebo_faults::{
     Stopped, Worded, char_span, expression, filter_help, filter_words, owned, platform_words,
-    range_in,
+    range_in, section_path,
 };
 use rinqebo_report::{CharSpan, Code, FilePlace, Finding, Range};
-use rinqebo_request::{SpanPart, host_text, profile_table, rule_table, target_text, text_at};
+use rinqebo_request::SpanPart;
 use std::alloc::{AllocError, Global};
 
 /// Returns the token of the value at a path of the refused source, if its text has one.
@@ -65,7 +76,10 @@ fn with_part(
     found: Finding,
     path: &[Step<'_>],
     part: Option<CharSpan>,
-) -> Result<Finding, AllocError> {
+) -> Result<Finding, AllocError>
+    ensures about { IfOk result (λ shown. subject shown ≡ subject found) }
+    ensures place { IfOk result (λ shown. file_and_lines shown.place ≡ file_and_lines found.place) }
+{
     let mut found = found;
     if let Some(range) = fault_range(refused, path, found.place, part)? {
         if let Some(place) = &mut found.place {
@@ -82,7 +96,11 @@ fn worded_finding(
     path: &[Step<'_>],
     text: &str,
     worded: Worded,
-) -> Result<Finding, AllocError> {
+) -> Result<Finding, AllocError>
+    ensures about { IfOk result (λ found. subject found ≡ error_at code path.now) }
+    ensures place { IfOk result (λ found. IsOnLines refused.now.source.layers.now
+        refused.now.source.position path.now found.place) }
+{
     let Worded {
         start,
         end,
@@ -103,7 +121,11 @@ fn labelled_finding(
     code: Code,
     path: &[Step<'_>],
     stopped: Stopped<'_>,
-) -> Result<Finding, AllocError> {
+) -> Result<Finding, AllocError>
+    ensures about { IfOk result (λ found. subject found ≡ error_at code path.now) }
+    ensures place { IfOk result (λ found. IsOnLines refused.now.source.layers.now
+        refused.now.source.position path.now found.place) }
+{
     let help = owned(refused.alloc, filter_help(stopped.label))?;
     let span = char_span(stopped.text, stopped.start, stopped.end);
     let found = refused.at(code, path, stopped.label)?;
@@ -114,16 +136,21 @@ fn labelled_finding(
 
 /// Adds what is wrong with a text at a path.
 fn add_text(
-    refused: &mut Refused<'_, '_>,
+    refused: &Refused<'_, '_>,
+    findings: &mut Vec<Finding>,
     code: Code,
     path: &[Step<'_>],
     text: &str,
     refusal: &Refusal,
-) -> Result<(), AllocError> {
+) -> Result<(), AllocError>
+    ensures { OnOk result (AddsLater refused.now.source.layers.now refused.now.source.position
+        (in_text code (map path_step path.now) text.now (refused_bytes refusal.now) ∷ [])
+        findings.old.items findings.new.items) }
+{
     let alloc = refused.alloc;
     let Some(span) = &refusal.span else {
         let wrong = refusal.message.as_str();
-        return refused.add_fault(code, path, SpanPart::Value, wrong, None, None);
+        return refused.add_fault(findings, code, path, SpanPart::Value, wrong, None, None);
     };
     let stopped = Stopped {
         text,
@@ -138,7 +165,7 @@ fn add_text(
     };
     let mut found = found?;
     found.expression = Some(shown);
-    refused.add_finding(found)
+    refused.add_finding(findings, found)
 }
 
 /// Where the texts of a section are: its path, and its table.
@@ -148,75 +175,145 @@ struct Section<'s> {
     table: Option<&'s Tree>,
 }
 
-/// A path, and then some keys.
-fn path_below<'p>(
+/// A path, and then a key.
+fn path_at<'p>(alloc: Global, path: &[Step<'p>], key: &'p str) -> Result<Vec<Step<'p>>, AllocError>
+    ensures { IfOk result (λ longer. map path_step longer.items
+        ≡ map path_step path.now ++ paths.key key.entry.now ∷ []) }
+{
+    let mut longer = Vec::from_slice(alloc, path)?;
+    longer.push(Step::Key(key))?;
+    Ok(longer)
+}
+
+/// A path, and then `platform` and a key.
+fn platform_path<'p>(
     alloc: Global,
     path: &[Step<'p>],
-    keys: &[&'p str],
-) -> Result<Vec<Step<'p>>, AllocError> {
+    key: &'p str,
+) -> Result<Vec<Step<'p>>, AllocError>
+    ensures { IfOk result (λ longer. map path_step longer.items ≡ map path_step path.now
+        ++ paths.key (codes "platform") ∷ paths.key key.entry.now ∷ []) }
+{
     let mut longer = Vec::from_slice(alloc, path)?;
-    for key in keys {
-        longer.push(Step::Key(*key))?;
-    }
+    longer.push(Step::Key("platform"))?;
+    longer.push(Step::Key(key))?;
     Ok(longer)
+}
+
+/// Adds what is wrong with a text at a path, if there is one and it is refused.
+fn add_if_refused(
+    refused: &Refused<'_, '_>,
+    findings: &mut Vec<Finding>,
+    code: Code,
+    path: &[Step<'_>],
+    text: Option<&str>,
+    refusal: &Option<Refusal>,
+) -> Result<(), AllocError>
+    ensures { OnOk result (AddsLater refused.now.source.layers.now refused.now.source.position
+        (text_fault code (map path_step path.now) (option_copied text.entry) refusal.now)
+        findings.old.items findings.new.items) }
+{
+    match (text, refusal) {
+        (Some(text), Some(refusal)) => add_text(refused, findings, code, path, text, refusal),
+        _ => Ok(()),
+    }
 }
 
 /// Adds what is wrong with the filter of a section at a key, if it is refused.
 fn add_filter(
-    refused: &mut Refused<'_, '_>,
+    refused: &Refused<'_, '_>,
+    findings: &mut Vec<Finding>,
     section: Section<'_>,
     key: &str,
     refusal: &Option<Refusal>,
-) -> Result<(), AllocError> {
-    let (Some(refusal), Some(text)) = (refusal, text_at(section.table, key)) else {
-        return Ok(());
-    };
-    let path = path_below(refused.alloc, section.path, &[key])?;
-    add_text(refused, Code::InvalidFilter, &path, text, refusal)
+) -> Result<(), AllocError>
+    ensures { OnOk result (AddsLater refused.now.source.layers.now refused.now.source.position
+        (text_fault Code.InvalidFilter
+        (map path_step section.entry.path.now ++ paths.key key.now ∷ [])
+        (text_in (option_map (λ table. tree_view table.now) section.entry.table) key.now)
+        refusal.now) findings.old.items findings.new.items) }
+{
+    let path = path_at(refused.alloc, section.path, key)?;
+    let text = text_in(section.table, key);
+    add_if_refused(refused, findings, Code::InvalidFilter, &path, text, refusal)
 }
 
 /// Adds what is wrong with a rule's expression for the host, if it is refused.
 fn add_host(
-    refused: &mut Refused<'_, '_>,
+    refused: &Refused<'_, '_>,
+    findings: &mut Vec<Finding>,
     section: Section<'_>,
     refusal: &Option<Refusal>,
-) -> Result<(), AllocError> {
-    let (Some(refusal), Some(text)) = (refusal, host_text(section.table)) else {
-        return Ok(());
-    };
-    let path = path_below(refused.alloc, section.path, &["platform", "host"])?;
-    add_text(refused, Code::InvalidPlatform, &path, text, refusal)
+) -> Result<(), AllocError>
+    ensures { OnOk result (AddsLater refused.now.source.layers.now refused.now.source.position
+        (text_fault Code.InvalidPlatform (map path_step section.entry.path.now
+        ++ paths.key (codes "platform") ∷ paths.key (codes "host") ∷ [])
+        (text_in (platform_of (option_map (λ table. tree_view table.now) section.entry.table))
+        (codes "host")) refusal.now) findings.old.items findings.new.items) }
+{
+    let path = platform_path(refused.alloc, section.path, "host")?;
+    let text = host_text(section.table);
+    add_if_refused(
+        refused,
+        findings,
+        Code::InvalidPlatform,
+        &path,
+        text,
+        refusal,
+    )
 }
 
 /// The path at which a rule writes what the platform has to meet which a binary runs on.
-fn target_path<'p>(alloc: Global, section: Section<'p>) -> Result<Vec<Step<'p>>, AllocError> {
-    match text_at(section.table, "platform") {
-        Some(_) => path_below(alloc, section.path, &["platform"]),
-        None => path_below(alloc, section.path, &["platform", "target"]),
+fn target_path<'p>(alloc: Global, section: Section<'p>) -> Result<Vec<Step<'p>>, AllocError>
+    ensures { IfOk result (λ path. map path_step path.items
+        ≡ map path_step section.entry.path.now ++ target_keys (text_in
+        (option_map (λ table. tree_view table.now) section.entry.table) (codes "platform"))) }
+{
+    match text_in(section.table, "platform") {
+        Some(_) => path_at(alloc, section.path, "platform"),
+        None => platform_path(alloc, section.path, "target"),
     }
 }
 
 /// Adds what is wrong with a rule's expression for the platform which a binary runs on, if it is
 /// refused.
 fn add_target(
-    refused: &mut Refused<'_, '_>,
+    refused: &Refused<'_, '_>,
+    findings: &mut Vec<Finding>,
     section: Section<'_>,
     refusal: &Option<Refusal>,
-) -> Result<(), AllocError> {
-    let (Some(refusal), Some(text)) = (refusal, target_text(section.table)) else {
-        return Ok(());
-    };
+) -> Result<(), AllocError>
+    ensures { let table = option_map (λ table. tree_view table.now) section.entry.table in
+        OnOk result (AddsLater refused.now.source.layers.now refused.now.source.position
+        (text_fault Code.InvalidPlatform (map path_step section.entry.path.now
+        ++ target_keys (text_in table (codes "platform"))) (target_text table) refusal.now)
+        findings.old.items findings.new.items) }
+{
     let path = target_path(refused.alloc, section)?;
-    add_text(refused, Code::InvalidPlatform, &path, text, refusal)
+    let text = target_text(section.table);
+    add_if_refused(
+        refused,
+        findings,
+        Code::InvalidPlatform,
+        &path,
+        text,
+        refusal,
+    )
 }
 
 /// Adds what is wrong with the texts of a section: its host, its target, its filter and its default
 /// filter.
 fn add_texts(
-    refused: &mut Refused<'_, '_>,
+    refused: &Refused<'_, '_>,
+    findings: &mut Vec<Finding>,
     section: Section<'_>,
     kind: &ConfigCompileErrorKind,
-) -> Result<(), AllocError> {
+) -> Result<(), AllocError>
+    ensures { OnOk result (AddsLater refused.now.source.layers.now refused.now.source.position
+        (texts_of (map path_step section.entry.path.now)
+        (option_map (λ table. tree_view table.now) section.entry.table) kind.now)
+        findings.old.items findings.new.items) }
+{
     let ConfigCompileErrorKind::Parse {
         host_parse_error,
         target_parse_error,
@@ -226,47 +323,52 @@ fn add_texts(
     else {
         return Ok(());
     };
-    add_host(refused, section, host_parse_error)?;
-    add_target(refused, section, target_parse_error)?;
-    add_filter(refused, section, "filter", filter_parse_error)?;
+    add_host(refused, findings, section, host_parse_error)?;
+    add_target(refused, findings, section, target_parse_error)?;
+    add_filter(refused, findings, section, "filter", filter_parse_error)?;
     add_filter(
         refused,
+        findings,
         section,
         "default-filter",
         default_filter_parse_error,
     )
 }
 
+/// The path of the table of a section of a profile.
+fn table_path<'p>(
+    alloc: Global,
+    profile: &'p str,
+    section: ConfigCompileSection,
+) -> Result<Vec<Step<'p>>, AllocError>
+    ensures { IfOk result (λ path. map path_step path.items
+        ≡ table_path profile.entry.now section) }
+{
+    match section {
+        ConfigCompileSection::DefaultFilter => {
+            Vec::from_slice(alloc, &[Step::Key("profile"), Step::Key(profile)])
+        }
+        rule => section_path(alloc, profile, rule),
+    }
+}
+
 /// Adds what is wrong with the refused texts of a section of a profile.
 pub fn add_refused_texts(
-    refused: &mut Refused<'_, '_>,
+    refused: &Refused<'_, '_>,
+    findings: &mut Vec<Finding>,
     error: &ConfigCompileError,
-) -> Result<(), AllocError> {
-    let Some(tree) = refused.source.tree() else {
-        return Ok(());
-    };
+) -> Result<(), AllocError>
+    ensures { let layers = refused.now.source.layers.now in
+        let position = refused.now.source.position in
+        OnOk result (AddsLater layers position
+        (refused_texts (document_at layers position) error.now) findings.old.items
+        findings.new.items) }
+{
     let profile = error.profile_name.as_str();
-    let (list, index) = match error.section {
-        ConfigCompileSection::DefaultFilter => {
-            let path = [Step::Key("profile"), Step::Key(profile)];
-            let section = Section {
-                path: &path,
-                table: profile_table(tree, profile),
-            };
-            return add_texts(refused, section, &error.kind);
-        }
-        ConfigCompileSection::Override(index) => ("overrides", index),
-        ConfigCompileSection::Script(index) => ("scripts", index),
-    };
-    let path = [
-        Step::Key("profile"),
-        Step::Key(profile),
-        Step::Key(list),
-        Step::Position(index),
-    ];
+    let path = table_path(refused.alloc, profile, error.section)?;
     let section = Section {
         path: &path,
-        table: rule_table(tree, profile, list, index),
+        table: section_table(refused.source.tree(), profile, error.section),
     };
-    add_texts(refused, section, &error.kind)
+    add_texts(refused, findings, section, &error.kind)
 }

@@ -1,10 +1,18 @@
 //! Findings: how they are made, and those of warnings.
-ghost use Rattle.std.specs.Prelude.{◌≡◌, IfOk, Some, None, map};
+ghost use Rattle.std.specs.Prelude.{◌≡◌, IfOk, Some, None, option_map, ◌∷◌, [], codes, map, string_bytes};
 ghost use Rattle.rinqebo_report.specs.Codes.Codes.{code_word};
-ghost use Rattle.rinqebo_faults.specs.Paths.{shown_path};
+ghost use Rattle.rinqebo_faults.specs.Paths.{shown_path, profile_path};
 ghost use Rattle.rinqebo_findings.specs.Placed.{IsPlaceIn};
 ghost use Rattle.nextest_places.specs.Spans.Paths.{path_step};
 ghost use Rattle.rinqebo_findings.specs.Subjects.{step_view, subject};
+ghost use Rattle.nextest_tree.specs.View.{tree_view};
+ghost use Rattle.rinqebo_findings.specs.Later.{document_at, whole_place};
+ghost use Rattle.nextest_places.specs.Spans.Paths as paths;
+ghost use Rattle.nextest_sources.specs.Sources.{source_view};
+ghost use Rattle.nextest_sources.specs.WarningsView.{warning_view, warnings_view};
+ghost use Rattle.rinqebo_findings.specs.Warnings.{AreOfEach, is_other, other_warnings, profile_steps, ReportWarning, ReportWarningAt, ReportWarnings, source_of, WarnsOf, WarnsOfKey};
+ghost use Rattle.std.specs.Option.{option_and_then, option_copied};
+ghost use Rattle.rinqebo_findings.specs.Sources.{layer_at};
 
 use crate::given::value_at;
 use crate::paths::spelled_path;
@@ -29,12 +37,18 @@ pub struct SourceAt<'l, 't> {
 
 impl<'l, 't> SourceAt<'l, 't> {
     /// The tree of the source, if its text is a document.
-    pub fn tree(self) -> Option<&'l Tree> {
+    pub fn tree(self) -> Option<&'l Tree>
+        ensures { option_map (λ tree. tree_view tree.now) result
+            ≡ document_at self.entry.layers.now self.entry.position }
+    {
         self.layers.get(self.position?)?.tree()
     }
 
     /// Where the values of the source are written in its text, if it has one.
-    pub fn spans(self) -> Option<&'l PathSpans<'t>> {
+    pub fn spans(self) -> Option<&'l PathSpans<'t>>
+        ensures { option_copied result ≡ option_and_then (λ layer. layer.places)
+            (layer_at self.entry.layers.now self.entry.position) }
+    {
         let layer = self.layers.get(self.position?)?;
         match &layer.places {
             Some(document) => Some(document.spans()),
@@ -43,12 +57,17 @@ impl<'l, 't> SourceAt<'l, 't> {
     }
 
     /// Why the text of the source is not a document, if it is not one.
-    pub fn fault(self) -> Option<&'l NoDocument> {
+    pub fn fault(self) -> Option<&'l NoDocument>
+        ensures { option_copied result ≡ option_and_then (λ layer. layer.fault)
+            (layer_at self.entry.layers.now self.entry.position) }
+    {
         self.layers.get(self.position?)?.fault.as_ref()
     }
 
     /// The place of the whole source.
-    fn place(self) -> Option<FilePlace> {
+    fn place(self) -> Option<FilePlace>
+        ensures { result ≡ option_map whole_place self.entry.position }
+    {
         Some(FilePlace::in_source(self.position?))
     }
 
@@ -74,7 +93,9 @@ pub struct Label {
 
 impl Label {
     /// Returns a code without a name of nextest-runner.
-    pub fn own(code: Code) -> Label {
+    pub fn own(code: Code) -> Label
+        ensures { result ≡ record { code = code; upstream = None } }
+    {
         Label {
             code,
             upstream: None,
@@ -122,8 +143,10 @@ pub fn finding(
     source: SourceAt<'_, '_>,
     message: String,
 ) -> Result<Finding, AllocError>
-    ensures { IfOk result (λ found. subject found
+    ensures about { IfOk result (λ found. subject found
         ≡ record { level = level; code = code_word label.code; path = None }) }
+    ensures place { IfOk result (λ found. found.place
+        ≡ option_map whole_place source.entry.position) }
 {
     let upstream = copied(alloc, label.upstream)?;
     let code = String::from_str(alloc, label.code.word())?;
@@ -250,7 +273,9 @@ pub fn unknown_key_at(
 }
 
 /// Warns of a key without effect, whose path a text spells.
-fn unknown_key(alloc: Global, source: SourceAt<'_, '_>, path: &str) -> Result<Finding, AllocError> {
+fn unknown_key(alloc: Global, source: SourceAt<'_, '_>, path: &str) -> Result<Finding, AllocError>
+    ensures { IfOk result (WarnsOfKey source.entry.layers.now source.entry.position path.now) }
+{
     let at = spelled_path(alloc, source, path, Fault::UnknownKey)?;
     unknown_key_at(alloc, source, &at)
 }
@@ -260,7 +285,10 @@ fn reserved_profile(
     alloc: Global,
     source: SourceAt<'_, '_>,
     name: &str,
-) -> Result<Finding, AllocError> {
+) -> Result<Finding, AllocError>
+    ensures { IfOk result (WarnsOf source.entry.layers.now source.entry.position
+        Code.ReservedProfile (profile_steps name.now)) }
+{
     let expected = copied(alloc, Some("a name that does not begin with `default-`"))?;
     let message = format!(in alloc;
         "`{name}`: names of profiles that begin with `default-` are nextest's own"
@@ -292,7 +320,10 @@ fn scripts_header(alloc: Global, source: SourceAt<'_, '_>) -> Result<String, All
 }
 
 /// Warns of scripts under the old key.
-fn old_scripts(alloc: Global, source: SourceAt<'_, '_>) -> Result<Finding, AllocError> {
+fn old_scripts(alloc: Global, source: SourceAt<'_, '_>) -> Result<Finding, AllocError>
+    ensures { IfOk result (WarnsOf source.entry.layers.now source.entry.position
+        Code.OldScriptTable (paths.key (codes "script") ∷ [])) }
+{
     let header = scripts_header(alloc, source)?;
     let help = format!(in alloc; "write `[{header}]`")?;
     let message = String::from_str(
@@ -316,7 +347,10 @@ fn empty_rules(
     source: SourceAt<'_, '_>,
     profile: &str,
     count: usize,
-) -> Result<Finding, AllocError> {
+) -> Result<Finding, AllocError>
+    ensures { IfOk result (WarnsOf source.entry.layers.now source.entry.position
+        Code.EmptyScriptRule (profile_path profile.now (codes "scripts"))) }
+{
     let expected = copied(alloc, Some("`setup`, `list-wrapper` or `run-wrapper`"))?;
     let message = format!(in alloc; "rules that name no script: {count}")?;
     let mut found = key_warning(
@@ -331,7 +365,9 @@ fn empty_rules(
 }
 
 /// The source that a warning is about.
-fn source_of(warning: &ConfigWarning) -> &ConfigSource {
+fn source_of(warning: &ConfigWarning) -> &ConfigSource
+    ensures { source_view result.now ≡ source_of (warning_view warning.now) }
+{
     match warning {
         ConfigWarning::UnknownConfigKeys { source, .. }
         | ConfigWarning::UnknownReservedProfiles { source, .. }
@@ -340,41 +376,91 @@ fn source_of(warning: &ConfigWarning) -> &ConfigSource {
     }
 }
 
-/// Adds the findings of a warning.
-fn add_warning(
+/// The findings of unknown keys, whose paths texts spell.
+fn unknown_keys(
+    alloc: Global,
+    source: SourceAt<'_, '_>,
+    paths: &[String],
+) -> Result<Vec<Finding>, AllocError>
+    ensures { IfOk result (λ findings. AreOfEach
+        (WarnsOfKey source.entry.layers.now source.entry.position) (map string_bytes paths.now)
+        findings.items) }
+{
+    let mut findings = Vec::new(alloc);
+    for path in paths {
+        findings.push(unknown_key(alloc, source, path.as_str())?)?;
+    }
+    Ok(findings)
+}
+
+/// The findings of profiles whose names are reserved.
+fn reserved_profiles(
+    alloc: Global,
+    source: SourceAt<'_, '_>,
+    names: &[String],
+) -> Result<Vec<Finding>, AllocError>
+    ensures { IfOk result (λ findings. AreOfEach (λ name. WarnsOf source.entry.layers.now
+        source.entry.position Code.ReservedProfile (profile_steps name))
+        (map string_bytes names.now) findings.items) }
+{
+    let mut findings = Vec::new(alloc);
+    for name in names {
+        findings.push(reserved_profile(alloc, source, name.as_str())?)?;
+    }
+    Ok(findings)
+}
+
+/// A finding alone.
+fn only(alloc: Global, finding: Finding) -> Result<Vec<Finding>, AllocError>
+    ensures { IfOk result (λ findings. findings.items ≡ finding ∷ []) }
+{
+    let mut findings = Vec::new(alloc);
+    findings.push(finding)?;
+    Ok(findings)
+}
+
+/// The findings of a warning of a source.
+fn findings_at(
+    alloc: Global,
+    source: SourceAt<'_, '_>,
+    warning: &ConfigWarning,
+) -> Result<Vec<Finding>, AllocError>
+    ensures { IfOk result (λ findings. ReportWarningAt source.entry.layers.now
+        source.entry.position (warning_view warning.now) findings.items) }
+{
+    match warning {
+        ConfigWarning::UnknownConfigKeys { paths, .. } => unknown_keys(alloc, source, paths),
+        ConfigWarning::UnknownReservedProfiles { names, .. } => {
+            reserved_profiles(alloc, source, names)
+        }
+        ConfigWarning::DeprecatedScriptConfig { .. } => only(alloc, old_scripts(alloc, source)?),
+        ConfigWarning::EmptyScriptSections { profile, count, .. } => {
+            only(alloc, empty_rules(alloc, source, profile.as_str(), *count)?)
+        }
+    }
+}
+
+/// The findings of a warning.
+fn findings_of(
     alloc: Global,
     layers: &[Layer],
     warning: &ConfigWarning,
-    findings: &mut Vec<Finding>,
-) -> Result<(), AllocError> {
+) -> Result<Vec<Finding>, AllocError>
+    ensures { IfOk result (λ findings. ReportWarning layers.now (warning_view warning.now)
+        findings.items) }
+{
     let source = SourceAt {
         layers,
         position: place_of(layers, source_of(warning)),
     };
-    match warning {
-        ConfigWarning::UnknownConfigKeys { paths, .. } => {
-            for path in paths {
-                findings.push(unknown_key(alloc, source, path.as_str())?)?;
-            }
-        }
-        ConfigWarning::UnknownReservedProfiles { names, .. } => {
-            for name in names {
-                findings.push(reserved_profile(alloc, source, name.as_str())?)?;
-            }
-        }
-        ConfigWarning::DeprecatedScriptConfig { .. } => {
-            findings.push(old_scripts(alloc, source)?)?;
-        }
-        ConfigWarning::EmptyScriptSections { profile, count, .. } => {
-            findings.push(empty_rules(alloc, source, profile.as_str(), *count)?)?;
-        }
-    }
-    Ok(())
+    findings_at(alloc, source, warning)
 }
 
-/// Whether a warning is about unknown keys.
-fn is_of_keys(warning: &ConfigWarning) -> bool {
-    matches!(warning, ConfigWarning::UnknownConfigKeys { .. })
+/// Whether a warning is about other things than unknown keys.
+fn is_other(warning: &ConfigWarning) -> bool
+    ensures { result ≡ is_other (warning_view warning.now) }
+{
+    !matches!(warning, ConfigWarning::UnknownConfigKeys { .. })
 }
 
 /// The findings of warnings other than those of unknown keys, in their order.
@@ -382,11 +468,15 @@ pub fn other_warning_findings(
     alloc: Global,
     layers: &[Layer],
     warnings: &DefaultConfigWarnings,
-) -> Result<Vec<Finding>, AllocError> {
+) -> Result<Vec<Finding>, AllocError>
+    ensures { IfOk result (λ findings. ReportWarnings layers.now
+        (other_warnings (warnings_view warnings.now)) findings.items) }
+{
     let mut findings = Vec::new(alloc);
     for warning in warnings.warnings() {
-        if !is_of_keys(warning) {
-            add_warning(alloc, layers, warning, &mut findings)?;
+        if is_other(warning) {
+            let mut more = findings_of(alloc, layers, warning)?;
+            findings.append(&mut more)?;
         }
     }
     Ok(findings)
@@ -397,10 +487,14 @@ pub fn warning_findings(
     alloc: Global,
     layers: &[Layer],
     warnings: &DefaultConfigWarnings,
-) -> Result<Vec<Finding>, AllocError> {
+) -> Result<Vec<Finding>, AllocError>
+    ensures { IfOk result (λ findings. ReportWarnings layers.now (warnings_view warnings.now)
+        findings.items) }
+{
     let mut findings = Vec::new(alloc);
     for warning in warnings.warnings() {
-        add_warning(alloc, layers, warning, &mut findings)?;
+        let mut more = findings_of(alloc, layers, warning)?;
+        findings.append(&mut more)?;
     }
     Ok(findings)
 }

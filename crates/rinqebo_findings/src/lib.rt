@@ -17,6 +17,7 @@ mod not_toml;
 mod parents;
 mod paths;
 mod refused;
+mod rule_texts;
 mod unknown_names;
 
 pub use elements::{add_element, fault_finding};
