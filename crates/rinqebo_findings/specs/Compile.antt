@@ -1,8 +1,8 @@
 -- What does not compile, as findings report it.
-use Rattle.std.specs.Prelude.{ℕ, List, [], ◌∷◌, ◌++◌, codes, flat_map, Option, None, Some, option_map, string_bytes}
+use Rattle.std.specs.Prelude.{ℕ, List, [], ◌∷◌, ◌++◌, codes, flat_map, Option, None, Some, string_bytes}
 use Rattle.std.specs.Option.{option_and_then}
+use Rattle.nextest_engines.specs.declared.refusal.LabeledSpan.{LabeledSpan}
 use Rattle.nextest_engines.specs.declared.refusal.Refusal.{Refusal}
-use Rattle.nextest_places.specs.Path.{item_at}
 use Rattle.nextest_places.specs.Spans.Paths.{PathStep}
 use Rattle.nextest_places.specs.Spans.Paths as paths
 use Rattle.nextest_sources.specs.declared.error.compile.ConfigCompileError.{ConfigCompileError}
@@ -10,82 +10,82 @@ use Rattle.nextest_sources.specs.declared.error.compile.ConfigCompileErrorKind.{
 use Rattle.nextest_sources.specs.declared.error.compile.ConfigCompileErrorKind.TheVariants as kinds
 use Rattle.nextest_sources.specs.declared.error.compile.ConfigCompileSection.{ConfigCompileSection}
 use Rattle.nextest_sources.specs.declared.error.compile.ConfigCompileSection.TheVariants as sections
-use Rattle.nextest_tree.specs.Node.{Node, as_array, as_text, member_of}
+use Rattle.nextest_tree.specs.Node.{Node}
 use Rattle.rinqebo_report.specs.declared.codes.code.Code.{Code}
 use Rattle.rinqebo_report.specs.declared.codes.code.Code.TheVariants.{InvalidFilter, InvalidPlatform, RuleWithoutCondition, TwoFilters}
+use Rattle.rinqebo_request.specs.Files.RuleTables.{host_spec, profile_node, rule_node, target_spec, text_in}
 use Rattle.rinqebo_request.specs.declared.files.places.SpanPart.TheVariants as parts
 use Rattle.rinqebo_faults.specs.Paths.{section_path}
 use Rattle.rinqebo_findings.specs.Later.{at, in_text, LaterFault}
 
--- the table of a profile of a file
-abbrev pub profile_node : Option Node → List ℕ → Option Node
-profile_node file profile =
-    option_and_then (member_of profile) (option_and_then (member_of (codes "profile")) file)
+-- the table of a section in a tree: that of the profile, or of a rule of it
+abbrev pub section_in : List ℕ → ConfigCompileSection → Node → Option Node
+section_in profile sections.DefaultFilter tree = profile_node profile tree
+section_in profile (sections.Override index) tree = rule_node profile (codes "overrides") index tree
+section_in profile (sections.Script index) tree = rule_node profile (codes "scripts") index tree
 
--- the rule at a position of a list of a profile of a file
-abbrev pub rule_node : Option Node → (profile list : List ℕ) → ℕ → Option Node
-rule_node file profile list index =
-    option_and_then (item_at index)
-    (option_and_then as_array (option_and_then (member_of list) (profile_node file profile)))
-
--- the table of a section
+-- the same in a file
 abbrev pub section_node : Option Node → List ℕ → ConfigCompileSection → Option Node
-section_node file profile sections.DefaultFilter = profile_node file profile
-section_node file profile (sections.Override index) =
-    rule_node file profile (codes "overrides") index
-section_node file profile (sections.Script index) = rule_node file profile (codes "scripts") index
+section_node file profile section = option_and_then (section_in profile section) file
 
 -- the path of the table of a section
 abbrev pub table_path : List ℕ → ConfigCompileSection → List PathStep
 table_path profile sections.DefaultFilter =
     paths.key (codes "profile") ∷ paths.key profile ∷ []
-table_path profile section = section_path profile section
+table_path profile (sections.Override index) = section_path profile (sections.Override index)
+table_path profile (sections.Script index) = section_path profile (sections.Script index)
 
--- the text at a key of a table
-abbrev pub text_in : Option Node → List ℕ → Option (List ℕ)
-text_in node key = option_and_then as_text (option_and_then (member_of key) node)
-
--- what a table has at `platform`
-abbrev pub platform_of : Option Node → Option Node
-platform_of node = option_and_then (member_of (codes "platform")) node
-
--- the first that there is
-abbrev pub first_text : Option (List ℕ) → Option (List ℕ) → Option (List ℕ)
-first_text (Some text) other = Some text
-first_text None other = other
-
--- the text of what the platform has to meet which a binary runs on, and where it is
-abbrev pub target_text : Option Node → Option (List ℕ)
-target_text node = first_text (text_in node (codes "platform")) (text_in (platform_of node) (codes "target"))
-
+-- the keys at which a rule writes what the platform has to meet which a binary runs on: `platform`
+-- where that is a text
 abbrev pub target_keys : Option (List ℕ) → List PathStep
 target_keys (Some text) = paths.key (codes "platform") ∷ []
 target_keys None = paths.key (codes "platform") ∷ paths.key (codes "target") ∷ []
 
--- the bytes of the part of a text that an engine refuses, if it names one
-abbrev pub refused_bytes : Refusal → Option (ℕ × ℕ)
-refused_bytes refusal = option_map (λ span. (span.bytes.start, span.bytes.end)) refusal.span
+-- a text at a path that an engine refuses: the part of it that is refused, if the engine names one
+abbrev pub refused_part : Code → List PathStep → List ℕ → Option LabeledSpan → LaterFault
+refused_part code path text None = at parts.Value code path
+refused_part code path text (Some span) =
+    in_text code path text span.bytes.start span.bytes.end
 
--- a text at a path that an engine refuses
+-- a text at a path, if there is one and an engine refuses it
 abbrev pub text_fault : Code → List PathStep → Option (List ℕ) → Option Refusal → List LaterFault
-text_fault code path (Some text) (Some refusal) =
-    in_text code path text (refused_bytes refusal) ∷ []
-text_fault code path text refusal = []
+text_fault code path None refusal = []
+text_fault code path (Some text) None = []
+text_fault code path (Some text) (Some refusal) = refused_part code path text refusal.span ∷ []
+
+-- the host of a section
+abbrev pub host_fault : List PathStep → Option Node → Option Refusal → List LaterFault
+host_fault path node refusal =
+    text_fault InvalidPlatform
+    (path ++ paths.key (codes "platform") ∷ paths.key (codes "host") ∷ []) (host_spec node) refusal
+
+-- the target of a section
+abbrev pub target_fault : List PathStep → Option Node → Option Refusal → List LaterFault
+target_fault path node refusal =
+    text_fault InvalidPlatform (path ++ target_keys (text_in (codes "platform") node))
+    (target_spec node) refusal
+
+-- the filter of a section at a key
+abbrev pub filter_fault :
+    List PathStep → Option Node → (key : List ℕ) → Option Refusal → List LaterFault
+filter_fault path node key refusal =
+    text_fault InvalidFilter (path ++ paths.key key ∷ []) (text_in key node) refusal
 
 -- the texts of a section that the engines refuse: its host, its target, its filter and its default
 -- filter
+abbrev pub parsed_faults : List PathStep → Option Node
+    → (host target filter default_filter : Option Refusal) → List LaterFault
+parsed_faults path node host target filter default_filter =
+    host_fault path node host
+    ++ (target_fault path node target
+    ++ (filter_fault path node (codes "filter") filter
+    ++ filter_fault path node (codes "default-filter") default_filter))
+
 abbrev pub texts_of : List PathStep → Option Node → ConfigCompileErrorKind → List LaterFault
+texts_of path node (kinds.ConstraintsNotSpecified has_default) = []
+texts_of path node kinds.FilterAndDefaultFilterSpecified = []
 texts_of path node (kinds.Parse host target filter default_filter) =
-    text_fault InvalidPlatform
-    (path ++ paths.key (codes "platform") ∷ paths.key (codes "host") ∷ [])
-    (text_in (platform_of node) (codes "host")) host
-    ++ (text_fault InvalidPlatform (path ++ target_keys (text_in node (codes "platform")))
-    (target_text node) target
-    ++ (text_fault InvalidFilter (path ++ paths.key (codes "filter") ∷ [])
-    (text_in node (codes "filter")) filter
-    ++ text_fault InvalidFilter (path ++ paths.key (codes "default-filter") ∷ [])
-    (text_in node (codes "default-filter")) default_filter))
-texts_of path node kind = []
+    parsed_faults path node host target filter default_filter
 
 -- the texts that are refused of what an error is about
 abbrev pub refused_texts : Option Node → ConfigCompileError → List LaterFault

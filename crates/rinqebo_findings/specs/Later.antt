@@ -1,7 +1,8 @@
 -- What later checks refuse, and the findings that report it.
-use Rattle.std.specs.Prelude.{◌≡◌, ℕ, List, [], ◌∷◌, ◌++◌, codes, flat_map, map, slice_get, Option, None, Some, option_map, string_bytes, if◌then◌else◌}
+use Rattle.std.specs.Prelude.{◌≡◌, ℕ, List, [], ◌∷◌, ◌++◌, codes, flat_map, map, slice_get, Option, None, Some, option_map, String, string_bytes, Vec, if◌then◌else◌}
 use Rattle.std.specs.Borrow.{Bor}
 use Rattle.std.specs.Option.{option_and_then}
+use Rattle.std.specs.declared.alloc.Global.{Global}
 use Rattle.nextest_elements.specs.Experimental.{experimental_text}
 use Rattle.nextest_elements.specs.TestGroup.{custom_group_text}
 use Rattle.nextest_elements.specs.declared.experimental.ConfigExperimental.{ConfigExperimental}
@@ -33,11 +34,12 @@ use Rattle.nextest_sources.specs.declared.error.scripts.ProfileUnknownScriptErro
 use Rattle.nextest_sources.specs.declared.error.scripts.ProfileWrongConfigScriptTypeError.{ProfileWrongConfigScriptTypeError}
 use Rattle.rinqebo_faults.specs.Edits.{may_be, NamesView}
 use Rattle.rinqebo_faults.specs.Features.{feature_path}
-use Rattle.rinqebo_faults.specs.Namings.{AreNamingsOf, naming_path}
+use Rattle.rinqebo_faults.specs.Namings.{naming_path}
 use Rattle.rinqebo_faults.specs.declared.namings.Namings.{Namings}
 use Rattle.rinqebo_faults.specs.Paths.{profile_path, script_path}
 use Rattle.rinqebo_faults.specs.Repairs.{group_path}
 use Rattle.rinqebo_faults.specs.Positions.{IsExpression}
+use Rattle.rinqebo_findings.specs.Each.{AreOfEach}
 use Rattle.rinqebo_findings.specs.Placed.{IsOnLines}
 use Rattle.rinqebo_findings.specs.Subjects.{error_at, IsElementFinding, IsErrorAt, subject}
 use Rattle.rinqebo_findings.specs.declared.foreign.ScriptFault.{ScriptFault}
@@ -47,7 +49,7 @@ use Rattle.rinqebo_findings.specs.declared.foreign.ScriptFault.TheVariants as fa
 -- at fault, the part of a text at a path between two bytes, or else the whole file.
 pub data LaterFault : Type 0 where
   at : SpanPart → Code → List PathStep → LaterFault
-  in_text : Code → List PathStep → (text : List ℕ) → (span : Option (ℕ × ℕ)) → LaterFault
+  in_text : Code → List PathStep → (text : List ℕ) → (start end : ℕ) → LaterFault
   of_file : Code → LaterFault
 
 -- A finding is an error of a code at a path, and at the place of its value or its key.
@@ -63,46 +65,32 @@ pub record IsFileError (source : Option ℕ) (code : Code) (finding : Finding) :
       ≡ record { level = levels.Error; code = code_word code; path = None }
   pub place : option_map (λ place. place.source) finding.place ≡ source
 
--- a refused expression is a text, and the part of it between two bytes; there is none of a text that
--- is refused without a part
-abbrev pub IsRefusedText : List ℕ → Option (ℕ × ℕ) → Option RefusedExpression → Type 0
-IsRefusedText text None expression = expression ≡ None
-IsRefusedText text (Some span) None = ⊥
-IsRefusedText text (Some span) (Some expression) = IsExpression text span.0 span.1 expression
-
--- A finding is an error of a code about a text at a path: it is on the lines of the text, and has it
--- as the refused expression.
+-- A finding is an error of a code about a text at a path: it is on the lines of the text, and shows
+-- the text with the part that is refused.
 pub record IsTextError (layers : List Layer) (source : Option ℕ) (code : Code)
-    (path : List PathStep) (text : List ℕ) (span : Option (ℕ × ℕ)) (finding : Finding) :
-    Type 0 where
+    (path : List PathStep) (text : List ℕ) (start end : ℕ) (finding : Finding) : Type 0 where
   pub steps : List Step
   pub are : map path_step steps ≡ path
   pub about : subject finding ≡ error_at code steps
   pub place : IsOnLines layers source steps finding.place
-  pub expression : IsRefusedText text span finding.expression
+  pub shown : RefusedExpression
+  pub shows : finding.expression ≡ Some shown
+  pub expression : IsExpression text start end shown
 
 -- a finding is that of a fault in a source
 abbrev pub IsLaterFinding : List Layer → Option ℕ → LaterFault → Finding → Type 0
 IsLaterFinding layers source (at part code path) finding =
     IsErrorOn layers source code part path finding
-IsLaterFinding layers source (in_text code path text span) finding =
-    IsTextError layers source code path text span finding
+IsLaterFinding layers source (in_text code path text start end) finding =
+    IsTextError layers source code path text start end finding
 IsLaterFinding layers source (of_file code) finding = IsFileError source code finding
 
--- findings are those of faults, one of each, in their order
-abbrev pub AreLater : List Layer → Option ℕ → List LaterFault → List Finding → Type 0
-AreLater layers source [] [] = Unit {0}
-AreLater layers source [] (finding ∷ findings) = ⊥
-AreLater layers source (fault ∷ faults) [] = ⊥
-AreLater layers source (fault ∷ faults) (finding ∷ findings) =
-    IsLaterFinding layers source fault finding × AreLater layers source faults findings
-
--- The findings of faults are added, and nothing else.
+-- The findings of faults are added, one of each, in their order, and nothing else.
 pub record AddsLater (layers : List Layer) (source : Option ℕ) (faults : List LaterFault)
     (old new : List Finding) : Type 0 where
   pub more : List Finding
   pub whole : new ≡ old ++ more
-  pub are : AreLater layers source faults more
+  pub are : AreOfEach (IsLaterFinding layers source) faults more
 
 -- the place of a whole source
 abbrev pub whole_place : ℕ → FilePlace
@@ -120,7 +108,7 @@ abbrev pub group_fault : List ℕ → LaterFault
 group_fault name = at parts.Key ForeignGroup (group_path name)
 
 abbrev pub group_faults : List CustomTestGroup → List LaterFault
-group_faults groups = map (λ group. group_fault (custom_group_text group)) groups
+group_faults groups = flat_map (λ group. group_fault (custom_group_text group) ∷ []) groups
 
 -- the code of why a source may not define scripts
 abbrev pub script_code : ScriptFault → Code
@@ -132,14 +120,16 @@ abbrev pub script_fault : Option Node → ScriptFault → List ℕ → LaterFaul
 script_fault file fault name = at parts.Key (script_code fault) (script_path file name)
 
 abbrev pub script_faults : Option Node → ScriptFault → List ScriptId → List LaterFault
-script_faults file fault scripts = map (λ id. script_fault file fault (script_text id)) scripts
+script_faults file fault scripts =
+    flat_map (λ id. script_fault file fault (script_text id) ∷ []) scripts
 
 -- features that are not enabled
 abbrev pub feature_fault : Option Node → List ℕ → LaterFault
 feature_fault file feature = at parts.Key FeatureOff (feature_path file feature)
 
 abbrev pub feature_faults : Option Node → List ConfigExperimental → List LaterFault
-feature_faults file features = map (λ f. feature_fault file (experimental_text f)) features
+feature_faults file features =
+    flat_map (λ feature. feature_fault file (experimental_text feature) ∷ []) features
 
 -- the parent of a profile
 abbrev pub parent_fault : Code → List ℕ → LaterFault
@@ -150,6 +140,10 @@ abbrev pub cycle_fault : List (List ℕ) → LaterFault
 cycle_fault [] = of_file InheritanceCycle
 cycle_fault (first ∷ cycle) = parent_fault InheritanceCycle first
 
+-- cycles
+abbrev pub cycle_faults : List (Vec (String Global) Global) → List LaterFault
+cycle_faults cycles = flat_map (λ cycle. cycle_fault (map string_bytes cycle.items) ∷ []) cycles
+
 -- parents that profiles may not have
 abbrev pub parent_faults_of : InheritsError → List LaterFault
 parent_faults_of (inherits.DefaultProfileInheritance profile) =
@@ -158,8 +152,7 @@ parent_faults_of (inherits.SelfReferentialInheritance profile) =
     parent_fault InheritsItself (string_bytes profile) ∷ []
 parent_faults_of (inherits.UnknownInheritance profile parent) =
     parent_fault UnknownParent (string_bytes profile) ∷ []
-parent_faults_of (inherits.InheritanceCycle cycles) =
-    map (λ cycle. cycle_fault (map string_bytes cycle.items)) cycles.items
+parent_faults_of (inherits.InheritanceCycle cycles) = cycle_faults cycles.items
 
 abbrev pub parent_faults : List InheritsError → List LaterFault
 parent_faults errors = flat_map parent_faults_of errors
@@ -204,23 +197,23 @@ wrong_kind_faults namings left_out error =
     (profile_script_type_text error.attempted ∷ []) (script_text error.name))
 
 -- a list wrapper beside a filter that only a test can decide
-abbrev pub list_wrapper_fault : Namings → ProfileListScriptUsesRunFiltersError → LaterFault
-list_wrapper_fault namings error =
+abbrev pub list_wrapper_faults : Namings → ProfileListScriptUsesRunFiltersError → List LaterFault
+list_wrapper_faults namings error =
     name_fault ListWrapperFilter namings (string_bytes error.profile_name)
-    (codes "list-wrapper" ∷ []) (script_text error.name)
+    (codes "list-wrapper" ∷ []) (script_text error.name) ∷ []
 
 -- what is wrong with the scripts that rules name, but for those whose definitions are left out
 abbrev pub script_rule_faults : Namings → NamesView → ProfileScriptErrors → List LaterFault
 script_rule_faults namings left_out errors =
     flat_map (unknown_script_faults namings left_out) errors.unknown_scripts.items
     ++ (flat_map (wrong_kind_faults namings left_out) errors.wrong_script_types.items
-    ++ map (list_wrapper_fault namings) errors.list_scripts_using_run_filters.items)
+    ++ flat_map (list_wrapper_faults namings) errors.list_scripts_using_run_filters.items)
 
--- The findings are added of groups that rules set and no file defines.
+-- The findings are added of groups that rules set and no file defines. No contract says which names
+-- the namings have.
 pub record AddsUnknownGroups (layers : List Layer) (source : Option ℕ) (left_out : NamesView)
     (errors : List UnknownTestGroupError) (old new : List Finding) : Type 0 where
   pub namings : Namings
-  pub are : AreNamingsOf (document_at layers source) (codes "overrides") group_uses namings
   pub adds : AddsLater layers source
       (flat_map (unknown_group_faults namings left_out) errors) old new
 
@@ -228,7 +221,6 @@ pub record AddsUnknownGroups (layers : List Layer) (source : Option ℕ) (left_o
 pub record AddsScriptErrors (layers : List Layer) (source : Option ℕ) (left_out : NamesView)
     (errors : ProfileScriptErrors) (old new : List Finding) : Type 0 where
   pub namings : Namings
-  pub are : AreNamingsOf (document_at layers source) (codes "scripts") script_uses namings
   pub adds : AddsLater layers source (script_rule_faults namings left_out errors) old new
 
 -- The finding is added of a value that is refused for a cause, at some path.

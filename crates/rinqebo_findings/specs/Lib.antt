@@ -1,8 +1,7 @@
 pub mod Compile
-pub mod Files
+pub mod Each
 pub mod Later
 pub mod Placed
 pub mod Shown
-pub mod Sources
 pub mod Subjects
 pub mod Warnings

@@ -14,6 +14,7 @@ use Rattle.rinqebo_request.specs.Files.Origins.{HasNoFile, IsFileAt}
 use Rattle.rinqebo_request.specs.declared.files.layers.Layer.{Layer}
 use Rattle.rinqebo_request.specs.declared.files.places.SpanPart.TheVariants as parts
 use Rattle.rinqebo_faults.specs.Paths.{profile_path, shown_path}
+use Rattle.rinqebo_findings.specs.Each.{AreOfEach}
 use Rattle.rinqebo_findings.specs.Placed.{IsPlaceIn}
 use Rattle.rinqebo_findings.specs.Subjects.{subject}
 
@@ -34,18 +35,11 @@ pub record WarnsOf (layers : List Layer) (source : Option ℕ) (code : Code) (pa
   pub are : map path_step steps ≡ path
   pub warns : WarnsAt layers source code steps finding
 
--- A finding warns of an unknown key of a source, whose path a text spells.
-pub record WarnsOfKey (layers : List Layer) (source : Option ℕ) (path : List ℕ)
-    (finding : Finding) : Type 0 where
+-- A finding warns of an unknown key of a source. No contract says which path a text spells.
+pub record WarnsOfKey (layers : List Layer) (source : Option ℕ) (finding : Finding) :
+    Type 0 where
   pub steps : List Step
   pub warns : WarnsAt layers source UnknownKey steps finding
-
--- findings are those of some things, one of each, in their order
-abbrev pub AreOfEach : {X : Type 0} → (X → Finding → Type 0) → List X → List Finding → Type 0
-AreOfEach IsOf [] [] = Unit {0}
-AreOfEach IsOf [] (finding ∷ findings) = ⊥
-AreOfEach IsOf (x ∷ xs) [] = ⊥
-AreOfEach IsOf (x ∷ xs) (finding ∷ findings) = IsOf x finding × AreOfEach IsOf xs findings
 
 -- a position is that of a source among layers, if it is one of them
 abbrev pub IsPositionOf : List Layer → Source → Option ℕ → Type 0
@@ -59,7 +53,7 @@ profile_steps name = paths.key (codes "profile") ∷ paths.key name ∷ []
 -- findings report a warning of a source at a position
 abbrev pub ReportWarningAt : List Layer → Option ℕ → Warning → List Finding → Type 0
 ReportWarningAt layers position (unknown_keys source keys) findings =
-    AreOfEach (WarnsOfKey layers position) keys findings
+    AreOfEach (λ key. WarnsOfKey layers position) keys findings
 ReportWarningAt layers position (reserved_profiles source names) findings =
     AreOfEach (λ name. WarnsOf layers position ReservedProfile (profile_steps name)) names findings
 ReportWarningAt layers position (deprecated_scripts source) findings =

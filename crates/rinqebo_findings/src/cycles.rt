@@ -1,6 +1,6 @@
 //! The findings of profiles that inherit in a cycle.
 ghost use Rattle.std.specs.Prelude.{◌∷◌, [], OnOk, map, string_bytes};
-ghost use Rattle.rinqebo_findings.specs.Later.{AddsLater, cycle_fault};
+ghost use Rattle.rinqebo_findings.specs.Later.{AddsLater, cycle_fault, parent_fault};
 
 use crate::below::file_at;
 use crate::refused::Refused;
@@ -102,7 +102,26 @@ fn cycle_lines(
     }
 }
 
-/// Adds that profiles inherit in a cycle: at the parent of the first one.
+/// Adds that profiles inherit in a cycle, in words: at the parent of the first one.
+fn add_cycle_at(
+    refused: &Refused<'_, '_>,
+    findings: &mut Vec<Finding>,
+    first: &str,
+    cycle: &[String],
+    words: &str,
+) -> Result<(), AllocError>
+    ensures { OnOk result (AddsLater refused.now.source.layers.now refused.now.source.position
+        (parent_fault Code.InheritanceCycle first.now ∷ []) findings.old.items findings.new.items) }
+{
+    let path = parent_path(first);
+    let lines = cycle_lines(refused, refused.place_at(&path), cycle)?;
+    let mut found = refused.at(Code::InheritanceCycle, &path, words)?;
+    found.lines = lines;
+    refused.add_finding(findings, found)?;
+    Ok(())
+}
+
+/// Adds that profiles inherit in a cycle.
 pub fn add_cycle(
     refused: &Refused<'_, '_>,
     findings: &mut Vec<Finding>,
@@ -111,14 +130,9 @@ pub fn add_cycle(
     ensures { OnOk result (AddsLater refused.now.source.layers.now refused.now.source.position
         (cycle_fault (map string_bytes cycle.now) ∷ []) findings.old.items findings.new.items) }
 {
-    let alloc = refused.alloc;
-    let words = cycle_words(alloc, refused, cycle)?;
-    let Some(first) = cycle.first() else {
-        return refused.add_whole(findings, Code::InheritanceCycle, words.as_str());
-    };
-    let path = parent_path(first.as_str());
-    let lines = cycle_lines(refused, refused.place_at(&path), cycle)?;
-    let mut found = refused.at(Code::InheritanceCycle, &path, words.as_str())?;
-    found.lines = lines;
-    refused.add_finding(findings, found)
+    let words = cycle_words(refused.alloc, refused, cycle)?;
+    match cycle.first() {
+        Some(first) => { add_cycle_at(refused, findings, first.as_str(), cycle, words.as_str()) }
+        None => refused.add_whole(findings, Code::InheritanceCycle, words.as_str()),
+    }
 }

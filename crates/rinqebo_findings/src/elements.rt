@@ -197,7 +197,24 @@ fn missing_in_source<'s>(
         (lack_part stray) (lack_path table.now stray) found) }
 {
     let stray = stray_at(refused.alloc, source, key, table)?;
-    missing_finding(refused, key, table, stray)
+    Ok(missing_finding(refused, key, table, stray)?)
+}
+
+/// The finding of a fault of the value at a path of a source.
+fn finding_in_source<'s>(
+    refused: &Refused<'_, '_>,
+    source: SourceAt<'s, '_>,
+    cause: &ElementCause,
+    path: &[Step<'s>],
+) -> Result<Finding, AllocError>
+    ensures { IfOk result (λ found. (stray : Option (Bor (List ℕ)))
+        × IsElementFinding refused.now.source.layers.now refused.now.source.position cause.now
+        path.now stray found) }
+{
+    match cause {
+        ElementCause::Missing(key) => Ok(missing_in_source(refused, source, key.as_str(), path)?),
+        cause => Ok(element_finding(refused, cause, path)?),
+    }
 }
 
 /// Adds that a value is refused.
@@ -212,9 +229,7 @@ pub fn add_element(
     let about = Fault::Value(&fault.cause);
     let source = refused.source;
     let path = spelled_path(refused.alloc, source, fault.path.as_str(), about)?;
-    let found = match &fault.cause {
-        ElementCause::Missing(key) => missing_in_source(refused, source, key.as_str(), &path)?,
-        cause => element_finding(refused, cause, &path)?,
-    };
-    refused.add_finding(findings, found)
+    let found = finding_in_source(refused, source, &fault.cause, &path)?;
+    refused.add_finding(findings, found)?;
+    Ok(())
 }

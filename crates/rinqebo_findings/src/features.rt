@@ -9,7 +9,7 @@ use rinqebo_report::{Code, Finding};
 use rinqebo_request::SpanPart;
 use std::alloc::AllocError;
 
-/// Adds that a feature is not enabled, of several that are missing.
+/// Adds that a feature of a name is not enabled, of several that are missing.
 fn add_feature(
     refused: &Refused<'_, '_>,
     findings: &mut Vec<Finding>,
@@ -27,15 +27,17 @@ fn add_feature(
     let path = feature_path(alloc, tree, name)?;
     let help = feature_help(alloc, tree, name, missing)?;
     let wrong = format!(in alloc; "the feature `{name}` is not enabled")?;
+    let (code, part) = (Code::FeatureOff, SpanPart::Key);
     refused.add_fault(
         findings,
-        Code::FeatureOff,
+        code,
         &path,
-        SpanPart::Key,
+        part,
         wrong.as_str(),
         None,
         Some(help),
-    )
+    )?;
+    Ok(())
 }
 
 /// Adds the features that are not enabled.

@@ -1,29 +1,19 @@
-//! Findings: how they are made, and those of warnings.
-ghost use Rattle.std.specs.Prelude.{◌≡◌, IfOk, Some, None, option_map, ◌∷◌, [], codes, map, string_bytes};
+//! Findings: how they are made.
+ghost use Rattle.std.specs.Prelude.{◌≡◌, IfOk, Some, None, map, option_map};
 ghost use Rattle.rinqebo_report.specs.Codes.Codes.{code_word};
-ghost use Rattle.rinqebo_faults.specs.Paths.{shown_path, profile_path};
-ghost use Rattle.rinqebo_findings.specs.Placed.{IsPlaceIn};
 ghost use Rattle.nextest_places.specs.Spans.Paths.{path_step};
-ghost use Rattle.rinqebo_findings.specs.Subjects.{step_view, subject};
 ghost use Rattle.nextest_tree.specs.View.{tree_view};
+ghost use Rattle.rinqebo_faults.specs.Paths.{shown_path};
 ghost use Rattle.rinqebo_findings.specs.Later.{document_at, whole_place};
-ghost use Rattle.nextest_places.specs.Spans.Paths as paths;
-ghost use Rattle.nextest_sources.specs.Sources.{source_view};
-ghost use Rattle.nextest_sources.specs.WarningsView.{warning_view, warnings_view};
-ghost use Rattle.rinqebo_findings.specs.Warnings.{AreOfEach, is_other, other_warnings, profile_steps, ReportWarning, ReportWarningAt, ReportWarnings, source_of, WarnsOf, WarnsOfKey};
-ghost use Rattle.std.specs.Option.{option_and_then, option_copied};
-ghost use Rattle.rinqebo_findings.specs.Sources.{layer_at};
+ghost use Rattle.rinqebo_findings.specs.Placed.{IsPlaceIn};
+ghost use Rattle.rinqebo_findings.specs.Subjects.{step_view, subject};
+ghost use Rattle.rinqebo_findings.specs.Warnings.{WarnsAt};
 
-use crate::given::value_at;
-use crate::paths::spelled_path;
 use nextest_places::{PathSpans, Step};
-use nextest_sources::{ConfigSource, ConfigWarning, DefaultConfigWarnings};
 use nextest_tree::Tree;
-use rinqebo_faults::{
-    Fault, header_text, keys_note, path_text, profile_path, unknown_key_help, unknown_key_text,
-};
+use rinqebo_faults::{keys_note, path_text, unknown_key_help, unknown_key_text};
 use rinqebo_report::{Code, FilePlace, Finding, FindingStep, Level};
-use rinqebo_request::{Layer, NoDocument, SpanPart, part_place, place_of};
+use rinqebo_request::{Layer, NoDocument, SpanPart, part_place};
 use std::alloc::{AllocError, Global};
 
 /// A source of a run, by its position among the layers, if it is known.
@@ -45,10 +35,7 @@ impl<'l, 't> SourceAt<'l, 't> {
     }
 
     /// Where the values of the source are written in its text, if it has one.
-    pub fn spans(self) -> Option<&'l PathSpans<'t>>
-        ensures { option_copied result ≡ option_and_then (λ layer. layer.places)
-            (layer_at self.entry.layers.now self.entry.position) }
-    {
+    pub fn spans(self) -> Option<&'l PathSpans<'t>> {
         let layer = self.layers.get(self.position?)?;
         match &layer.places {
             Some(document) => Some(document.spans()),
@@ -57,10 +44,7 @@ impl<'l, 't> SourceAt<'l, 't> {
     }
 
     /// Why the text of the source is not a document, if it is not one.
-    pub fn fault(self) -> Option<&'l NoDocument>
-        ensures { option_copied result ≡ option_and_then (λ layer. layer.fault)
-            (layer_at self.entry.layers.now self.entry.position) }
-    {
+    pub fn fault(self) -> Option<&'l NoDocument> {
         self.layers.get(self.position?)?.fault.as_ref()
     }
 
@@ -109,26 +93,8 @@ pub const UNKNOWN_KEY: Label = Label {
     upstream: Some("UnknownConfigKeys"),
 };
 
-/// What the findings of reserved names of profiles are called.
-const RESERVED_PROFILE: Label = Label {
-    code: Code::ReservedProfile,
-    upstream: Some("UnknownReservedProfiles"),
-};
-
-/// What the findings of the old table of scripts are called.
-const OLD_SCRIPT_TABLE: Label = Label {
-    code: Code::OldScriptTable,
-    upstream: Some("DeprecatedScriptConfig"),
-};
-
-/// What the findings of rules that name no script are called.
-const EMPTY_SCRIPT_RULE: Label = Label {
-    code: Code::EmptyScriptRule,
-    upstream: Some("EmptyScriptSections"),
-};
-
 /// A copy of a text, if there is one.
-fn copied(alloc: Global, text: Option<&str>) -> Result<Option<String>, AllocError> {
+pub fn copied(alloc: Global, text: Option<&str>) -> Result<Option<String>, AllocError> {
     match text {
         Some(text) => Ok(Some(String::from_str(alloc, text)?)),
         None => Ok(None),
@@ -229,13 +195,8 @@ pub fn key_warning(
     path: &[Step<'_>],
     message: String,
 ) -> Result<Finding, AllocError>
-    ensures about { IfOk result (λ found. subject found ≡ record {
-      level = Level.Warning;
-      code = code_word label.code;
-      path = Some (shown_path path.now);
-    }) }
-    ensures place { IfOk result (λ found. IsPlaceIn SpanPart.Key source.entry.layers.now
-        source.entry.position path.now found.place) }
+    ensures { IfOk result
+        (WarnsAt source.entry.layers.now source.entry.position label.code path.now) }
 {
     let level = Level::Warning;
     Ok(finding_at(alloc, level, label, source, path, SpanPart::Key, message)?)
@@ -270,231 +231,4 @@ pub fn unknown_key_at(
     found.help = help;
     found.help_place = help_place;
     Ok(with_note(found, note)?)
-}
-
-/// Warns of a key without effect, whose path a text spells.
-fn unknown_key(alloc: Global, source: SourceAt<'_, '_>, path: &str) -> Result<Finding, AllocError>
-    ensures { IfOk result (WarnsOfKey source.entry.layers.now source.entry.position path.now) }
-{
-    let at = spelled_path(alloc, source, path, Fault::UnknownKey)?;
-    unknown_key_at(alloc, source, &at)
-}
-
-/// Warns of a profile whose name is reserved.
-fn reserved_profile(
-    alloc: Global,
-    source: SourceAt<'_, '_>,
-    name: &str,
-) -> Result<Finding, AllocError>
-    ensures { IfOk result (WarnsOf source.entry.layers.now source.entry.position
-        Code.ReservedProfile (profile_steps name.now)) }
-{
-    let expected = copied(alloc, Some("a name that does not begin with `default-`"))?;
-    let message = format!(in alloc;
-        "`{name}`: names of profiles that begin with `default-` are nextest's own"
-    )?;
-    let mut found = key_warning(
-        alloc,
-        RESERVED_PROFILE,
-        source,
-        &[Step::Key("profile"), Step::Key(name)],
-        message,
-    )?;
-    found.expected = expected;
-    Ok(found)
-}
-
-/// The header of the table that takes the place of the old table of scripts.
-fn scripts_header(alloc: Global, source: SourceAt<'_, '_>) -> Result<String, AllocError> {
-    if let Some(Tree::Table(scripts)) = value_at(source, &[Step::Key("script")]) {
-        for name in scripts.keys() {
-            let path = [
-                Step::Key("scripts"),
-                Step::Key("setup"),
-                Step::Key(name.as_str()),
-            ];
-            return header_text(alloc, &path);
-        }
-    }
-    String::from_str(alloc, "scripts.setup")
-}
-
-/// Warns of scripts under the old key.
-fn old_scripts(alloc: Global, source: SourceAt<'_, '_>) -> Result<Finding, AllocError>
-    ensures { IfOk result (WarnsOf source.entry.layers.now source.entry.position
-        Code.OldScriptTable (paths.key (codes "script") ∷ [])) }
-{
-    let header = scripts_header(alloc, source)?;
-    let help = format!(in alloc; "write `[{header}]`")?;
-    let message = String::from_str(
-        alloc,
-        "the table `script` is the old place of setup scripts",
-    )?;
-    let mut found = key_warning(
-        alloc,
-        OLD_SCRIPT_TABLE,
-        source,
-        &[Step::Key("script")],
-        message,
-    )?;
-    found.help = Some(help);
-    Ok(found)
-}
-
-/// Warns of script rules that name no script.
-fn empty_rules(
-    alloc: Global,
-    source: SourceAt<'_, '_>,
-    profile: &str,
-    count: usize,
-) -> Result<Finding, AllocError>
-    ensures { IfOk result (WarnsOf source.entry.layers.now source.entry.position
-        Code.EmptyScriptRule (profile_path profile.now (codes "scripts"))) }
-{
-    let expected = copied(alloc, Some("`setup`, `list-wrapper` or `run-wrapper`"))?;
-    let message = format!(in alloc; "rules that name no script: {count}")?;
-    let mut found = key_warning(
-        alloc,
-        EMPTY_SCRIPT_RULE,
-        source,
-        &profile_path(profile, "scripts"),
-        message,
-    )?;
-    found.expected = expected;
-    Ok(found)
-}
-
-/// The source that a warning is about.
-fn source_of(warning: &ConfigWarning) -> &ConfigSource
-    ensures { source_view result.now ≡ source_of (warning_view warning.now) }
-{
-    match warning {
-        ConfigWarning::UnknownConfigKeys { source, .. }
-        | ConfigWarning::UnknownReservedProfiles { source, .. }
-        | ConfigWarning::DeprecatedScriptConfig { source }
-        | ConfigWarning::EmptyScriptSections { source, .. } => source,
-    }
-}
-
-/// The findings of unknown keys, whose paths texts spell.
-fn unknown_keys(
-    alloc: Global,
-    source: SourceAt<'_, '_>,
-    paths: &[String],
-) -> Result<Vec<Finding>, AllocError>
-    ensures { IfOk result (λ findings. AreOfEach
-        (WarnsOfKey source.entry.layers.now source.entry.position) (map string_bytes paths.now)
-        findings.items) }
-{
-    let mut findings = Vec::new(alloc);
-    for path in paths {
-        findings.push(unknown_key(alloc, source, path.as_str())?)?;
-    }
-    Ok(findings)
-}
-
-/// The findings of profiles whose names are reserved.
-fn reserved_profiles(
-    alloc: Global,
-    source: SourceAt<'_, '_>,
-    names: &[String],
-) -> Result<Vec<Finding>, AllocError>
-    ensures { IfOk result (λ findings. AreOfEach (λ name. WarnsOf source.entry.layers.now
-        source.entry.position Code.ReservedProfile (profile_steps name))
-        (map string_bytes names.now) findings.items) }
-{
-    let mut findings = Vec::new(alloc);
-    for name in names {
-        findings.push(reserved_profile(alloc, source, name.as_str())?)?;
-    }
-    Ok(findings)
-}
-
-/// A finding alone.
-fn only(alloc: Global, finding: Finding) -> Result<Vec<Finding>, AllocError>
-    ensures { IfOk result (λ findings. findings.items ≡ finding ∷ []) }
-{
-    let mut findings = Vec::new(alloc);
-    findings.push(finding)?;
-    Ok(findings)
-}
-
-/// The findings of a warning of a source.
-fn findings_at(
-    alloc: Global,
-    source: SourceAt<'_, '_>,
-    warning: &ConfigWarning,
-) -> Result<Vec<Finding>, AllocError>
-    ensures { IfOk result (λ findings. ReportWarningAt source.entry.layers.now
-        source.entry.position (warning_view warning.now) findings.items) }
-{
-    match warning {
-        ConfigWarning::UnknownConfigKeys { paths, .. } => unknown_keys(alloc, source, paths),
-        ConfigWarning::UnknownReservedProfiles { names, .. } => {
-            reserved_profiles(alloc, source, names)
-        }
-        ConfigWarning::DeprecatedScriptConfig { .. } => only(alloc, old_scripts(alloc, source)?),
-        ConfigWarning::EmptyScriptSections { profile, count, .. } => {
-            only(alloc, empty_rules(alloc, source, profile.as_str(), *count)?)
-        }
-    }
-}
-
-/// The findings of a warning.
-fn findings_of(
-    alloc: Global,
-    layers: &[Layer],
-    warning: &ConfigWarning,
-) -> Result<Vec<Finding>, AllocError>
-    ensures { IfOk result (λ findings. ReportWarning layers.now (warning_view warning.now)
-        findings.items) }
-{
-    let source = SourceAt {
-        layers,
-        position: place_of(layers, source_of(warning)),
-    };
-    findings_at(alloc, source, warning)
-}
-
-/// Whether a warning is about other things than unknown keys.
-fn is_other(warning: &ConfigWarning) -> bool
-    ensures { result ≡ is_other (warning_view warning.now) }
-{
-    !matches!(warning, ConfigWarning::UnknownConfigKeys { .. })
-}
-
-/// The findings of warnings other than those of unknown keys, in their order.
-pub fn other_warning_findings(
-    alloc: Global,
-    layers: &[Layer],
-    warnings: &DefaultConfigWarnings,
-) -> Result<Vec<Finding>, AllocError>
-    ensures { IfOk result (λ findings. ReportWarnings layers.now
-        (other_warnings (warnings_view warnings.now)) findings.items) }
-{
-    let mut findings = Vec::new(alloc);
-    for warning in warnings.warnings() {
-        if is_other(warning) {
-            let mut more = findings_of(alloc, layers, warning)?;
-            findings.append(&mut more)?;
-        }
-    }
-    Ok(findings)
-}
-
-/// The findings of warnings, in their order.
-pub fn warning_findings(
-    alloc: Global,
-    layers: &[Layer],
-    warnings: &DefaultConfigWarnings,
-) -> Result<Vec<Finding>, AllocError>
-    ensures { IfOk result (λ findings. ReportWarnings layers.now (warnings_view warnings.now)
-        findings.items) }
-{
-    let mut findings = Vec::new(alloc);
-    for warning in warnings.warnings() {
-        let mut more = findings_of(alloc, layers, warning)?;
-        findings.append(&mut more)?;
-    }
-    Ok(findings)
 }

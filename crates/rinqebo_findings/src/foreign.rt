@@ -2,7 +2,7 @@
 ghost use Rattle.std.specs.Prelude.{◌∷◌, [], OnOk, map};
 ghost use Rattle.nextest_places.specs.Spans.Paths.{path_step};
 ghost use Rattle.rinqebo_request.specs.declared.files.places.SpanPart.TheVariants as parts;
-ghost use Rattle.rinqebo_findings.specs.Later.{AddsLater, at, document_at, group_fault, group_faults, script_fault, script_faults};
+ghost use Rattle.rinqebo_findings.specs.Later.{AddsLater, at, document_at, group_fault, group_faults, script_code, script_fault, script_faults};
 
 use crate::refused::Refused;
 use nextest_elements::CustomTestGroup;
@@ -115,8 +115,7 @@ pub fn add_groups(
         (group_faults groups.now.keys) findings.old.items findings.new.items) }
 {
     for group in groups.iter() {
-        let name = group.to_string(refused.alloc)?;
-        add_group(refused, findings, name.as_str())?;
+        add_group(refused, findings, group.as_str())?;
     }
     Ok(())
 }
@@ -147,6 +146,26 @@ pub enum ScriptFault {
     Twice,
 }
 
+/// Adds that a source may not define the script of a name, at its path.
+fn add_script_at(
+    refused: &Refused<'_, '_>,
+    findings: &mut Vec<Finding>,
+    path: &[Step<'_>],
+    name: &str,
+    fault: ScriptFault,
+) -> Result<(), AllocError>
+    ensures { OnOk result (AddsLater refused.now.source.layers.now refused.now.source.position
+        (at parts.Key (script_code fault) (map path_step path.now) ∷ []) findings.old.items
+        findings.new.items) }
+{
+    match fault {
+        ScriptFault::Foreign => {
+            add_foreign(refused, findings, Code::ForeignScript, path, "script", name)
+        }
+        ScriptFault::Twice => add_twice(refused, findings, path, name),
+    }
+}
+
 /// Adds that a source may not define the script of a name.
 fn add_script(
     refused: &Refused<'_, '_>,
@@ -161,17 +180,8 @@ fn add_script(
         findings.new.items) }
 {
     let path = script_path(refused.alloc, refused.source.tree(), name)?;
-    match fault {
-        ScriptFault::Foreign => add_foreign(
-            refused,
-            findings,
-            Code::ForeignScript,
-            &path,
-            "script",
-            name,
-        ),
-        ScriptFault::Twice => add_twice(refused, findings, &path, name),
-    }
+    add_script_at(refused, findings, &path, name, fault)?;
+    Ok(())
 }
 
 /// Adds the scripts that a source may not define.

@@ -1,8 +1,4 @@
 //! What is at a path of the files of a run.
-ghost use Rattle.std.specs.Prelude.{◌≡◌, option_map};
-ghost use Rattle.nextest_tree.specs.View.{tree_view};
-ghost use Rattle.rinqebo_findings.specs.Sources.{value_at};
-
 use crate::findings::SourceAt;
 use nextest_places::Step;
 use nextest_tree::Tree;
@@ -10,10 +6,7 @@ use rinqebo_faults::tree_at;
 
 /// The value at a path in a source. A source that does not write the path is refused for what is
 /// below it: the highest source that writes the path counts.
-pub fn value_at<'l>(source: SourceAt<'l, '_>, path: &[Step<'_>]) -> Option<&'l Tree>
-    ensures { option_map (λ found. tree_view found.now) result
-        ≡ value_at source.entry.layers.now source.entry.position path.now }
-{
+pub fn value_at<'l>(source: SourceAt<'l, '_>, path: &[Step<'_>]) -> Option<&'l Tree> {
     if let Some(found) = tree_at(source.tree()?, path) {
         return Some(found);
     }

@@ -10,7 +10,7 @@ use rinqebo_faults::{
     BadLine, LineWords, earlier_definition, first_note, line_at, line_words, lines_with_first,
     on_one_line, range_from, start_of,
 };
-use rinqebo_report::{Code, FileLines, Finding, Position};
+use rinqebo_report::{Code, FileLines, FilePlace, Finding, Position};
 use std::alloc::AllocError;
 
 /// Returns a finding about some characters from a position on, with their line, range and column.
@@ -19,16 +19,32 @@ fn placed(found: Finding, start: Position, len: usize) -> Finding
     ensures place { option_map (λ place. place.source) result.place
         ≡ option_map (λ place. place.source) found.place }
 {
-    let mut found = found;
-    if let Some(place) = &mut found.place {
-        place.lines = Some(FileLines {
+    let Some(FilePlace { source, .. }) = found.place else {
+        return found;
+    };
+    let mut placed = found;
+    placed.place = Some(FilePlace {
+        source,
+        lines: Some(FileLines {
             first: start.line,
             last: start.line,
-        });
-        place.range = Some(range_from(start, len));
-        found.column = Some(start.column);
+        }),
+        range: Some(range_from(start, len)),
+    });
+    placed.column = Some(start.column);
+    placed
+}
+
+/// Returns a finding about the character at a position, if that is known.
+fn placed_at(found: Finding, position: Option<TextPosition>) -> Finding
+    ensures about { subject result ≡ subject found }
+    ensures place { option_map (λ place. place.source) result.place
+        ≡ option_map (λ place. place.source) found.place }
+{
+    match position {
+        Some(position) => placed(found, start_of(position), 1),
+        None => found,
     }
-    found
 }
 
 /// Adds that a line of a text is not TOML, with what is wrong there, in words.
@@ -54,12 +70,14 @@ fn add_bad_line(
     let first = earlier_definition(text, position, bad);
     let note = first_note(alloc, first)?;
     let lines = lines_with_first(alloc, text, range_from(start, len), first)?;
-    let mut found = placed(refused.finding(Code::NotToml, message)?, start, len);
-    found.expected = expected;
-    found.help = help;
-    found.lines = lines;
-    let found = with_note(found, note)?;
-    refused.add_finding(findings, found)
+    let plain = refused.finding(Code::NotToml, message)?;
+    let mut shown = placed(plain, start, len);
+    shown.expected = expected;
+    shown.help = help;
+    shown.lines = lines;
+    let noted = with_note(shown, note)?;
+    refused.add_finding(findings, noted)?;
+    Ok(())
 }
 
 /// Adds that a text is not TOML, for a reason, and where, if that is known.
@@ -73,11 +91,10 @@ fn add_reason(
         (of_file Code.NotToml ∷ []) findings.old.items findings.new.items) }
 {
     let message = on_one_line(refused.alloc, reason)?;
-    let found = refused.finding(Code::NotToml, message)?;
-    match position {
-        Some(position) => refused.add_finding(findings, placed(found, start_of(position), 1)),
-        None => refused.add_finding(findings, found),
-    }
+    let plain = refused.finding(Code::NotToml, message)?;
+    let shown = placed_at(plain, position);
+    refused.add_finding(findings, shown)?;
+    Ok(())
 }
 
 /// Adds that a text is not TOML, for a reason, with what is wrong in its line, if that is known.

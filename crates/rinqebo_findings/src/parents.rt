@@ -1,6 +1,6 @@
 //! Findings of parents that profiles may not have.
-ghost use Rattle.std.specs.Prelude.{◌∷◌, [], OnOk, map, string_bytes};
-ghost use Rattle.rinqebo_findings.specs.Later.{AddsLater, cycle_fault, parent_fault, parent_faults, parent_faults_of};
+ghost use Rattle.std.specs.Prelude.{◌∷◌, [], OnOk};
+ghost use Rattle.rinqebo_findings.specs.Later.{AddsLater, cycle_faults, parent_fault, parent_faults, parent_faults_of};
 
 use crate::cycles::add_cycle;
 use crate::refused::Refused;
@@ -28,6 +28,24 @@ fn profile_names<'l>(alloc: Global, layers: &'l [Layer]) -> Result<Vec<&'l str>,
     Ok(names)
 }
 
+/// Adds what is wrong with the parent of a profile, what is expected there, and what to do.
+fn add_parent_of(
+    refused: &Refused<'_, '_>,
+    findings: &mut Vec<Finding>,
+    code: Code,
+    profile: &str,
+    wrong: &str,
+    expected: &str,
+    help: Option<String>,
+) -> Result<(), AllocError>
+    ensures { OnOk result (AddsLater refused.now.source.layers.now refused.now.source.position
+        (parent_fault code profile.now ∷ []) findings.old.items findings.new.items) }
+{
+    let path = parent_path(profile);
+    refused.add_value(findings, code, &path, wrong, expected, help)?;
+    Ok(())
+}
+
 /// Adds that the parent of a profile is none of the profiles with some names.
 fn add_unknown_parent(
     refused: &Refused<'_, '_>,
@@ -40,14 +58,14 @@ fn add_unknown_parent(
     ensures { OnOk result (AddsLater refused.now.source.layers.now refused.now.source.position
         (parent_fault Code.UnknownParent profile.now ∷ []) findings.old.items findings.new.items) }
 {
-    let alloc = refused.alloc;
-    let help = near_hint(alloc, parent, names)?;
-    let expected = quoted(alloc, names, " or ")?;
+    let help = near_hint(refused.alloc, parent, names)?;
+    let expected = quoted(refused.alloc, names, " or ")?;
     let code = Code::UnknownParent;
-    refused.add_value(
+    add_parent_of(
+        refused,
         findings,
         code,
-        &parent_path(profile),
+        profile,
         wrong,
         expected.as_str(),
         help,
@@ -77,8 +95,7 @@ fn add_cycles(
     cycles: &[Vec<String>],
 ) -> Result<(), AllocError>
     ensures { OnOk result (AddsLater refused.now.source.layers.now refused.now.source.position
-        (map (λ cycle. cycle_fault (map string_bytes cycle.items)) cycles.now) findings.old.items
-        findings.new.items) }
+        (cycle_faults cycles.now) findings.old.items findings.new.items) }
 {
     for cycle in cycles {
         add_cycle(refused, findings, cycle)?;
@@ -96,36 +113,38 @@ fn add_parent(
     ensures { OnOk result (AddsLater refused.now.source.layers.now refused.now.source.position
         (parent_faults_of error.now) findings.old.items findings.new.items) }
 {
-    let alloc = refused.alloc;
-    let wrong = parent_text(alloc, error)?;
-    let wrong = wrong.as_str();
+    let text = parent_text(refused.alloc, error)?;
+    let wrong = text.as_str();
     match error {
         InheritsError::DefaultProfileInheritance(profile) => {
-            let path = parent_path(profile.as_str());
+            let code = Code::DefaultInherits;
             let expected = "no `inherits` in this profile";
-            refused.add_value(
+            add_parent_of(
+                refused,
                 findings,
-                Code::DefaultInherits,
-                &path,
+                code,
+                profile.as_str(),
                 wrong,
                 expected,
                 None,
             )
         }
         InheritsError::SelfReferentialInheritance(profile) => {
-            let path = parent_path(profile.as_str());
+            let code = Code::InheritsItself;
             let expected = "the name of another profile";
-            refused.add_value(findings, Code::InheritsItself, &path, wrong, expected, None)
-        }
-        InheritsError::UnknownInheritance(profile, parent) => {
-            add_unknown_parent(
+            add_parent_of(
                 refused,
                 findings,
-                names,
+                code,
                 profile.as_str(),
-                parent.as_str(),
                 wrong,
+                expected,
+                None,
             )
+        }
+        InheritsError::UnknownInheritance(profile, parent) => {
+            let profile = profile.as_str();
+            add_unknown_parent(refused, findings, names, profile, parent.as_str(), wrong)
         }
         InheritsError::InheritanceCycle(cycles) => add_cycles(refused, findings, cycles),
     }

@@ -88,7 +88,7 @@ impl Refused<'_, '_> {
             ≡ option_map whole_place self.now.source.position) }
     {
         let label = self.label(code);
-        finding(self.alloc, Level::Error, label, self.source, message)
+        Ok(finding(self.alloc, Level::Error, label, self.source, message)?)
     }
 
     /// Adds what is wrong with the value at a path or with its key, what is expected there, if that
