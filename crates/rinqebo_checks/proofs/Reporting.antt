@@ -11,7 +11,6 @@ use Rattle.nextest_tree.specs.Schema as schema
 use Rattle.rinqebo_request.specs.declared.files.layers.Layer.{Layer}
 use Rattle.rinqebo_report.specs.declared.finding.Finding.{Finding}
 use Rattle.rinqebo_checks.specs.declared.value_faults.ValueFault.{ValueFault}
-use Rattle.rinqebo_checks.specs.Later.{AreFoundLater}
 use Rattle.rinqebo_checks.specs.Faults.{IsFindingOf, IsInPlace, IsJoined, IsKeyFinding, ReportAll, ReportDocument, ReportFiles, ReportValues, ReportFaults, document_in}
 
 module _ {Fault : Type 0} (IsOf : Fault → Finding → Type 0) (Joined : Fault → Type 0) where
@@ -138,33 +137,25 @@ module _ (all : List Layer) where
   with_all_files layers place findings no_more reported =
       subst (λ ls. ReportFiles all 0 ls findings) (take_all place layers no_more) reported
 
--- the findings of all files, and those of later checks
-pub with_later : (layers read : List Layer) (findings later all : List Finding) → read ≡ layers
-    → all ≡ findings ++ later → ReportFiles layers 0 read findings → AreFoundLater layers later
-    → ReportAll layers all
-with_later layers read findings later all same whole reported are =
+-- the findings of all files, and others
+pub with_others : (layers read : List Layer) (findings others all : List Finding) → read ≡ layers
+    → all ≡ findings ++ others → ReportFiles layers 0 read findings → ReportAll layers all
+with_others layers read findings others all same whole reported =
     record {
       of_values = findings;
-      later = later;
-      others = [];
-      whole = whole ∙ ap (λ fs. findings ++ fs) (sym (append-nil later));
+      others = others;
+      whole = whole;
       reported = subst (λ ls. ReportFiles layers 0 ls findings) same reported;
-      are_later = are;
     }
 
 -- more findings, of other faults
 pub with_more : (layers : List Layer) (findings all more : List Finding) → all ≡ findings ++ more
     → ReportAll layers findings → ReportAll layers all
 with_more layers findings all more is reported =
-    let front = reported.later ++ reported.others in
     record {
       of_values = reported.of_values;
-      later = reported.later;
       others = reported.others ++ more;
       whole = is ∙ ap (λ fs. fs ++ more) reported.whole
-          ∙ append_assoc reported.of_values front more
-          ∙ ap (λ fs. reported.of_values ++ fs)
-          (append_assoc reported.later reported.others more);
+          ∙ append_assoc reported.of_values reported.others more;
       reported = reported.reported;
-      are_later = reported.are_later;
     }

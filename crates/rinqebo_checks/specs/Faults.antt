@@ -22,7 +22,6 @@ use Rattle.rinqebo_request.specs.declared.files.places.SpanPart.TheVariants as p
 use Rattle.rinqebo_report.specs.declared.finding.Finding.{Finding}
 use Rattle.rinqebo_report.specs.declared.finding.Level.TheVariants as levels
 use Rattle.rinqebo_faults.specs.Paths.{shown_path}
-use Rattle.rinqebo_checks.specs.Later.{AreFoundLater}
 use Rattle.rinqebo_checks.specs.declared.value_faults.ValueFault.{ValueFault}
 use Rattle.rinqebo_findings.specs.Placed.{IsPlaceIn}
 use Rattle.rinqebo_findings.specs.Shown.{AreReported}
@@ -132,15 +131,12 @@ ReportFiles all source (layer ∷ layers) findings =
     × ReportDocument all source (document_in layer) own × ReportFiles all (source + 1) layers others
 
 -- Some of the findings report what is wrong with the values in the files of layers, and their
--- unknown keys. Others are what a load of the files without some of it warns of or refuses. The last
--- ones are about what nextest refuses and a load does not look at.
+-- unknown keys. The others are about what later checks refuse or warn of.
 pub record ReportAll (layers : List Layer) (findings : List Finding) : Type 0 where
   pub of_values : List Finding
-  pub later : List Finding
   pub others : List Finding
-  pub whole : findings ≡ of_values ++ (later ++ others)
+  pub whole : findings ≡ of_values ++ others
   pub reported : ReportFiles layers 0 layers of_values
-  pub are_later : AreFoundLater layers later
 
 -- A report shows what is wrong with the files of layers: its findings report all that is wrong with
 -- their values.

@@ -1,8 +1,4 @@
 //! The files of a run with edits, and the load of these.
-ghost use Rattle.std.specs.Prelude.{◌≡◌, [], IfOk, option_map, string_bytes};
-ghost use Rattle.rinqebo_faults.specs.Edits.{edits_view};
-ghost use Rattle.rinqebo_checks.specs.Readings.{text_at};
-
 use nextest_elements::ConfigExperimental;
 use nextest_load::LoadedConfig;
 use nextest_sources::{
@@ -45,11 +41,7 @@ impl Reading {
         alloc: Global,
         edits: Edits,
         features: &BTreeSet<ConfigExperimental>,
-    ) -> Result<Reading, AllocError>
-        ensures edits { IfOk result (λ reading. edits_view reading.edits ≡ edits_view edits) }
-        ensures unread { IfOk result (λ reading. reading.unread.keys ≡ []) }
-        ensures features { IfOk result (λ reading. reading.features.keys ≡ features.now.keys) }
-    {
+    ) -> Result<Reading, AllocError> {
         let mut copies = BTreeSet::new(alloc);
         for feature in features.iter() {
             copies.insert(*feature)?;
@@ -68,10 +60,7 @@ impl Reading {
         alloc: Global,
         layers: &[Layer],
         place: usize,
-    ) -> Result<Option<String>, AllocError>
-        ensures { IfOk result (λ text. option_map string_bytes text
-            ≡ text_at self.now layers.now place) }
-    {
+    ) -> Result<Option<String>, AllocError> {
         if self.unread.contains(&place) {
             return Ok(Some(String::new(alloc)));
         }

@@ -1,8 +1,6 @@
 //! Findings of a refused configuration: one for each thing that is wrong.
 ghost use Rattle.std.specs.Prelude.{[], ◌∷◌, IfOk, OnOk};
-ghost use Rattle.rinqebo_request.specs.declared.files.places.SpanPart.TheVariants as parts;
-ghost use Rattle.rinqebo_faults.specs.Edits.{left_out_view};
-ghost use Rattle.rinqebo_findings.specs.Compile.{compile_fault, compile_faults, section_code};
+ghost use Rattle.rinqebo_findings.specs.Compile.{compile_fault, compile_faults, section_code, section_fault};
 ghost use Rattle.rinqebo_findings.specs.Later.{AddsLater, document_at, of_file};
 ghost use Rattle.rinqebo_checks.specs.Refusals.{AddsRefusal, outcome_faults, two_tables};
 
@@ -58,6 +56,25 @@ fn section_code(kind: &ConfigCompileErrorKind) -> Code
     }
 }
 
+/// Adds that a whole section does not compile.
+fn add_section(
+    refused: &Refused<'_, '_>,
+    findings: &mut Vec<Finding>,
+    error: &ConfigCompileError,
+) -> Result<(), AllocError>
+    ensures { OnOk result (AddsLater refused.now.source.layers.now refused.now.source.position
+        (section_fault error.now ∷ []) findings.old.items findings.new.items) }
+{
+    let alloc = refused.alloc;
+    let profile = error.profile_name.as_str();
+    let path = section_path(alloc, profile, error.section)?;
+    let wrong = error.kind.to_string(alloc)?;
+    let code = section_code(&error.kind);
+    let part = SpanPart::Value;
+    refused.add_fault(findings, code, &path, part, wrong.as_str(), None, None)?;
+    Ok(())
+}
+
 /// What does not compile: each text that is refused, or else the whole section.
 fn add_compile(
     refused: &Refused<'_, '_>,
@@ -70,26 +87,13 @@ fn add_compile(
         (compile_fault (document_at layers position) error.now) findings.old.items
         findings.new.items) }
 {
-    let alloc = refused.alloc;
-    let profile = error.profile_name.as_str();
-    let section = error.section;
-    let told = findings.len();
+    let before = findings.len();
     add_refused_texts(refused, findings, error)?;
-    if findings.len() > told {
+    if findings.len() > before {
         return Ok(());
     }
-    let path = section_path(alloc, profile, section)?;
-    let wrong = error.kind.to_string(alloc)?;
-    let code = section_code(&error.kind);
-    refused.add_fault(
-        findings,
-        code,
-        &path,
-        SpanPart::Value,
-        wrong.as_str(),
-        None,
-        None,
-    )
+    add_section(refused, findings, error)?;
+    Ok(())
 }
 
 /// A second file of a tool.
@@ -155,7 +159,7 @@ fn add_kind(
     kind: &ConfigParseErrorKind,
 ) -> Result<(), AllocError>
     ensures { OnOk result (AddsRefusal refused.now.source.layers.now refused.now.source.position
-        (left_out_view refused.now.left_out.now) kind.now findings.old.items findings.new.items) }
+        refused.now.left_out.now kind.now findings.old.items findings.new.items) }
 {
     match kind {
         ConfigParseErrorKind::DuplicateToolConfigFile { tool, first } => {
@@ -223,7 +227,7 @@ pub fn refusal_findings(
     left_out: &LeftOut,
 ) -> Result<Vec<Finding>, AllocError>
     ensures { IfOk result (λ findings. AddsRefusal session.now.layers.items position
-        (left_out_view left_out.now) error.now.kind [] findings.items) }
+        left_out.now error.now.kind [] findings.items) }
 {
     let text = match position {
         Some(position) => text_of(session.gathered, position),

@@ -1,8 +1,7 @@
 //! All that is wrong with files that are refused: the faults of all values, the unknown keys, and
 //! then what each later check finds in files without the faults.
-ghost use Rattle.std.specs.Prelude.{IfOk, ◌≡◌, [], OnOk};
+ghost use Rattle.std.specs.Prelude.{IfOk};
 ghost use Rattle.rinqebo_checks.specs.Faults.{ReportAll};
-ghost use Rattle.rinqebo_checks.specs.Later.{KeepsLater};
 
 use crate::edited_files::Reading;
 use crate::file_values::value_findings;
@@ -73,10 +72,7 @@ impl<'s, 'g> Search<'s, 'g> {
         alloc: Global,
         session: &'s Session<'g>,
         edits: Edits,
-    ) -> Result<Search<'s, 'g>, AllocError>
-        ensures session { IfOk result (λ search. search.session.now ≡ session.entry.now) }
-        ensures findings { IfOk result (λ search. search.findings.items ≡ []) }
-    {
+    ) -> Result<Search<'s, 'g>, AllocError> {
         Ok(Search {
             alloc,
             session,
@@ -106,11 +102,7 @@ impl<'s, 'g> Search<'s, 'g> {
 
     /// Adds warnings that are not among the findings. Those of unknown keys are reported with the
     /// values.
-    fn add_warnings(&mut self, warnings: &DefaultConfigWarnings) -> Result<(), AllocError>
-        ensures session { OnOk result (self.new.session ≡ self.old.session) }
-        ensures later { OnOk result (KeepsLater self.old.session.now.layers.items
-            self.old.findings.items self.new.findings.items) }
-    {
+    fn add_warnings(&mut self, warnings: &DefaultConfigWarnings) -> Result<(), AllocError> {
         let alloc = self.alloc;
         for warning in other_warning_findings(alloc, &self.session.layers, warnings)? {
             let mark = warning_mark(alloc, &warning)?;
@@ -122,11 +114,7 @@ impl<'s, 'g> Search<'s, 'g> {
     }
 
     /// Adds what a refusal says.
-    fn add(&mut self, error: &ConfigParseError) -> Result<(), AllocError>
-        ensures session { OnOk result (self.new.session ≡ self.old.session) }
-        ensures later { OnOk result (KeepsLater self.old.session.now.layers.items
-            self.old.findings.items self.new.findings.items) }
-    {
+    fn add(&mut self, error: &ConfigParseError) -> Result<(), AllocError> {
         let left_out = &self.reading.edits.left_out;
         let place = refused_place(&self.session.layers, error);
         let mut found = refusal_findings(self.alloc, self.session, place, error, left_out)?;
@@ -135,10 +123,7 @@ impl<'s, 'g> Search<'s, 'g> {
     }
 
     /// Adds that a source does not reach the checks behind those that need no other source.
-    fn add_unreached(&mut self, place: usize) -> Result<(), AllocError>
-        ensures session { OnOk result (self.new.session ≡ self.old.session) }
-        ensures findings { OnOk result (self.new.findings ≡ self.old.findings) }
-    {
+    fn add_unreached(&mut self, place: usize) -> Result<(), AllocError> {
         let reached = match self.tree_at(place) {
             Some(_) => Some(Check::Elements),
             None => None,
@@ -153,11 +138,7 @@ impl<'s, 'g> Search<'s, 'g> {
 
     /// Adds that a file is refused as a whole, and does not read it again. Returns whether the
     /// search goes on.
-    fn take_file(&mut self, place: usize, error: &ConfigParseError) -> Result<bool, AllocError>
-        ensures session { OnOk result (self.new.session ≡ self.old.session) }
-        ensures later { OnOk result (KeepsLater self.old.session.now.layers.items
-            self.old.findings.items self.new.findings.items) }
-    {
+    fn take_file(&mut self, place: usize, error: &ConfigParseError) -> Result<bool, AllocError> {
         if !self.reading.unread.insert(place)? {
             return Ok(false);
         }
@@ -169,11 +150,7 @@ impl<'s, 'g> Search<'s, 'g> {
 
     /// Adds that a file cannot be read. If it is a document, as it is, it is not read any further.
     /// Returns whether the search goes on.
-    fn take_text(&mut self, place: usize, error: &ConfigParseError) -> Result<bool, AllocError>
-        ensures session { OnOk result (self.new.session ≡ self.old.session) }
-        ensures later { OnOk result (KeepsLater self.old.session.now.layers.items
-            self.old.findings.items self.new.findings.items) }
-    {
+    fn take_text(&mut self, place: usize, error: &ConfigParseError) -> Result<bool, AllocError> {
         if self.tree_at(place).is_none() {
             return self.take_file(place, error);
         }
@@ -184,11 +161,7 @@ impl<'s, 'g> Search<'s, 'g> {
     /// Leaves out settings of a source whose values are refused although others are left out: they
     /// follow from these. If there are none, the merged files are refused. Returns whether the
     /// search goes on.
-    fn take_element(&mut self, place: usize, error: &ConfigParseError) -> Result<bool, AllocError>
-        ensures session { OnOk result (self.new.session ≡ self.old.session) }
-        ensures later { OnOk result (KeepsLater self.old.session.now.layers.items
-            self.old.findings.items self.new.findings.items) }
-    {
+    fn take_element(&mut self, place: usize, error: &ConfigParseError) -> Result<bool, AllocError> {
         let alloc = self.alloc;
         let Some(text) = self.reading.text_at(alloc, &self.session.layers, place)? else {
             return Ok(false);
@@ -212,10 +185,7 @@ impl<'s, 'g> Search<'s, 'g> {
     }
 
     /// Switches features on.
-    fn switch_on(&mut self, features: &[ConfigExperimental]) -> Result<bool, AllocError>
-        ensures session { OnOk result (self.new.session ≡ self.old.session) }
-        ensures findings { OnOk result (self.new.findings ≡ self.old.findings) }
-    {
+    fn switch_on(&mut self, features: &[ConfigExperimental]) -> Result<bool, AllocError> {
         let mut is_new = false;
         for feature in features {
             is_new = self.reading.features.insert(*feature)? || is_new;
@@ -228,10 +198,7 @@ impl<'s, 'g> Search<'s, 'g> {
         &mut self,
         place: usize,
         kind: &ConfigParseErrorKind,
-    ) -> Result<(), AllocError>
-        ensures session { OnOk result (self.new.session ≡ self.old.session) }
-        ensures findings { OnOk result (self.new.findings ≡ self.old.findings) }
-    {
+    ) -> Result<(), AllocError> {
         let alloc = self.alloc;
         let tree = self.tree_at(place);
         let sources = self.session.layers.len();
@@ -282,11 +249,7 @@ impl<'s, 'g> Search<'s, 'g> {
 
     /// Adds what a check of a source refuses, and leaves it out. Returns whether the search goes
     /// on.
-    fn take_check(&mut self, place: usize, error: &ConfigParseError) -> Result<bool, AllocError>
-        ensures session { OnOk result (self.new.session ≡ self.old.session) }
-        ensures later { OnOk result (KeepsLater self.old.session.now.layers.items
-            self.old.findings.items self.new.findings.items) }
-    {
+    fn take_check(&mut self, place: usize, error: &ConfigParseError) -> Result<bool, AllocError> {
         let kind = error.kind();
         if !self.rests_on_unread(place, kind) {
             self.add(error)?;
@@ -303,11 +266,7 @@ impl<'s, 'g> Search<'s, 'g> {
     }
 
     /// Adds what a refusal says, and leaves it out. Returns whether the search goes on.
-    fn take(&mut self, error: &ConfigParseError) -> Result<bool, AllocError>
-        ensures session { OnOk result (self.new.session ≡ self.old.session) }
-        ensures later { OnOk result (KeepsLater self.old.session.now.layers.items
-            self.old.findings.items self.new.findings.items) }
-    {
+    fn take(&mut self, error: &ConfigParseError) -> Result<bool, AllocError> {
         let Some(place) = refused_place(&self.session.layers, error) else {
             self.add(error)?;
             return Ok(false);
@@ -325,11 +284,7 @@ impl<'s, 'g> Search<'s, 'g> {
 
     /// Loads the files without what is left out, and adds what is wrong with them. Returns whether
     /// the search goes on.
-    fn step(&mut self) -> Result<bool, AllocError>
-        ensures session { OnOk result (self.new.session ≡ self.old.session) }
-        ensures later { OnOk result (KeepsLater self.old.session.now.layers.items
-            self.old.findings.items self.new.findings.items) }
-    {
+    fn step(&mut self) -> Result<bool, AllocError> {
         let mut warnings = DefaultConfigWarnings::new(self.alloc);
         let refusal = self
             .reading
@@ -348,10 +303,7 @@ impl<'s, 'g> Search<'s, 'g> {
         &mut self,
         warnings: &DefaultConfigWarnings,
         error: &ConfigParseError,
-    ) -> Result<(), AllocError>
-        ensures { OnOk result (KeepsLater self.old.session.now.layers.items self.old.findings.items
-            self.new.findings.items) }
-    {
+    ) -> Result<(), AllocError> {
         if self.reading.edits.count() == 0 {
             self.add_warnings(warnings)?;
             if !self.take(error)? {

@@ -99,16 +99,20 @@ section_code (kinds.ConstraintsNotSpecified has_default) = RuleWithoutCondition
 section_code kinds.FilterAndDefaultFilterSpecified = TwoFilters
 section_code (kinds.Parse host target filter default_filter) = InvalidFilter
 
--- the faults there are, or else that of a whole section
-abbrev pub or_whole : List LaterFault → Code → List PathStep → List LaterFault
-or_whole [] code path = at parts.Value code path ∷ []
-or_whole (fault ∷ faults) code path = fault ∷ faults
+-- a whole section
+abbrev pub section_fault : ConfigCompileError → LaterFault
+section_fault error =
+    at parts.Value (section_code error.kind)
+    (section_path (string_bytes error.profile_name) error.section)
+
+-- the faults there are, or else another one
+abbrev pub or_else : List LaterFault → LaterFault → List LaterFault
+or_else [] other = other ∷ []
+or_else (fault ∷ faults) other = fault ∷ faults
 
 -- what does not compile: each text that is refused, or else the whole section
 abbrev pub compile_fault : Option Node → ConfigCompileError → List LaterFault
-compile_fault file error =
-    or_whole (refused_texts file error) (section_code error.kind)
-    (section_path (string_bytes error.profile_name) error.section)
+compile_fault file error = or_else (refused_texts file error) (section_fault error)
 
 abbrev pub compile_faults : Option Node → List ConfigCompileError → List LaterFault
 compile_faults file errors = flat_map (compile_fault file) errors
