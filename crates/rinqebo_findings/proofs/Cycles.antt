@@ -1,7 +1,7 @@
 -- Profiles that inherit in cycles.
-use Rattle.std.proofs.Common.{◌≡◌, ℕ, List, [], ◌∷◌, map, Option, None, Some, slice_get, String, Global, string_bytes, refl, ap}
+use Rattle.std.proofs.Common.{◌≡◌, List, [], ◌∷◌, map, None, Some, slice_get, String, Global, string_bytes, refl, ap}
 use Rattle.rinqebo_report.specs.declared.codes.code.Code.TheVariants.{InheritanceCycle}
-use Rattle.rinqebo_findings.specs.Later.{cycle_fault, LaterFault, of_file, parent_fault}
+use Rattle.rinqebo_findings.specs.Later.{cycle_fault, of_file, parent_fault}
 
 -- a cycle of no profiles
 pub no_cycle : (cycle : List (String Global)) → None ≡ slice_get cycle 0

@@ -1,7 +1,7 @@
 use Rattle.std.proofs.Common.{◌≡◌, ◌∙◌, ◌∷◌, [], ap, map, string_bytes}
 use Rattle.std.proofs.lemmas.Result.{on_ok_weaker}
 use Rattle.rinqebo_report.specs.declared.codes.code.Code.TheVariants.{InheritanceCycle}
-use Rattle.rinqebo_findings.specs.Later.{cycle_fault, LaterFault, of_file, parent_fault}
+use Rattle.rinqebo_findings.specs.Later.{cycle_fault, LaterFault, parent_fault}
 use Rattle.rinqebo_findings.proofs.Cycles.{at_first, no_cycle}
 use Rattle.rinqebo_findings.proofs.Later.{adds_same}
 use Rattle.rinqebo_findings.proofs.cycles.add_cycle.Goals as goal

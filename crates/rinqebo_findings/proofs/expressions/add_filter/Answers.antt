@@ -1,10 +1,10 @@
-use Rattle.std.proofs.Common.{◌≡◌, ◌∙◌, ◌++◌, ◌∷◌, [], ap, codes, map, option_map}
+use Rattle.std.proofs.Common.{◌≡◌, ◌∙◌, ◌++◌, ◌∷◌, [], ap, map, option_map}
 use Rattle.nextest_places.specs.Spans.Paths.{path_step}
 use Rattle.nextest_places.specs.Spans.Paths as paths
 use Rattle.nextest_tree.specs.View.{tree_view}
 use Rattle.rinqebo_report.specs.declared.codes.code.Code.TheVariants.{InvalidFilter}
 use Rattle.rinqebo_request.specs.Files.RuleTables.{text_in}
-use Rattle.rinqebo_findings.specs.Compile.{target_keys, text_fault}
+use Rattle.rinqebo_findings.specs.Compile.{text_fault}
 use Rattle.rinqebo_findings.proofs.Later.{adds_same}
 use Rattle.rinqebo_findings.proofs.expressions.add_filter.Goals as goal
 

@@ -4,7 +4,7 @@ use Rattle.nextest_places.specs.Spans.Paths as paths
 use Rattle.nextest_tree.specs.View.{tree_view}
 use Rattle.rinqebo_report.specs.declared.codes.code.Code.TheVariants.{InvalidPlatform}
 use Rattle.rinqebo_request.specs.Files.RuleTables.{host_spec}
-use Rattle.rinqebo_findings.specs.Compile.{target_keys, text_fault}
+use Rattle.rinqebo_findings.specs.Compile.{text_fault}
 use Rattle.rinqebo_findings.proofs.Later.{adds_same}
 use Rattle.rinqebo_findings.proofs.expressions.add_host.Goals as goal
 

@@ -1,6 +1,5 @@
-use Rattle.std.proofs.Common.{◌≡◌, ◌∙◌, ◌++◌, ◌∷◌, [], ap, codes, map, option_map}
+use Rattle.std.proofs.Common.{◌≡◌, ◌∙◌, ◌++◌, ap, codes, map, option_map}
 use Rattle.nextest_places.specs.Spans.Paths.{path_step}
-use Rattle.nextest_places.specs.Spans.Paths as paths
 use Rattle.nextest_tree.specs.View.{tree_view}
 use Rattle.rinqebo_report.specs.declared.codes.code.Code.TheVariants.{InvalidPlatform}
 use Rattle.rinqebo_request.specs.Files.RuleTables.{target_spec, text_in}

@@ -1,4 +1,4 @@
-use Rattle.std.proofs.Common.{List, map, arith}
+use Rattle.std.proofs.Common.{map, arith}
 use Rattle.std.proofs.lemmas.List.{map-append}
 use Rattle.nextest_sources.specs.WarningsView.{warning_view}
 use Rattle.rinqebo_findings.proofs.Each.{taken}

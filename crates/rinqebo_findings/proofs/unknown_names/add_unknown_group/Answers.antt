@@ -1,11 +1,11 @@
-use Rattle.std.proofs.Common.{◌≡◌, ◌∷◌, [], ◌∙◌, ap, List, ℕ, map, string_bytes, sym, true, false, codes}
+use Rattle.std.proofs.Common.{◌≡◌, [], ◌∙◌, ap, List, ℕ, map, string_bytes, sym, true, false}
 use Rattle.nextest_places.specs.Spans.Paths.{path_step}
 use Rattle.nextest_elements.specs.TestGroup.{custom_group_text}
 use Rattle.rinqebo_report.specs.declared.codes.code.Code.TheVariants.{UnknownGroup}
 use Rattle.rinqebo_request.specs.declared.files.places.SpanPart.TheVariants as parts
 use Rattle.rinqebo_faults.specs.Edits.{may_be, names_view}
 use Rattle.rinqebo_faults.specs.Namings.{naming_path}
-use Rattle.rinqebo_findings.specs.Later.{group_uses, name_fault, script_uses}
+use Rattle.rinqebo_findings.specs.Later.{group_uses, name_fault}
 use Rattle.rinqebo_findings.proofs.Later.{adds_at, adds_none, adds_same}
 use Rattle.rinqebo_findings.proofs.LeftOut.{kept, left_out}
 use Rattle.rinqebo_findings.proofs.unknown_names.add_unknown_group.Goals as goal
