@@ -1,5 +1,5 @@
 -- Findings of what later checks refuse, one after another.
-use Rattle.std.proofs.Common.{◌≡◌, ◌<◌, ◌≤◌, ◌+◌, ℕ, List, [], ◌∷◌, ◌++◌, length, map, take, get_or, Option, None, Some, option_map, refl, sym, ap, ◌∙◌, subst, append_assoc, append-nil}
+use Rattle.std.proofs.Common.{◌≡◌, ◌≤◌, ◌+◌, ℕ, List, [], ◌∷◌, ◌++◌, length, map, take, Option, None, Some, option_map, refl, sym, ap, ◌∙◌, subst, append_assoc, append-nil}
 use Rattle.std.specs.Prelude.{flat_map}
 use Rattle.std.proofs.lemmas.List.{take_all}
 use Rattle.std.proofs.lemmas.Grind.{flat_map-append}
@@ -15,7 +15,7 @@ use Rattle.rinqebo_request.specs.declared.files.places.SpanPart.{SpanPart}
 use Rattle.rinqebo_findings.specs.Later.{AddsLater, at, IsErrorOn, IsFileError, IsLaterFinding, LaterFault, of_file, whole_place}
 use Rattle.rinqebo_findings.specs.Placed.{IsPlacedAt}
 use Rattle.rinqebo_findings.specs.Subjects.{error_at, IsErrorAt, subject}
-use Rattle.rinqebo_findings.proofs.Each.{of_both, taken}
+use Rattle.rinqebo_findings.proofs.Each.{of_both}
 
 -- the source of the place of a whole source
 pub whole_source : (source : Option ℕ) → option_map (λ (place : FilePlace). place.source) (option_map whole_place source) ≡ source
@@ -80,13 +80,13 @@ module _ (layers : List Layer) (source : Option ℕ) where
 
   -- the findings of the faults of one more thing are added
   pub adds_next : {X : Type 0} (of : X → List LaterFault) (xs : List X) (place : ℕ) (x : X)
-      (old mid new : List Finding) → place < length xs → x ≡ get_or xs place x
+      (old mid new : List Finding) → take (place + 1) xs ≡ take place xs ++ x ∷ []
       → AddsLater layers source (flat_map of (take place xs)) old mid
       → AddsLater layers source (of x) mid new
       → AddsLater layers source (flat_map of (take (place + 1) xs)) old new
-  adds_next of xs place x old mid new within is h k =
+  adds_next of xs place x old mid new more h k =
       adds_same (flat_map of (take place xs) ++ of x) (flat_map of (take (place + 1) xs)) old new
-      (sym (ap (flat_map of) (taken xs place x within is) ∙ flat_map-append of (take place xs) (x ∷ [])
+      (sym (ap (flat_map of) more ∙ flat_map-append of (take place xs) (x ∷ [])
       ∙ ap (λ fs. flat_map of (take place xs) ++ fs) (append-nil (of x))))
       (adds_both (flat_map of (take place xs)) (of x) old mid new h k)
 

@@ -1,6 +1,7 @@
 use Rattle.std.proofs.Common.{arith}
 use Rattle.rinqebo_faults.specs.Edits.{names_view}
 use Rattle.rinqebo_findings.specs.Later.{unknown_group_faults}
+use Rattle.rinqebo_findings.proofs.Each.{taken}
 use Rattle.rinqebo_findings.proofs.Later.{adds_all, adds_next}
 use Rattle.rinqebo_findings.proofs.unknown_names.add_unknown_groups.Goals as goal
 
@@ -8,7 +9,8 @@ pub loop-error-preserved : goal.loop-error-preserved
 loop-error-preserved c =
     let source = c.args.refused.now.source in
     adds_next source.layers.now source.position (unknown_group_faults c.in_ok-namings.namings (names_view c.args.refused.now.left_out.now.groups)) c.args.errors.now c.loop-error.error-index
-    c.error-item.result _ _ _ c.loop-error-test.true c.error-item.is c.loop-error.invariant
+    c.error-item.result _ _ _ (taken _ _ _ c.loop-error-test.true c.error-item.is)
+    c.loop-error.invariant
     c.in_ok-add_unknown_group.ensures
 
 pub returns : goal.returns
