@@ -1,5 +1,5 @@
-pub mod Cycles
 pub mod Each
+pub mod InCycles
 pub mod Later
 pub mod LeftOut
 pub mod Values

@@ -2,7 +2,7 @@ use Rattle.std.proofs.Common.{◌≡◌, ◌∙◌, ◌∷◌, [], ap, map, stri
 use Rattle.std.proofs.lemmas.Result.{on_ok_weaker}
 use Rattle.rinqebo_report.specs.declared.codes.code.Code.TheVariants.{InheritanceCycle}
 use Rattle.rinqebo_findings.specs.Later.{cycle_fault, LaterFault, parent_fault}
-use Rattle.rinqebo_findings.proofs.Cycles.{at_first, no_cycle}
+use Rattle.rinqebo_findings.proofs.InCycles.{at_first, no_cycle}
 use Rattle.rinqebo_findings.proofs.Later.{adds_same}
 use Rattle.rinqebo_findings.proofs.cycles.add_cycle.Goals as goal
 
