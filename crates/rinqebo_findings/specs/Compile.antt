@@ -55,37 +55,37 @@ text_fault code path (Some text) (Some refusal) = refused_part code path text re
 
 -- the host of a section
 abbrev pub host_fault : List PathStep → Option Node → Option Refusal → List LaterFault
-host_fault path node refusal =
+host_fault path rule refusal =
     text_fault InvalidPlatform
-    (path ++ paths.key (codes "platform") ∷ paths.key (codes "host") ∷ []) (host_spec node) refusal
+    (path ++ paths.key (codes "platform") ∷ paths.key (codes "host") ∷ []) (host_spec rule) refusal
 
 -- the target of a section
 abbrev pub target_fault : List PathStep → Option Node → Option Refusal → List LaterFault
-target_fault path node refusal =
-    text_fault InvalidPlatform (path ++ target_keys (text_in (codes "platform") node))
-    (target_spec node) refusal
+target_fault path rule refusal =
+    text_fault InvalidPlatform (path ++ target_keys (text_in (codes "platform") rule))
+    (target_spec rule) refusal
 
 -- the filter of a section at a key
 abbrev pub filter_fault :
     List PathStep → Option Node → (key : List ℕ) → Option Refusal → List LaterFault
-filter_fault path node key refusal =
-    text_fault InvalidFilter (path ++ paths.key key ∷ []) (text_in key node) refusal
+filter_fault path rule key refusal =
+    text_fault InvalidFilter (path ++ paths.key key ∷ []) (text_in key rule) refusal
 
 -- the texts of a section that the engines refuse: its host, its target, its filter and its default
 -- filter
 abbrev pub parsed_faults : List PathStep → Option Node
     → (host target filter default_filter : Option Refusal) → List LaterFault
-parsed_faults path node host target filter default_filter =
-    host_fault path node host
-    ++ (target_fault path node target
-    ++ (filter_fault path node (codes "filter") filter
-    ++ filter_fault path node (codes "default-filter") default_filter))
+parsed_faults path rule host target filter default_filter =
+    host_fault path rule host
+    ++ (target_fault path rule target
+    ++ (filter_fault path rule (codes "filter") filter
+    ++ filter_fault path rule (codes "default-filter") default_filter))
 
 abbrev pub texts_of : List PathStep → Option Node → ConfigCompileErrorKind → List LaterFault
-texts_of path node (kinds.ConstraintsNotSpecified has_default) = []
-texts_of path node kinds.FilterAndDefaultFilterSpecified = []
-texts_of path node (kinds.Parse host target filter default_filter) =
-    parsed_faults path node host target filter default_filter
+texts_of path rule (kinds.ConstraintsNotSpecified has_default) = []
+texts_of path rule kinds.FilterAndDefaultFilterSpecified = []
+texts_of path rule (kinds.Parse host target filter default_filter) =
+    parsed_faults path rule host target filter default_filter
 
 -- the texts that are refused of what an error is about
 abbrev pub refused_texts : Option Node → ConfigCompileError → List LaterFault
