@@ -306,7 +306,7 @@ writes_list session profile mode asked paper loaded old new accepted from there 
     let content = content_of writes.header writes.tests writes.fit writes.unused writes.scripts in
     record {
       report = record head { content = content };
-      about = record { root = page.about.root; sources = page.about.sources };
+      about = record { request = page.about.request; root = page.about.root; sources = page.about.sources };
       tells = tells_tests session profile mode asked (record head { content = content }) content loaded accepted from there
           refl writes.told (record { chain = writes.chain; is_chain = writes.is_chain; requested = writes.requested });
       looked_up = looked;

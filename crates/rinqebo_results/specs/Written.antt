@@ -131,8 +131,8 @@ pub record WritesPage (session : Session) (loaded : Loaded (Filterset FieldMatch
   pub page : Appends old new (page_text paper.colour (list_runs paper.columns
       (string_bytes head.root) head.sources.items header tests unused.items))
 
--- The program wrote the page of a list by a configuration that was loaded, with the root and the
--- sources of a session.
+-- The program wrote the page of a list by a configuration that was loaded, for a report of a
+-- session.
 pub record HasPage (session : Session) (loaded : Loaded (Filterset FieldMatcher) TargetSpec)
     (profile : Name) (mode : NextestRunMode) (asked : RequestedSettings) (paper : Paper)
     (old new : Option (List ℕ)) : Type 0 where
