@@ -2,7 +2,6 @@ use Rattle.std.proofs.Common.{◌≡◌, ◌∙◌, ap, map, refl, subst, sym, t
 use Rattle.std.proofs.lemmas.List.{take_all}
 use Rattle.std.specs.List.{AllZip}
 use Rattle.filter_inputs.specs.Lists.ListView.{list_test_view}
-use Rattle.filter_inputs.specs.Lists.Lists.{ListTest}
 use Rattle.nextest_settings.specs.Profiles.Meaning.{profile_meaning}
 use Rattle.nextest_settings.specs.Queries.{query_in}
 use Rattle.rinqebo_objects.specs.Uses.{AreUsesIn}
@@ -33,9 +32,7 @@ loop-test-preserved g c =
           ((rw before.lister at c.in_ok-rows.ensures.used) _ before.marked);
       uses = subst (λ tests. AreUsesIn F.holds profile tests c.next_reported.new.uses.items)
           (map_more (λ test. (list_test_view test).test) c.args.listed.now c.loop-test.test-index _ _ c.loop-test-test.true refl)
-          ((rw before.lister at c.in_ok-rows.ensures.scripts)
-          (map (λ test. query_in F.holds profile (list_test_view test).test) (take c.loop-test.test-index c.args.listed.now))
-          (map (λ test. (list_test_view test).test) (take c.loop-test.test-index c.args.listed.now)) before.marked before.uses);
+          ((rw before.lister at c.in_ok-rows.ensures.scripts) _ _ before.marked before.uses);
     }
 
 pub returns-clause-tests : goal.returns-clause-tests
@@ -82,5 +79,5 @@ returns-clause-uses g c =
     let listed = c.args.listed.now in
     subst (λ tests. AreUsesIn F.holds profile tests c.loop-test.uses.items)
     (ap (map (λ test. (list_test_view test).test)) (take_all c.loop-test.test-index listed c.loop-test-test.false)
-    ∙ sym (made_twice (λ (t : ListTest). t.test) list_test_view listed))
+    ∙ sym (made_twice (λ t. t.test) list_test_view listed))
     c.loop-test.invariant.uses
