@@ -11,11 +11,11 @@ mod explain;
 mod open_filters;
 mod read_files;
 mod run;
+mod schemas;
 mod unset;
 mod why;
 mod why_runs;
 
 pub use codes::{print_code, print_codes};
-pub use run::{
-    answer_of, perform, print_document_schema, print_schema, refuse_gathering, refuse_words,
-};
+pub use run::{answer_of, perform, refuse_gathering, refuse_words};
+pub use schemas::{print_document_schema, print_schema};

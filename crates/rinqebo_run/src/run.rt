@@ -1,10 +1,7 @@
 //! Runs a request, and writes its result.
-ghost use Rattle.std.specs.Prelude.{◌≡◌, ◌⊎◌, ◌++◌, ◌||◌, [], ◌∷◌, false, IfOk, IfErr, IfSome, OnOk, flat_map, string_bytes};
+ghost use Rattle.std.specs.Prelude.{◌≡◌, ◌⊎◌, ◌||◌, false, IfOk, IfErr, IfSome, OnOk, string_bytes};
 ghost use Rattle.std.specs.Io.KnownBytes.{Appends};
 ghost use Rattle.std.specs.Result.{result_map_both};
-ghost use Rattle.nextest_shape.specs.FileForm.{file_form};
-ghost use Rattle.nextest_shape.specs.Page.{schema_data};
-ghost use Rattle.serde_json.specs.Written.{compact_text};
 ghost use Rattle.rinqebo_checks.specs.Reports.{IsReportOf};
 ghost use Rattle.rinqebo_report.specs.Rendered.{rendered};
 ghost use Rattle.rinqebo_results.specs.Answered.{AnswersQuestion, HasObjectsFor, IsAboutTest, IsAnswer, Reports};
@@ -16,7 +13,7 @@ ghost use Rattle.rinqebo_results.specs.Received.{IsWhole};
 ghost use Rattle.rinqebo_results.specs.Refused.{Fails, IsFailureAboutTest, IsFailureIn, IsReportedBy, ReportsRefusal};
 ghost use Rattle.rinqebo_results.specs.RunsReasons.{ReportsRunsReasons};
 ghost use Rattle.rinqebo_results.specs.ReportsReasons.{ReportsReasons};
-ghost use Rattle.rinqebo_results.specs.StandardError.{AddsNotes, GetsErrors, GetsFault, GetsNotes, GetsNothing, GetsStop, HasNotes, IsFaultMessage, ReportsWords, findings_beside, is_check, is_json};
+ghost use Rattle.rinqebo_results.specs.StandardError.{AddsNotes, GetsErrors, GetsFault, GetsNotes, GetsStop, HasNotes, IsFaultMessage, ReportsWords, findings_beside, is_check, is_json};
 ghost use Rattle.rinqebo_results.specs.Statuses.{IsStatus, IsAnswerStatus, IsGatherStatus, IsWordsStatus};
 ghost use Rattle.rinqebo_results.specs.Written.{AsksList, IsStopStatus};
 ghost use Rattle.rinqebo_report.specs.declared.format.Format.TheVariants as formats;
@@ -28,16 +25,15 @@ use crate::unset::add_unset;
 use crate::why::why;
 use crate::why_runs::why_runs;
 use nextest_config::Setting;
-use nextest_shape::schema_page;
 use rinqebo_checks::find_test;
 use rinqebo_load::{Failure, Session};
-use rinqebo_report::{Colour, Content, DOCUMENT_SCHEMA, Format, Report, render, render_findings};
+use rinqebo_report::{Colour, Content, Format, Report, render, render_findings};
 use rinqebo_request::{
     GatherFault, Gathered, ParseStop, Question, Request, RequestedSettings, RequestedTest,
 };
 use rinqebo_results::{
     Answer, ListStop, ProgressLine, RequestedList, Status, error_line, is_json, list, print_text,
-    print_texts, push_note, refuse, refuse_for_memory, refuse_in, refuse_message, show, write_list,
+    push_note, refuse, refuse_for_memory, refuse_in, refuse_message, show, write_list,
 };
 use rinqebo_rules::{NoProgress, Progress};
 use std::alloc::{AllocError, Global};
@@ -437,37 +433,6 @@ pub fn perform<O: Write, E: Write>(
         Some(list) => answer_list(alloc, request, &list, gathered, out, err),
         None => answer_whole(alloc, request, gathered, out, err),
     }
-}
-
-/// Writes the JSON schema of a file, and returns the exit status. It reads no file.
-pub fn print_schema<O: Write, E: Write>(alloc: Global, out: &mut O, err: &mut E) -> u8
-    ensures status { (result ≡ 0) ⊎ (result ≡ 5) ⊎ (result ≡ 6) }
-    ensures page { result ≡ 0 → Appends (O.contents out.old) (O.contents out.new)
-        (compact_text (schema_data file_form) ++ 10 ∷ []) }
-    ensures quiet { result ≡ 5 → O.contents out.new ≡ O.contents out.old }
-    ensures begun { (O.contents out.new ≡ O.contents out.old)
-        ⊎ AppendsPrefix (O.contents out.old) (O.contents out.new)
-        (compact_text (schema_data file_form) ++ 10 ∷ []) }
-    ensures errors { (result ≡ 6)
-        ⊎ GetsNothing result (E.contents err.old) (E.contents err.new) }
-{
-    match schema_page(alloc) {
-        Ok(text) => print_text(text.as_str(), Status::Success as u8, out),
-        Err(_) => refuse_for_memory(err),
-    }
-}
-
-/// Writes the JSON schema of the program's documents, and returns the exit status. It reads no file,
-/// and takes no memory.
-pub fn print_document_schema<O: Write>(out: &mut O) -> u8
-    ensures status { (result ≡ 0) ⊎ (result ≡ 6) }
-    ensures page { (result ≡ 6)
-        ⊎ Appends (O.contents out.old) (O.contents out.new)
-        (flat_map (λ part. part.now) DOCUMENT_SCHEMA) }
-    ensures begun { AppendsPrefix (O.contents out.old) (O.contents out.new)
-        (flat_map (λ part. part.now) DOCUMENT_SCHEMA) }
-{
-    print_texts(&DOCUMENT_SCHEMA, Status::Success as u8, out)
 }
 
 /// Reports why words are not a request, and returns the exit status. Help goes to standard output.

@@ -1,7 +1,7 @@
 use Rattle.std.proofs.Common.{◌∙◌, inr, refl, subst}
 use Rattle.rinqebo_results.proofs.Errors.{memory_lost, memory_told, or_memory, unchanged}
 use Rattle.rinqebo_results.specs.Prefixes.{AppendsPrefix}
-use Rattle.rinqebo_run.proofs.run.print_schema.Goals as goal
+use Rattle.rinqebo_run.proofs.schemas.print_schema.Goals as goal
 
 pub returns-in-Ok-clause-begun : goal.returns-in-Ok-clause-begun
 returns-in-Ok-clause-begun g c =
