@@ -1,4 +1,5 @@
 pub mod Asked
+pub mod Gathered
 pub mod Compared
 pub mod ListScripts
 pub mod Loaded

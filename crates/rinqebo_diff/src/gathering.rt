@@ -1,4 +1,8 @@
 //! The files of both sides.
+ghost use Rattle.std.specs.Prelude.{◌≡◌, IfErr, IfOk};
+ghost use Rattle.nextest_sources.specs.Sources.{outcome_view};
+ghost use Rattle.rinqebo_diff.specs.Gathered.{AreSideFiles, HasSideCause};
+
 use crate::request::DiffRequest;
 use nextest_config::ReadOutcome;
 use nextest_sources::FileReader;
@@ -15,7 +19,9 @@ pub struct GatheredSides {
 }
 
 /// A copy of the outcome of a read.
-fn copy_of(outcome: &ReadOutcome) -> Result<ReadOutcome, AllocError> {
+fn copy_of(outcome: &ReadOutcome) -> Result<ReadOutcome, AllocError>
+    ensures { IfOk result (λ copy. outcome_view copy ≡ outcome_view outcome.now) }
+{
     Ok(match outcome {
         ReadOutcome::Text(text) => ReadOutcome::Text(text.clone()?),
         ReadOutcome::NotFound => ReadOutcome::NotFound,
@@ -32,10 +38,16 @@ pub fn gather_sides<R: FileReader>(
     environment: &Environment,
     input: ReadOutcome,
     files: &R,
-) -> Result<GatheredSides, GatherFault> {
+) -> Result<GatheredSides, GatherFault>
+    ensures from { IfOk result (λ sides. AreSideFiles (R.MayGive files.now) request.now.from
+        (outcome_view input) sides.from) }
+    ensures to { IfOk result (λ sides. AreSideFiles (R.MayGive files.now) request.now.to
+        (outcome_view input) sides.to) }
+    ensures cause { IfErr result
+        (HasSideCause (R.MayGive files.now) request.now (outcome_view input)) }
+{
     let copy = copy_of(&input)?;
-    Ok(GatheredSides {
-        from: gather(alloc, &request.from.request, environment, copy, files)?,
-        to: gather(alloc, &request.to.request, environment, input, files)?,
-    })
+    let from = gather(alloc, &request.from.request, environment, copy, files)?;
+    let to = gather(alloc, &request.to.request, environment, input, files)?;
+    Ok(GatheredSides { from, to })
 }

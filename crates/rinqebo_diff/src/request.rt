@@ -1,4 +1,7 @@
 //! Requests for what changes between two sides.
+ghost use Rattle.std.specs.Prelude.{◌≡◌, ◌||◌};
+ghost use Rattle.rinqebo_request.specs.Requests.{reads_input};
+
 use crate::asked::ComparedSettings;
 use nextest_config::NextestRunMode;
 use rinqebo_report::Paper;
@@ -54,7 +57,10 @@ pub struct DiffRequest<'a> {
 
 impl DiffRequest<'_> {
     /// Whether standard input is read.
-    pub fn reads_input(&self) -> bool {
+    pub fn reads_input(&self) -> bool
+        ensures { result
+            ≡ (reads_input self.now.from.request || reads_input self.now.to.request) }
+    {
         self.from.request.reads_input() || self.to.request.reads_input()
     }
 }
