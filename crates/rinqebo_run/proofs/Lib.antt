@@ -6,3 +6,4 @@ pub mod Pairs
 pub mod Meant
 pub mod RunsReasons
 pub mod Gathering
+pub mod Succeeding

@@ -5,7 +5,11 @@ use Rattle.rinqebo_results.specs.Begun.{IsBegun}
 use Rattle.rinqebo_results.specs.StandardError.{of_list}
 use Rattle.rinqebo_results.proofs.Received.{list_received, stop_begun}
 use Rattle.rinqebo_results.proofs.Writing.{stop_quiet, stop_silent, stop_status, stop_reported}
+use Rattle.rinqebo_run.proofs.Succeeding.{success_status}
 use Rattle.rinqebo_run.proofs.run.answer_list.Goals as goal
+
+pub returns-in-Ok-clause-status : goal.returns-in-Ok-clause-status
+returns-in-Ok-clause-status g c = success_status c.args.request.now.question
 
 pub returns-in-Err-clause-status : goal.returns-in-Err-clause-status
 returns-in-Err-clause-status g c = stop_status c.args.request.now.question c.in-Err.fault _ c.refuse_list.ensures.status
