@@ -140,7 +140,8 @@ HasNotes request report text =
 
 -- What standard error gets of a run that has a result, by the status: the notes, or that memory ran
 -- out.
-abbrev pub GetsNotes : Request → Report → ℕ → ℕ → Option (List ℕ) → Option (List ℕ) → Type 0
+abbrev pub GetsNotes : Request → Report → ℕ → ℕ → Option (List ℕ) → Option (List ℕ)
+    → Type 0
 GetsNotes request report answer_status status old new =
     ((text : List ℕ) × (status ≡ answer_status) × HasNotes request report text
     × Appends old new text) ⊎ ((status ≡ 5) × Appends old new memory_message)
@@ -160,8 +161,8 @@ pub record GetsWarningsFor (request : Request) (gathered : Gathered) (old new : 
   pub begun : IsSessionOf request gathered session
   pub warnings : GetsWarnings session request.paper.colour old new
 
--- What standard error gets of a list that is not written whole, before the reason: nothing, if a run
--- refuses, and something or nothing, if memory runs out.
+-- What standard error gets of a list that is not written whole, before the reason: nothing, if a
+-- run refuses, and something or nothing, if memory runs out.
 abbrev pub GetsBefore : ListStop → Option (List ℕ) → Option (List ℕ) → Type 0
 GetsBefore (faults.Refused failure) old new = new ≡ old
 GetsBefore faults.Memory old new = Grows old new
@@ -174,9 +175,9 @@ GetsStop request (faults.Refused failure) status old new =
 GetsStop request faults.Memory status old new = (status ≡ 5) × Appends old new memory_message
 GetsStop request faults.Write status old new = ⊥
 
--- What standard error gets of a run of a request, by its status, if no write fails and no progress is
--- shown: the notes on its result, which may be a list as text; or the reason why there is none; or
--- that memory ran out, behind what it got before.
+-- What standard error gets of a run of a request, by its status, if no write fails and no progress
+-- is shown: the notes on its result, which may be a list as text; or the reason why there is none;
+-- or that memory ran out, behind what it got before.
 pub data GetsErrors (request : Request) (gathered : Gathered) (status : ℕ)
     (old new : Option (List ℕ)) : Type 0 where
   of_result : (report : Report) (text : List ℕ) → IsAnswer request gathered report status
