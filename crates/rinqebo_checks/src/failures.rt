@@ -2,6 +2,7 @@
 ghost use Rattle.std.specs.Prelude.{IfErr, IfOk};
 ghost use Rattle.rinqebo_load.specs.FindTests.{IsFoundFor};
 ghost use Rattle.rinqebo_checks.specs.Failures.{IsFailureToFind, IsLoadFailure, IsProfileFailure, IsTestFailure};
+ghost use Rattle.rinqebo_checks.specs.Reports.{IsReportOf};
 
 use crate::report::{report_of, report_of_refusal};
 use nextest_config::ProfileNotFound;
@@ -20,7 +21,7 @@ pub fn failure_of_load(
     warnings: &DefaultConfigWarnings,
     error: &ConfigParseError,
 ) -> Result<Failure, AllocError>
-    ensures { IfOk result (IsLoadFailure error.now) }
+    ensures { IfOk result (IsLoadFailure session.now error.now) }
 {
     if error.config_file().is_none() {
         return Ok(Failure::Memory);
@@ -63,7 +64,7 @@ pub fn failure_of_profile(
     warnings: &DefaultConfigWarnings,
     missing: &ProfileNotFound,
 ) -> Result<Failure, AllocError>
-    ensures { IfOk result IsProfileFailure }
+    ensures { IfOk result (IsProfileFailure session.now) }
 {
     let mut findings = warning_findings(alloc, &session.layers, warnings)?;
     findings.push(no_profile(alloc, missing)?)?;
@@ -78,7 +79,9 @@ fn test_report(
     code: Code,
     message: String,
     help: Option<String>,
-) -> Result<Report, AllocError> {
+) -> Result<Report, AllocError>
+    ensures { IfOk result (IsReportOf session.now) }
+{
     let mut found = request_finding(alloc, code, &[], message)?;
     found.path = None;
     found.help = help;
@@ -92,7 +95,9 @@ fn missing_report(
     alloc: Global,
     session: &Session<'_>,
     missing: Missing,
-) -> Result<Report, AllocError> {
+) -> Result<Report, AllocError>
+    ensures { IfOk result (IsReportOf session.now) }
+{
     let help = match &missing.near {
         Some(near) => Some(format!(in alloc; "did you mean `{near}`?")?),
         None => None,
@@ -106,7 +111,7 @@ fn failure_of_test(
     session: &Session<'_>,
     fault: TestFault,
 ) -> Result<Failure, AllocError>
-    ensures { IfOk result (IsTestFailure fault) }
+    ensures { IfOk result (IsTestFailure session.now fault) }
 {
     match fault {
         TestFault::NoTest(missing) => {

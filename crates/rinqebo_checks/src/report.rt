@@ -29,6 +29,7 @@ pub fn report_of(
 {
     let ordered = in_order(findings)?;
     Ok(Report {
+        request: session.request.copied(alloc)?,
         root: session.gathered.paths.workspace_root.clone()?,
         sources: sources_of(alloc, &session.layers)?,
         findings: with_lines(alloc, session.gathered, ordered)?,

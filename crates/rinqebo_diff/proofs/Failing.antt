@@ -85,7 +85,7 @@ refused_for side gathered (causes.Refused report) (inl begins) three = absurd be
 refused_for side gathered (causes.Refused report) (inr fails) three = record {
   session = fails.session;
   begun = fails.begun;
-  broken = fails.cause;
+  broken = fails.cause.0;
 }
 refused_for side gathered (causes.NoProfile report) fails three = absurd (omega arith)
 refused_for side gathered (causes.NoTest report) fails three = absurd (omega arith)
@@ -101,7 +101,7 @@ lacking_for side gathered (causes.NoProfile report) (inl begins) four = absurd b
 lacking_for side gathered (causes.NoProfile report) (inr fails) four = record {
   session = fails.session;
   begun = fails.begun;
-  lacks = fails.cause;
+  lacks = fails.cause.0;
 }
 lacking_for side gathered (causes.NoTest report) (inl begins) four = absurd begins
 lacking_for side gathered (causes.NoTest report) (inr fails) four = absurd fails.cause

@@ -4,11 +4,11 @@ use crate::options::{TO_OPTIONS, diff_command};
 use crate::request::{AnyCommand, DiffFormat, DiffRequest, DiffSide};
 use clap::ArgMatches;
 use nextest_config::NextestRunMode;
-use rinqebo_report::Format;
+use rinqebo_report::{Format, ReportCommand};
 use rinqebo_request::options::program;
 use rinqebo_request::rows::explained_rows;
 use rinqebo_request::words::{
-    command_of, engines, features, files, mode, mode_of, named_file, paper, profile,
+    command_of, command_words, engines, features, files, mode, mode_of, named_file, paper, profile,
     profile_source, stop_of, tool_files, usage,
 };
 use rinqebo_request::{
@@ -71,6 +71,7 @@ fn side_request<'a>(
                 list,
                 asked: RequestedSettings::Decided,
             },
+            words: command_words(alloc, matches, ReportCommand::Diff)?,
             profile_source,
             files,
             engines,

@@ -1,5 +1,6 @@
 pub mod HostLines
 pub mod ListPath
+pub mod ShownRequests
 pub mod Triples
 pub mod Machines
 pub mod InputFaults

@@ -6,17 +6,20 @@ use Rattle.rinqebo_request.specs.declared.files.gathering.Gathered.{Gathered}
 use Rattle.rinqebo_request.specs.declared.request.Request.{Request}
 use Rattle.rinqebo_forms.specs.Machines.{AreOpenFiltersFor}
 use Rattle.filter_inputs.specs.Lists.ListView.{list_view}
+use Rattle.rinqebo_report.specs.Requests.{request_shown}
 use Rattle.rinqebo_load.specs.HostLines.{printed_host}
 use Rattle.rinqebo_load.specs.Machines.{ArePlatformsFor}
+use Rattle.rinqebo_load.specs.ShownRequests.{shown_of}
 use Rattle.rinqebo_load.specs.Triples.{IsListFor, host_for, target_for}
 use Rattle.rinqebo_load.specs.declared.session.Session.{Session}
 
--- A session is that of a request over the files that were read: it has these files, with their
--- texts and trees upon the default table, the features that the request names or that the
--- repository's file enables, the tests of the list, the filters with the graph of the metadata, or
--- else with sets of packages left open, the triples and the platforms of the request, beside those
--- of the compiler and of the list, and what names the profile.
+-- A session is that of a request over the files that were read: it has what reports show of the
+-- request, these files, with their texts and trees upon the default table, the features that the
+-- request names or that the repository's file enables, the tests of the list, the filters with the
+-- graph of the metadata, or else with sets of packages left open, the triples and the platforms of
+-- the request, beside those of the compiler and of the list, and what names the profile.
 pub record IsSessionOf (request : Request) (gathered : Gathered) (session : Session) : Type 0 where
+  pub request_is : request_shown session.request ≡ shown_of request
   pub read : session.gathered.now ≡ gathered
   pub layers : map layer_view session.layers.items ≡ layers_read gathered
   pub features : AreFeaturesOf request.features gathered session.features

@@ -12,6 +12,7 @@ mod list_path;
 mod missing;
 mod printed_host;
 mod profiles;
+mod reported_request;
 mod session;
 mod triples;
 

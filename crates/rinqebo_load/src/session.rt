@@ -14,6 +14,7 @@ use crate::failure::Failure;
 use crate::layer_texts::LayerTexts;
 use crate::list_path::list_path;
 use crate::printed_host::printed_host;
+use crate::reported_request::reported_request;
 use crate::triples::{Triples, listed_tests, triples_for};
 use filter_engine::NextestFilters;
 use filter_inputs::ListedTests;
@@ -24,7 +25,7 @@ use nextest_config::{
 };
 use nextest_sources::ConfigInputs;
 use platform_language::TargetSpecs;
-use rinqebo_report::SourceKind;
+use rinqebo_report::{ReportedRequest, SourceKind};
 use rinqebo_request::{Gathered, Layer, ProfileSource, Request, features_of, layers_of};
 use std::alloc::{AllocError, Global};
 use std::collections::BTreeSet;
@@ -34,6 +35,8 @@ pub type Config = LoadedConfig<NextestFilters, TargetSpecs>;
 
 /// What all commands begin with.
 pub struct Session<'g> {
+    /// The request of the user, as reports have it.
+    pub request: ReportedRequest,
     /// The files that the request names, as they were read.
     pub gathered: &'g Gathered,
     /// What names the requested profile, which messages may name.
@@ -54,6 +57,7 @@ pub struct Session<'g> {
 impl Drop for Session<'_> {
     fn drop(self) {
         let Session {
+            request: _request,
             gathered: _gathered,
             profile_source: _profile_source,
             tests: _tests,
@@ -82,6 +86,7 @@ impl<'g> Session<'g> {
         let engines = Engines::new(alloc, request, &triples, gathered)?;
         let layers = layers_of(alloc, gathered)?;
         Ok(Session {
+            request: reported_request(alloc, request)?,
             gathered,
             profile_source: request.profile_source,
             engines,

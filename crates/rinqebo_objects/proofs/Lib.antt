@@ -1,2 +1,4 @@
+pub mod Enabled
 pub mod ExactObjects
 pub mod Gathered
+pub mod KnownUses

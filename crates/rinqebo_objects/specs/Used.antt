@@ -1,16 +1,15 @@
 -- What the tests and the binaries of a list use of the scripts of a profile.
-use Rattle.std.specs.Prelude.{◌++◌, Bool, true, List, Option, None, Some, filter, filter_map, map, option_and_then, option_map}
+use Rattle.std.specs.Prelude.{◌++◌, ℕ, Bool, true, List, Option, None, Some, filter, filter_map, map, option_and_then, option_map}
+use Rattle.std.specs.List.{flat_map}
 use Rattle.nextest_engines.specs.Engines.{Binary, Test, binary_view, test_view}
 use Rattle.nextest_load.specs.Closed.{BinaryMatch}
-use Rattle.nextest_scripts.specs.ScriptId.{script_text}
 use Rattle.nextest_settings.specs.Deciding.{QueryContext}
 use Rattle.nextest_settings.specs.Profile.{EvaluatableModel}
-use Rattle.nextest_settings.specs.Queries.{binary_query, list_wrapper_of, query_in, wrapping_rule}
+use Rattle.nextest_settings.specs.Queries.{binary_query, evaluated_for_list, list_wrapper_of, query_in, wrapping_rule}
 use Rattle.nextest_tables.specs.Written.{Name}
 use Rattle.nextest_tree.specs.Schema.{is_one_of}
 use Rattle.rinqebo_objects.specs.Enabling.{Enabling, tests_enabling}
 use Rattle.rinqebo_objects.specs.declared.listed.Listed.{Listed as Listed'}
-use Rattle.rinqebo_objects.specs.declared.wrappers.WrapperChoice.{WrapperChoice}
 
 -- The tests and the binaries of a list.
 pub record Listed : Type 0 where
@@ -57,10 +56,13 @@ used_in matches matches_binary profile given = option_map (λ (listed : Listed).
       ++ list_wrappers matches_binary profile listed.binaries;
 }) given
 
--- the ids of the wrappers that are chosen; nothing where all are
-abbrev pub wrappers_chosen : WrapperChoice → Option (List Name)
-wrappers_chosen choice =
-    option_map (λ ids. map (λ id. script_text id.now) ids.items) choice.used
+-- the script rules whose filters are evaluated for the list wrappers of binaries in a profile, by
+-- number
+abbrev pub evaluated_for_lists : {M : Type 0} → BinaryMatch M → EvaluatableModel M → List Binary
+    → List ℕ
+evaluated_for_lists matches profile binaries = flat_map
+    (λ binary. evaluated_for_list (binary_query matches profile.default_filter.filter binary)
+    profile) binaries
 
 -- whether the wrapper of an id is chosen
 abbrev pub is_chosen : Option (List Name) → Name → Bool

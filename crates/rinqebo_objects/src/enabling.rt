@@ -1,5 +1,5 @@
-//! Which tests of a list enable a setup script.
-ghost use Rattle.std.specs.Prelude.{◌≡◌, ◌&&◌, IfOk, map};
+//! Which setup scripts the tests of a list enable.
+ghost use Rattle.std.specs.Prelude.{◌≡◌, ◌&&◌, IfOk, false, map, option_map, slice_get, unwrap_or};
 ghost use Rattle.serde_json.specs.View.{view};
 ghost use Rattle.nextest_engines.specs.Engines.{test_view};
 ghost use Rattle.nextest_settings.specs.Profiles.Meaning.{profile_meaning};
@@ -8,15 +8,18 @@ ghost use Rattle.nextest_settings.specs.Deciding.{rule_holds};
 ghost use Rattle.nextest_settings.specs.Engines.{test_query_by};
 ghost use Rattle.nextest_settings.specs.Queries.{is_enabled_for, query_in};
 ghost use Rattle.nextest_settings.specs.View.{meant_script_rule};
-ghost use Rattle.rinqebo_objects.specs.Enabling.{test_data, tests_enabling};
+ghost use Rattle.nextest_tables.specs.Written.{Name};
+ghost use Rattle.nextest_tree.specs.Schema.{is_one_of};
+ghost use Rattle.rinqebo_objects.specs.Enabling.{test_data};
 ghost use Rattle.rinqebo_objects.specs.Scripts.{enabling_data};
-ghost use Rattle.rinqebo_objects.specs.Used.{listed_view, used_in};
+ghost use Rattle.rinqebo_objects.specs.Uses.{enabling_by, setup_in, used_by};
 ghost use Rattle.rinqebo_report.specs.Documents.{list_data};
 
-use crate::listed::Listed;
+use crate::list_use::ListUse;
+use crate::script_use::{ScriptUse, add_script_ids, is_one_of};
 use nextest_engines::{EvalContext, Filters, Specs, TestQuery};
 use nextest_scripts::ScriptId;
-use nextest_settings::{EvaluatableProfile, EvaluatedScriptRule, matches_test, names_script};
+use nextest_settings::{EvaluatableProfile, EvaluatedScriptRule, matches_test};
 use serde_json::{Value, json};
 use std::alloc::{AllocError, Global};
 
@@ -50,79 +53,90 @@ pub(crate) fn holds_for_test<F: Filters, S: Specs>(
         && matches_test::<F>(rule.rule().filter(), NUMBER, query, cx, tally)
 }
 
-/// Whether some rule that names a script holds for a test.
-fn is_enabled<F: Filters, S: Specs>(
-    id: &ScriptId,
-    rules: &[EvaluatedScriptRule<'_, F, S>],
+/// The ids of the setup scripts that a test enables by rules: those that a rule names which holds
+/// for the test. A rule that names none is not evaluated.
+fn ids_by_rules<'c, F: Filters, S: Specs>(
+    alloc: Global,
+    rules: &[EvaluatedScriptRule<'c, F, S>],
     query: &TestQuery<'_>,
     cx: &EvalContext<'_, F::Expr>,
     tally: &mut F::Tally,
-) -> bool
+) -> Result<Vec<&'c ScriptId>, AllocError>
     ensures { let query = test_query_by F.Filters cx.now.default_filter.now query.now in
-        result ≡ is_enabled_for query (map (meant_script_rule F.meaning) rules.now)
-        (script_text id.now) }
+        let rules = map (meant_script_rule F.meaning) rules.now in
+        IfOk result (λ ids. (id : Name) → is_one_of (map (λ id. script_text id.now) ids.items) id
+        ≡ is_enabled_for query rules id) }
 {
+    let mut ids = Vec::new(alloc);
     for rule in rules {
-        let is_named = names_script(rule.rule().setup(), id);
-        if holds_for_test(rule, is_named, query, cx, tally) {
-            return true;
+        let setup = rule.rule().setup();
+        if holds_for_test(rule, !setup.is_empty(), query, cx, tally) {
+            add_script_ids(&mut ids, setup)?;
         }
     }
-    false
+    Ok(ids)
 }
 
-/// Whether a test enables a setup script in a profile.
-fn enables<F: Filters, S: Specs>(
-    profile: &EvaluatableProfile<'_, F, S>,
-    id: &ScriptId,
+/// The ids of the setup scripts that a test enables in a profile.
+pub(crate) fn enabled_ids<'c, F: Filters, S: Specs>(
+    alloc: Global,
+    profile: &EvaluatableProfile<'c, F, S>,
     query: &TestQuery<'_>,
     tally: &mut F::Tally,
-) -> bool
+) -> Result<Vec<&'c ScriptId>, AllocError>
     ensures { let profile = profile_meaning F.meaning profile.now in
-        result ≡ is_enabled_for (query_in F.holds profile (test_view query.now))
-        profile.script_rules (script_text id.now) }
+        let query = query_in F.holds profile (test_view query.now) in
+        IfOk result (λ ids. (id : Name) → is_one_of (map (λ id. script_text id.now) ids.items) id
+        ≡ is_enabled_for query profile.script_rules id) }
 {
     let cx = profile.filterset_ecx();
     let rules = profile.rules();
-    is_enabled(id, &rules.script_rules, query, &cx, tally)
+    ids_by_rules(alloc, &rules.script_rules, query, &cx, tally)
 }
 
-/// The tests that enable a setup script in a profile, in their order.
-fn tests_json<F: Filters, S: Specs>(
+/// Whether the test of a number enables a setup script, by what each test uses.
+fn enables(uses: &[ScriptUse<'_>], number: usize, id: &ScriptId) -> bool
+    ensures { result ≡ unwrap_or (option_map
+        (λ scripts. is_one_of (setup_in scripts) (script_text id.now)) (slice_get uses.now number))
+        false }
+{
+    match uses.get(number) {
+        Some(scripts) => is_one_of(&scripts.setup, id),
+        None => false,
+    }
+}
+
+/// The tests that enable a setup script, in their order, by what each of them uses. No filter is
+/// evaluated.
+fn tests_json(
     alloc: Global,
-    profile: &EvaluatableProfile<'_, F, S>,
     id: &ScriptId,
     tests: &[TestQuery<'_>],
-    tally: &mut F::Tally,
+    uses: &[ScriptUse<'_>],
 ) -> Result<Value, AllocError>
-    ensures { let profile = profile_meaning F.meaning profile.now in
-        IfOk result (λ value. view value ≡ list_data test_data
-        (tests_enabling F.holds profile (map test_view tests.now) (script_text id.now))) }
+    ensures { IfOk result (λ value. view value ≡ list_data test_data
+        (enabling_by uses.now (map test_view tests.now) (script_text id.now))) }
 {
     let mut list = Vec::new(alloc);
-    for query in tests {
-        if enables(profile, id, query, tally) {
+    for (number, query) in tests.iter().enumerate() {
+        if enables(uses, number, id) {
             list.push(test_json(alloc, query)?)?;
         }
     }
     Ok(Value::Array(list))
 }
 
-/// The tests of a list that enable a setup script in a profile, in their order; null without a
-/// list.
-pub(crate) fn optional_tests_json<F: Filters, S: Specs>(
+/// The tests of a list that enable a setup script, in their order; null without a list.
+pub(crate) fn optional_tests_json(
     alloc: Global,
-    profile: &EvaluatableProfile<'_, F, S>,
     id: &ScriptId,
-    list: Option<Listed<'_>>,
-    tally: &mut F::Tally,
+    list: Option<ListUse<'_, '_>>,
 ) -> Result<Value, AllocError>
-    ensures { let profile = profile_meaning F.meaning profile.now in
-        let used = used_in F.holds F.holds_binary profile (listed_view list.entry) in
-        IfOk result (λ value. view value ≡ enabling_data used (script_text id.now)) }
+    ensures { IfOk result (λ value. view value
+        ≡ enabling_data (used_by list.entry) (script_text id.now)) }
 {
     match list {
-        Some(listed) => tests_json(alloc, profile, id, listed.tests, tally),
+        Some(list) => tests_json(alloc, id, list.tests, list.uses),
         None => Ok(Value::Null),
     }
 }

@@ -4,20 +4,24 @@
 #![tactic(auto)]
 
 mod enabling;
+mod evaluated_uses;
 mod groups;
+mod list_use;
 mod listed;
 mod objects;
 mod origins;
 mod run;
+mod script_use;
 mod scripts;
 mod values;
 mod warnings;
 mod wrappers;
 
 pub use listed::Listed;
-pub use objects::{Surroundings, objects_json, objects_text};
+pub use objects::{Surroundings, objects_by_uses, objects_json, objects_text};
 pub use origins::{
     BoundOrigins, GroupOrigins, NameOrigins, ObjectOrigins, OutputOrigins, RunOrigins,
 };
 pub use run::RunSettings;
+pub use script_use::{ScriptUse, add_script_ids};
 pub use scripts::Directories;

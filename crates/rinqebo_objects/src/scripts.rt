@@ -1,25 +1,23 @@
 //! Scripts and their commands as JSON.
 ghost use Rattle.std.specs.Prelude.{◌≡◌, IfOk, map, string_bytes};
 ghost use Rattle.serde_json.specs.View.{view};
-ghost use Rattle.nextest_settings.specs.Profiles.Meaning.{profile_meaning};
 ghost use Rattle.nextest_scripts.specs.EnvMap.{env_view};
 ghost use Rattle.nextest_scripts.specs.ScriptId.{script_text};
 ghost use Rattle.nextest_scripts.specs.ScriptTexts.{command_view, setup_script_view, wrapper_script_view};
 ghost use Rattle.rinqebo_objects.specs.Scripts.{command_data, directories_view, program_in, relative_word, runner_word, setup_script_data, stored_data, variables_data, wrapper_script_data};
-ghost use Rattle.rinqebo_objects.specs.Used.{listed_view, used_in, wrappers_used};
+ghost use Rattle.rinqebo_objects.specs.Used.{wrappers_used};
+ghost use Rattle.rinqebo_objects.specs.Uses.{used_by};
 ghost use Rattle.rinqebo_report.specs.Documents.{list_data};
 
 use crate::enabling::optional_tests_json;
-use crate::listed::Listed;
+use crate::list_use::ListUse;
 use crate::values::{names_json, optional_leak_json, optional_slow_json};
-use crate::wrappers::WrapperChoice;
+use crate::wrappers::is_chosen;
 use indexmap::IndexMap;
-use nextest_engines::{Filters, Specs};
 use nextest_scripts::{
     ScriptCommand, ScriptCommandEnvMap, ScriptCommandRelativeTo, ScriptId, SetupScriptConfig,
     SetupScriptJunitConfig, WrapperScriptConfig, WrapperScriptTargetRunner,
 };
-use nextest_settings::EvaluatableProfile;
 use serde_json::{Map, Value, json, put};
 use std::alloc::{AllocError, Global};
 
@@ -113,23 +111,19 @@ fn stored_json(alloc: Global, stored: SetupScriptJunitConfig) -> Result<Value, A
     })
 }
 
-/// A setup script of a profile, with the tests of a list that enable it.
-fn setup_script_json<F: Filters, S: Specs>(
+/// A setup script, with the tests of a list that enable it.
+fn setup_script_json(
     alloc: Global,
     directories: Option<Directories<'_>>,
-    profile: &EvaluatableProfile<'_, F, S>,
     id: &ScriptId,
     script: &SetupScriptConfig,
-    list: Option<Listed<'_>>,
-    tally: &mut F::Tally,
+    list: Option<ListUse<'_, '_>>,
 ) -> Result<Value, AllocError>
     ensures { let directories = directories_view directories.entry in
-        let profile = profile_meaning F.meaning profile.now in
-        let used = used_in F.holds F.holds_binary profile (listed_view list.entry) in
-        IfOk result (λ value. view value ≡ setup_script_data directories used
+        IfOk result (λ value. view value ≡ setup_script_data directories (used_by list.entry)
         (script_text id.now, setup_script_view script.now)) }
 {
-    let tests = optional_tests_json(alloc, profile, id, list, tally)?;
+    let tests = optional_tests_json(alloc, id, list)?;
     let command = command_json(alloc, directories, &script.command)?;
     let slow_timeout = optional_slow_json(alloc, script.slow_timeout)?;
     let leak_timeout = optional_leak_json(alloc, script.leak_timeout)?;
@@ -146,25 +140,21 @@ fn setup_script_json<F: Filters, S: Specs>(
     })
 }
 
-/// Setup scripts, in the order in which they run, with the tests of a list that enable each in a
-/// profile.
-pub(crate) fn setup_scripts_json<F: Filters, S: Specs>(
+/// Setup scripts, in the order in which they run, with the tests of a list that enable each.
+pub(crate) fn setup_scripts_json(
     alloc: Global,
     directories: Option<Directories<'_>>,
-    profile: &EvaluatableProfile<'_, F, S>,
     scripts: &IndexMap<ScriptId, SetupScriptConfig>,
-    list: Option<Listed<'_>>,
-    tally: &mut F::Tally,
+    list: Option<ListUse<'_, '_>>,
 ) -> Result<Value, AllocError>
     ensures { let directories = directories_view directories.entry in
-        let profile = profile_meaning F.meaning profile.now in
-        let used = used_in F.holds F.holds_binary profile (listed_view list.entry) in
-        IfOk result (λ value. view value ≡ list_data (setup_script_data directories used)
+        IfOk result (λ value. view value
+        ≡ list_data (setup_script_data directories (used_by list.entry))
         (map (λ e. (script_text e.0, setup_script_view e.1)) scripts.now.entries)) }
 {
     let mut entries = Vec::new(alloc);
     for (id, script) in scripts.iter() {
-        let entry = setup_script_json(alloc, directories, profile, id, script, list, tally)?;
+        let entry = setup_script_json(alloc, directories, id, script, list)?;
         entries.push(entry)?;
     }
     Ok(Value::Array(entries))
@@ -188,27 +178,22 @@ fn wrapper_script_json(
     })
 }
 
-/// Wrapper scripts, in the order in which they are defined: those that a list uses in a profile;
-/// all without a list.
-pub(crate) fn wrapper_scripts_json<F: Filters, S: Specs>(
+/// Wrapper scripts, in the order in which they are defined: those that a list uses; all without a
+/// list.
+pub(crate) fn wrapper_scripts_json(
     alloc: Global,
     directories: Option<Directories<'_>>,
-    profile: &EvaluatableProfile<'_, F, S>,
     scripts: &IndexMap<ScriptId, WrapperScriptConfig>,
-    list: Option<Listed<'_>>,
-    tally: &mut F::Tally,
+    list: Option<ListUse<'_, '_>>,
 ) -> Result<Value, AllocError>
     ensures { let directories = directories_view directories.entry in
-        let profile = profile_meaning F.meaning profile.now in
-        let used = used_in F.holds F.holds_binary profile (listed_view list.entry) in
         IfOk result (λ value. view value ≡ list_data (wrapper_script_data directories)
-        (wrappers_used used
+        (wrappers_used (used_by list.entry)
         (map (λ e. (script_text e.0, wrapper_script_view e.1)) scripts.now.entries))) }
 {
-    let choice = WrapperChoice::of(alloc, profile, list, tally)?;
     let mut entries = Vec::new(alloc);
     for (id, script) in scripts.iter() {
-        if choice.contains(id) {
+        if is_chosen(list, id) {
             entries.push(wrapper_script_json(alloc, directories, id, script)?)?;
         }
     }

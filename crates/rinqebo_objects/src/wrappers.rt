@@ -1,18 +1,19 @@
 //! Which wrapper scripts a list uses: those that wrap the run of some test or the listing of some
 //! binary.
-ghost use Rattle.std.specs.Prelude.{◌≡◌, ◌++◌, IfOk, map, option_and_then, option_map};
+ghost use Rattle.std.specs.Prelude.{◌≡◌, ◌++◌, IfOk, filter_map, map, option_and_then, option_map};
 ghost use Rattle.nextest_engines.specs.Engines.{binary_view, test_view};
 ghost use Rattle.nextest_settings.specs.Profiles.Meaning.{profile_meaning};
 ghost use Rattle.nextest_scripts.specs.ScriptId.{script_text};
 ghost use Rattle.nextest_settings.specs.Engines.{test_query_by};
-ghost use Rattle.nextest_settings.specs.Queries.{binary_query, list_wrapper_of, query_in, wrapping_rule};
+ghost use Rattle.nextest_settings.specs.Queries.{binary_query, evaluated_for_list, list_wrapper_of, query_in, wrapping_rule};
 ghost use Rattle.nextest_settings.specs.View.{meant_script_rule};
-ghost use Rattle.nextest_tree.specs.Schema.{is_one_of};
-ghost use Rattle.rinqebo_objects.specs.Used.{is_chosen, list_wrappers, listed_view, run_wrapper_of, run_wrappers, used_in, wrappers_chosen};
+ghost use Rattle.rinqebo_objects.specs.Used.{evaluated_for_lists, is_chosen, list_wrappers, run_wrapper_of};
+ghost use Rattle.rinqebo_objects.specs.Uses.{used_by, wrapper_in};
 
 use crate::enabling::holds_for_test;
-use crate::listed::Listed;
-use nextest_engines::{BinaryQuery, EvalContext, Filters, Specs, TestQuery};
+use crate::list_use::ListUse;
+use crate::script_use::{ScriptUse, is_one_of};
+use nextest_engines::{BinaryQuery, EvalContext, Filters, Specs, Tally, TestQuery};
 use nextest_scripts::ScriptId;
 use nextest_settings::{EvaluatableProfile, EvaluatedScriptRule};
 use std::alloc::{AllocError, Global};
@@ -39,7 +40,7 @@ fn run_wrapper_by<'c, F: Filters, S: Specs>(
 }
 
 /// The run wrapper that a profile gives a test.
-fn run_wrapper_of<'c, F: Filters, S: Specs>(
+pub(crate) fn run_wrapper_of<'c, F: Filters, S: Specs>(
     profile: &EvaluatableProfile<'c, F, S>,
     query: &TestQuery<'_>,
     tally: &mut F::Tally,
@@ -59,10 +60,14 @@ fn list_wrapper_of<'c, F: Filters, S: Specs>(
     query: &BinaryQuery<'_>,
     tally: &mut F::Tally,
 ) -> Option<&'c ScriptId>
-    ensures { let profile = profile_meaning F.meaning profile.now in
+    ensures wrapper { let profile = profile_meaning F.meaning profile.now in
         let binary = binary_query F.holds_binary profile.default_filter.filter
         (binary_view query.now) in
         option_map (λ id. script_text id.now) result ≡ list_wrapper_of binary profile }
+    ensures tally { let profile = profile_meaning F.meaning profile.now in
+        let binary = binary_query F.holds_binary profile.default_filter.filter
+        (binary_view query.now) in
+        F.Tally.numbers tally.new ≡ F.Tally.numbers tally.old ++ evaluated_for_list binary profile }
 {
     match profile.list_wrapper_rule(query, tally) {
         Some(rule) => rule.list_wrapper(),
@@ -70,20 +75,16 @@ fn list_wrapper_of<'c, F: Filters, S: Specs>(
     }
 }
 
-/// Adds the run wrappers of the tests that have one in a profile.
-fn add_run_wrappers<'c, F: Filters, S: Specs>(
+/// Adds the run wrappers of the tests that have one.
+fn add_run_wrappers<'c>(
     ids: &mut Vec<&'c ScriptId>,
-    profile: &EvaluatableProfile<'c, F, S>,
-    tests: &[TestQuery<'_>],
-    tally: &mut F::Tally,
+    uses: &[ScriptUse<'c>],
 ) -> Result<(), AllocError>
-    ensures { let profile = profile_meaning F.meaning profile.now in
-        IfOk result (λ _. map (λ id. script_text id.now) ids.new.items
-        ≡ map (λ id. script_text id.now) ids.old.items
-        ++ run_wrappers F.holds profile (map test_view tests.now)) }
+    ensures { IfOk result (λ _. map (λ id. script_text id.now) ids.new.items
+        ≡ map (λ id. script_text id.now) ids.old.items ++ filter_map wrapper_in uses.now) }
 {
-    for test in tests {
-        if let Some(id) = run_wrapper_of(profile, test, tally) {
+    for scripts in uses {
+        if let Some(id) = scripts.run_wrapper {
             ids.push(id)?;
         }
     }
@@ -97,10 +98,13 @@ fn add_list_wrappers<'c, F: Filters, S: Specs>(
     binaries: &[BinaryQuery<'_>],
     tally: &mut F::Tally,
 ) -> Result<(), AllocError>
-    ensures { let profile = profile_meaning F.meaning profile.now in
+    ensures wrappers { let profile = profile_meaning F.meaning profile.now in
         IfOk result (λ _. map (λ id. script_text id.now) ids.new.items
         ≡ map (λ id. script_text id.now) ids.old.items
         ++ list_wrappers F.holds_binary profile (map binary_view binaries.now)) }
+    ensures tally { let profile = profile_meaning F.meaning profile.now in
+        IfOk result (λ _. F.Tally.numbers tally.new ≡ F.Tally.numbers tally.old
+        ++ evaluated_for_lists F.holds_binary profile (map binary_view binaries.now)) }
 {
     for binary in binaries {
         if let Some(id) = list_wrapper_of(profile, binary, tally) {
@@ -110,72 +114,37 @@ fn add_list_wrappers<'c, F: Filters, S: Specs>(
     Ok(())
 }
 
-/// The ids of the wrappers that a list uses in a profile.
-fn ids_used<'c, F: Filters, S: Specs>(
+/// The ids of the wrappers that a list uses in a profile, by what each of its tests uses. Filters
+/// are evaluated for the list wrappers of binaries alone.
+pub(crate) fn ids_used<'c, F: Filters, S: Specs>(
     alloc: Global,
     profile: &EvaluatableProfile<'c, F, S>,
-    listed: Listed<'_>,
+    uses: &[ScriptUse<'c>],
+    binaries: &[BinaryQuery<'_>],
     tally: &mut F::Tally,
 ) -> Result<Vec<&'c ScriptId>, AllocError>
-    ensures { let profile = profile_meaning F.meaning profile.now in
+    ensures wrappers { let profile = profile_meaning F.meaning profile.now in
         IfOk result (λ ids. map (λ id. script_text id.now) ids.items
-        ≡ run_wrappers F.holds profile (map test_view listed.entry.tests.now)
-        ++ list_wrappers F.holds_binary profile (map binary_view listed.entry.binaries.now)) }
+        ≡ filter_map wrapper_in uses.now
+        ++ list_wrappers F.holds_binary profile (map binary_view binaries.now)) }
+    ensures tally { let profile = profile_meaning F.meaning profile.now in
+        IfOk result (λ _. F.Tally.numbers tally.new ≡ F.Tally.numbers tally.old
+        ++ evaluated_for_lists F.holds_binary profile (map binary_view binaries.now)) }
 {
     let mut ids = Vec::new(alloc);
-    add_run_wrappers(&mut ids, profile, listed.tests, tally)?;
-    add_list_wrappers(&mut ids, profile, listed.binaries, tally)?;
+    add_run_wrappers(&mut ids, uses)?;
+    add_list_wrappers(&mut ids, profile, binaries, tally)?;
     Ok(ids)
 }
 
-/// Whether an id is one of these.
-fn is_one_of(ids: &[&ScriptId], id: &ScriptId) -> bool
-    ensures { result ≡ is_one_of (map (λ id. script_text id.now) ids.now) (script_text id.now) }
+/// Whether the objects of a profile have the wrapper of an id: those that a list uses; all without a
+/// list.
+pub(crate) fn is_chosen(list: Option<ListUse<'_, '_>>, id: &ScriptId) -> bool
+    ensures { result ≡ is_chosen (option_map (λ used. used.wrappers) (used_by list.entry))
+        (script_text id.now) }
 {
-    for used in ids {
-        if *used == id {
-            return true;
-        }
-    }
-    false
-}
-
-/// Which wrappers the objects of a profile have.
-#[derive(Drop)]
-pub(crate) struct WrapperChoice<'c> {
-    /// The ids of those that a list uses; absent without a list, where all are chosen.
-    used: Option<Vec<&'c ScriptId>>,
-}
-
-impl<'c> WrapperChoice<'c> {
-    /// The wrappers that a list uses in a profile; all without a list.
-    pub(crate) fn of<F: Filters, S: Specs>(
-        alloc: Global,
-        profile: &EvaluatableProfile<'c, F, S>,
-        list: Option<Listed<'_>>,
-        tally: &mut F::Tally,
-    ) -> Result<WrapperChoice<'c>, AllocError>
-        ensures { let profile = profile_meaning F.meaning profile.now in
-            let used = used_in F.holds F.holds_binary profile (listed_view list.entry) in
-            IfOk result (λ choice. wrappers_chosen choice
-            ≡ option_map (λ used. used.wrappers) used) }
-    {
-        match list {
-            Some(listed) => {
-                let ids = ids_used(alloc, profile, listed, tally)?;
-                Ok(WrapperChoice { used: Some(ids) })
-            }
-            None => Ok(WrapperChoice { used: None }),
-        }
-    }
-
-    /// Whether the wrapper of an id is chosen.
-    pub(crate) fn contains(&self, id: &ScriptId) -> bool
-        ensures { result ≡ is_chosen (wrappers_chosen self.now) (script_text id.now) }
-    {
-        match &self.used {
-            Some(ids) => is_one_of(ids, id),
-            None => true,
-        }
+    match list {
+        Some(list) => is_one_of(list.wrappers, id),
+        None => true,
     }
 }

@@ -1,7 +1,11 @@
 //! Where rules are.
-ghost use Rattle.std.specs.Prelude.{◌≡◌, ◌++◌, [], ◌∷◌, List, IfOk, map, option_map};
+ghost use Rattle.std.specs.Prelude.{◌≡◌, ◌++◌, [], ◌∷◌, ℕ, List, Option, IfOk, MatchOption, map, option_map};
 ghost use Rattle.std.specs.List.{AllZip};
 ghost use Rattle.nextest_rules.specs.View.{id_view, script_rule_id_view};
+ghost use Rattle.nextest_sources.specs.Sources.{source_view};
+ghost use Rattle.nextest_tree.specs.View.{tree_view};
+ghost use Rattle.rinqebo_request.specs.Files.Origins.{HasNoFile, IsFileAt};
+ghost use Rattle.rinqebo_request.specs.Files.RuleTables.{rule_in};
 ghost use Rattle.rinqebo_origins.specs.Origins.{PathStep, IsOriginOf, key_steps, profile_steps, step_view};
 ghost use Rattle.rinqebo_origins.specs.RulePlaces.{list_of, part_of, place_view, id_place, script_place};
 
@@ -172,7 +176,14 @@ impl<'c> RulePlace<'c> {
     }
 
     /// The table of the rule in its file.
-    pub fn table<'l>(&self, layers: &'l [Layer]) -> Option<&'l Tree> {
+    pub fn table<'l>(&self, layers: &'l [Layer]) -> Option<&'l Tree>
+        ensures { (position : Option ℕ) × MatchOption position
+            (HasNoFile layers.now (source_view self.now.source.now))
+            (IsFileAt layers.now (source_view self.now.source.now))
+            × (option_map (λ tree. tree_view tree.now) result
+            ≡ rule_in layers.now position self.now.profile.now (list_of self.now.kind)
+            self.now.index) }
+    {
         let place = place_of(layers, self.source);
         rule_at(layers, place, self.profile, self.kind.list(), self.index)
     }

@@ -7,6 +7,7 @@ use Rattle.serde_json.specs.Read.{max_depth}
 use Rattle.serde_json.specs.Written.{has_float}
 use Rattle.rinqebo_report.specs.Document.{check_members, common_members, document_data, document_members, is_check, with_checks, with_content, with_files, with_ignored, with_objects, with_requested}
 use Rattle.rinqebo_report.specs.Documents.{count_data, text_data, optional_text_data, optional_count_data, list_data, pair_data, lines_data, range_data, scalar_data, value_data, optional_value_data, part_data, kind_data, origin_data, setting_data, runs_data, test_data, test_id_data, entry_data, rule_data, tool_data, source_data, unreached_data, wrapper_data, place_source_data, place_lines_data, place_range_data, span_data, expression_data, expression_span_data, with_fault, with_site, with_expression, with_advice, finding_data, summary_data, step_data}
+use Rattle.rinqebo_report.specs.Requests.{named_test_data, put_given, put_test, request_data}
 use Rattle.rinqebo_report.specs.declared.exact_value.ExactValue.{ExactValue}
 use Rattle.rinqebo_report.specs.declared.finding.RefusedExpression.{RefusedExpression}
 use Rattle.rinqebo_report.specs.declared.finding.Finding.{Finding}
@@ -34,6 +35,8 @@ use Rattle.rinqebo_report.specs.declared.report.SettingRow.{SettingRow}
 use Rattle.rinqebo_report.specs.declared.report.TestId.{TestId}
 use Rattle.rinqebo_report.specs.declared.report.TestRows.{TestRows}
 use Rattle.rinqebo_report.specs.declared.report.Unreached.{Unreached}
+use Rattle.rinqebo_report.specs.declared.reported_request.NamedTest.{NamedTest}
+use Rattle.rinqebo_report.specs.declared.reported_request.ReportedRequest.{ReportedRequest}
 use Rattle.rinqebo_report.specs.declared.value.TableMember.{TableMember}
 use Rattle.rinqebo_report.specs.declared.value.Scalar.{Scalar}
 use Rattle.rinqebo_report.specs.declared.value.Scalar.TheVariants as scalars
@@ -328,8 +331,26 @@ members report =
       | false ↦ content report.content (common report)
     ]
 
+-- the request of a user
+given : {n : ℕ} {ms : Members} (k : List ℕ) (s : Option (String Global)) → AreExact n ms → AreExact n (put_given k s ms)
+given k None h = h
+given {n} k (Some s) h = exact_put k _ _ (text n s) h
+
+named : (t : NamedTest) → IsExact 1 (named_test_data t)
+named t = exact_object 0 (exact_put (codes "name") _ _ (text 0 t.name) (given (codes "binary-id") t.binary (no_more 0)))
+
+tested : {ms : Members} (t : Option NamedTest) → AreExact 7 ms → AreExact 7 (put_test t ms)
+tested None h = h
+tested (Some t) h = exact_put (codes "test") _ _ (deeper 7 (named t) (omega arith)) h
+
+requested : (r : ReportedRequest) → IsExact 8 (request_data r)
+requested r =
+    exact_object 7 (given (codes "why") r.why (tested r.test (given (codes "list") r.list
+    (exact_filled (codes "keys") _ _ (texts 6 r.keys.items)
+    (given (codes "by") r.by (exact_put (codes "command") _ _ (exact_text 7 _) (no_more 7)))))))
+
 document : (report : Report) → IsExact 9 (document_data report)
-document report = exact_object 8 (members report)
+document report = exact_object 8 (exact_put (codes "request") _ _ (requested report.request) (members report))
 
 within : (d : Data) → IsExact 9 d → depth d ≤ max_depth
 within d h = omega (arith, h.nests)

@@ -11,6 +11,7 @@ pub mod SolidPages
 pub mod Lines
 pub mod FilledLines
 pub mod ReadDurations
+pub mod AlikeRequests
 pub mod Exact
 pub mod ExactDocuments
 pub mod Nearest

@@ -16,6 +16,7 @@ use Rattle.rinqebo_report.specs.declared.report.TestRows.{TestRows}
 use Rattle.rinqebo_report.specs.Documents.{count_data, text_data, optional_text_data, list_data, origin_data, test_data, test_id_data, entry_data, rule_data, finding_data, source_data, summary_data, unreached_data, wrapper_data}
 use Rattle.rinqebo_report.specs.Filled.{put_filled}
 use Rattle.rinqebo_report.specs.Headers.{mode_word}
+use Rattle.rinqebo_report.specs.Requests.{request_data}
 
 -- The members that every document has but that of `check`, with their keys in the order of bytes.
 -- What only some commands report is empty or null.
@@ -126,12 +127,13 @@ is_check (contents.Why asked test key rules is_ignored) = false
 is_check (contents.List asked tests unused scripts objects) = false
 is_check (contents.ShowConfig asked entries) = false
 
--- the members of the document of a report
+-- the members of the document of a report, without its request
 abbrev pub document_members : Report → Members
 document_members report =
     if is_check report.content then check_members report
     else with_content report.content (common_members report)
 
--- the document of a report
+-- the document of a report, with its request
 abbrev pub document_data : Report → Data
-document_data report = object (document_members report)
+document_data report =
+    object (put (codes "request") (request_data report.request) (document_members report))

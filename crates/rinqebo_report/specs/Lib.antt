@@ -16,6 +16,7 @@ pub mod Groups
 pub mod Rendered
 pub mod Filled
 pub mod Documents
+pub mod Requests
 pub mod Document
 pub mod Uncoloured
 pub mod Hints

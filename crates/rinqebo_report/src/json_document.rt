@@ -10,6 +10,7 @@ use crate::explain_page::put_explain;
 use crate::filled::put_filled;
 use crate::json_findings::{findings_json, summary_json};
 use crate::json_parts::{all_unreached_json, sources_json};
+use crate::json_request::request_json;
 use crate::json_requested::put_text;
 use crate::list_page::put_list;
 use crate::report::{Content, Report};
@@ -149,7 +150,7 @@ fn check_members(alloc: Global, report: &Report) -> Result<Map<String, Value>, A
     Ok(members)
 }
 
-/// The members of the document of a report.
+/// The members of the document of a report, without its request.
 fn document_members(alloc: Global, report: &Report) -> Result<Map<String, Value>, AllocError>
     ensures { IfOk result (λ members.
         members_view members.entries ≡ document_members report.now) }
@@ -166,7 +167,9 @@ fn document_members(alloc: Global, report: &Report) -> Result<Map<String, Value>
 pub fn document(alloc: Global, report: &Report) -> Result<Value, AllocError>
     ensures { IfOk result (λ value. view value ≡ document_data report.now) }
 {
-    let members = document_members(alloc, report)?;
+    let mut members = document_members(alloc, report)?;
+    let request = request_json(alloc, &report.request)?;
+    put(&mut members, alloc, "request", request)?;
     Ok(Value::Object(members))
 }
 

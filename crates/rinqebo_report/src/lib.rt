@@ -23,6 +23,7 @@ mod hint;
 mod json_document;
 mod json_findings;
 mod json_parts;
+mod json_request;
 mod json_requested;
 mod laws;
 mod layout;
@@ -31,6 +32,7 @@ mod origin;
 mod origin_text;
 mod piece;
 mod report;
+mod reported_request;
 mod schema;
 mod toml_text;
 mod value;
@@ -62,6 +64,7 @@ pub use report::{
     Asked, BuiltFor, Condition, ConditionAnswer, Content, Entry, ListScripts, ListWrapper, Report,
     Rule, RunMode, SettingRow, TestId, TestRows, Unreached, Verdict,
 };
+pub use reported_request::{NamedTest, ReportCommand, ReportedRequest};
 pub use schema::DOCUMENT_SCHEMA;
 pub use toml_text::value_text;
 pub use value::{ReportedDuration, Scalar, TableMember, Value};

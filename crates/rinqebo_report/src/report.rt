@@ -2,6 +2,7 @@
 use crate::exact_value::ExactValue;
 use crate::finding::Finding;
 use crate::origin::{Origin, Source};
+use crate::reported_request::ReportedRequest;
 use crate::value::Value;
 
 /// For what tests are run.
@@ -289,6 +290,8 @@ impl Drop for Content {
 
 /// A report: what a command prints.
 pub struct Report {
+    /// The request of the user.
+    pub request: ReportedRequest,
     /// The root of the workspace.
     pub root: String,
     /// The sources, the lowest first.
@@ -305,6 +308,7 @@ pub struct Report {
 impl Drop for Report {
     fn drop(self) {
         let Report {
+            request: _request,
             root: _root,
             sources: _sources,
             findings: _findings,

@@ -20,15 +20,18 @@ use Rattle.rinqebo_report.specs.declared.format.Format.TheVariants as formats
 use Rattle.rinqebo_report.specs.declared.layout.Paper.{Paper}
 use Rattle.rinqebo_report.specs.declared.piece.Colour.{Colour}
 use Rattle.rinqebo_report.specs.declared.piece.Colour.TheVariants.{Coloured, Plain}
+use Rattle.rinqebo_report.specs.declared.reported_request.ReportCommand.{ReportCommand}
+use Rattle.rinqebo_report.specs.declared.reported_request.ReportCommand.TheVariants as reports
 use Rattle.rinqebo_request.specs.Files.Gathering.{list_named}
 use Rattle.rinqebo_request.specs.Lines.{IsFlag, Line, has, value_at, values_at}
-use Rattle.rinqebo_request.specs.Rows.{AreExplainedRows, AreListedRows, is_runs}
+use Rattle.rinqebo_request.specs.Rows.{AreExplainedRows, AreListedRows, is_runs, keys_of}
 use Rattle.rinqebo_request.specs.Variables.{IsSwitchedOn, text_set}
 use Rattle.rinqebo_request.specs.declared.environment.Environment.{Environment}
 use Rattle.rinqebo_request.specs.declared.named.ProfileSource.{ProfileSource}
 use Rattle.rinqebo_request.specs.declared.named.ProfileSource.TheVariants as sources
 use Rattle.rinqebo_request.specs.declared.request.Command.{Command}
 use Rattle.rinqebo_request.specs.declared.request.Command.TheVariants as commands
+use Rattle.rinqebo_request.specs.declared.request.CommandWords.{CommandWords}
 use Rattle.rinqebo_request.specs.declared.request.ConfigFile.{ConfigFile}
 use Rattle.rinqebo_request.specs.declared.request.ConfigFile.TheVariants as kinds
 use Rattle.rinqebo_request.specs.declared.request.EngineOptions.{EngineOptions}
@@ -332,6 +335,15 @@ IsChecking line (questions.Check deny_warnings) =
     IsDenialBy line (value_at (codes "deny") line) deny_warnings
 IsChecking line question = ⊥
 
+-- The words of a request are those of a line of a command: the KEYs as the line has them, in their
+-- order, and the KEYs of `--why` and of `--by`.
+pub record AreCommandWords (command : ReportCommand) (line : Line) (words : CommandWords) : Type 0
+  where
+    pub command_is : words.command ≡ command
+    pub keys : map (λ key. key.now) words.keys.items ≡ keys_of line
+    pub why : option_map (λ key. key.now) words.why ≡ value_at (codes "why") line
+    pub by : option_map (λ key. key.now) words.by ≡ value_at (codes "by") line
+
 -- What all requests have of a line: files, features, and the paper of pages.
 pub record HasLine (IsConfig : ConfigFile → Type 0) (environment : Environment) (line : Line)
     (request : Request) : Type 0 where
@@ -343,6 +355,7 @@ pub record HasLine (IsConfig : ConfigFile → Type 0) (environment : Environment
 pub record IsExplainRequest (environment : Environment) (line : Line) (request : Request)
     : Type 0 where
   pub question : IsExplainedBy environment line (value_at (codes "why") line) request.question
+  pub words : AreCommandWords reports.Explain line request.words
   pub source : request.profile_source ≡ source_of environment line
   pub line_is : HasLine (IsConfigOf line) environment line request
   pub engines : AreEnginesOf environment line request.engines
@@ -354,6 +367,7 @@ pub record IsExplainRequest (environment : Environment) (line : Line) (request :
 pub record IsListRequest (environment : Environment) (line : Line) (request : Request)
     : Type 0 where
   pub question : IsListing environment line request.question
+  pub words : AreCommandWords reports.List line request.words
   pub source : request.profile_source ≡ source_of environment line
   pub line_is : HasLine (IsConfigOf line) environment line request
   pub engines : AreEnginesOf environment line request.engines
@@ -365,6 +379,7 @@ pub record IsListRequest (environment : Environment) (line : Line) (request : Re
 pub record IsShowRequest (environment : Environment) (line : Line) (request : Request)
     : Type 0 where
   pub question : IsShowing environment line request.question
+  pub words : AreCommandWords reports.ShowConfig line request.words
   pub source : request.profile_source ≡ source_of environment line
   pub line_is : HasLine (IsConfigOf line) environment line request
   pub engines : AreEnginesOf environment line request.engines
@@ -376,6 +391,7 @@ pub record IsShowRequest (environment : Environment) (line : Line) (request : Re
 pub record IsCheckRequest (environment : Environment) (line : Line) (request : Request)
     : Type 0 where
   pub question : IsChecking line request.question
+  pub words : AreCommandWords reports.Check line request.words
   pub source : request.profile_source ≡ sources.Fallback
   pub line_is : HasLine (IsCheckedFile line) environment line request
   pub engines : AreFileEngines line request.engines

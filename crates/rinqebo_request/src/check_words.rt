@@ -12,9 +12,9 @@ use crate::hints::name_hint;
 use crate::line::{has, is_on, value};
 use crate::named::ProfileSource;
 use crate::request::{Command, ConfigFile, EngineOptions, Question, Request};
-use crate::words::{ParseStop, features, files, format, named_file, paper, usage};
+use crate::words::{ParseStop, command_words, features, files, format, named_file, paper, usage};
 use clap::ArgMatches;
-use rinqebo_report::{CODES, Code, find_code};
+use rinqebo_report::{CODES, Code, ReportCommand, find_code};
 use std::alloc::{AllocError, Global};
 
 /// Why a command line with `--stdin-path` is not a request: no standard input goes with it.
@@ -173,6 +173,7 @@ fn check_request<'a>(
         question: Question::Check {
             deny_warnings: denies_warnings(alloc, matches)?,
         },
+        words: command_words(alloc, matches, ReportCommand::Check)?,
         profile_source: ProfileSource::Fallback,
         files: files(alloc, matches, checked_file(alloc, matches)?)?,
         engines: file_engines(matches),

@@ -31,7 +31,7 @@ pub use hints::{name_hint, text_hint};
 pub use named::{FileOption, NamedFile, ProfileSource};
 pub use notes::notes_of;
 pub use request::{
-    Command, ConfigFile, EngineOptions, FileOptions, HOST, ListFile, Question, Request,
-    RequestedSettings, RequestedTest, ToolFile,
+    Command, CommandWords, ConfigFile, EngineOptions, FileOptions, HOST, ListFile, Question,
+    Request, RequestedSettings, RequestedTest, ToolFile,
 };
 pub use words::{ParseStop, parse};

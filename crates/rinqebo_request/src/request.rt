@@ -8,7 +8,7 @@ ghost use Rattle.rinqebo_request.specs.Requests.{IsListAt, is_input, list_path, 
 use crate::named::ProfileSource;
 use nextest_elements::{ConfigExperimental, NextestRunMode, Setting, ToolName};
 use nextest_engines::BuildPlatform;
-use rinqebo_report::{Code, Format, Paper};
+use rinqebo_report::{Code, Format, Paper, ReportCommand};
 use std::collections::BTreeSet;
 
 /// The list of tests that a command reads.
@@ -225,10 +225,25 @@ pub struct EngineOptions<'a> {
     pub metadata: Option<&'a str>,
 }
 
+/// The command of a command line, and its KEYs as the user writes them.
+#[derive(Drop)]
+pub struct CommandWords<'a> {
+    /// The command.
+    pub command: ReportCommand,
+    /// The KEYs, and behind them those of `--key`.
+    pub keys: Vec<&'a str>,
+    /// The KEY of `--why`.
+    pub why: Option<&'a str>,
+    /// The KEY of `--by`.
+    pub by: Option<&'a str>,
+}
+
 /// The request of a user.
 pub struct Request<'a> {
     /// What the user requests.
     pub question: Question<'a>,
+    /// The command, and the KEYs as the user writes them. Documents of JSON show them.
+    pub words: CommandWords<'a>,
     /// What names the profile, if the request has one.
     pub profile_source: ProfileSource,
     /// Which files the program reads.
@@ -251,6 +266,7 @@ impl Drop for Request<'_> {
     fn drop(self) {
         let Request {
             question: _question,
+            words: _words,
             profile_source: _profile_source,
             files: _files,
             engines: _engines,

@@ -9,12 +9,13 @@ use crate::line::{has, is_on, value};
 use crate::request::{EngineOptions, ListFile, Question, Request, RequestedTest};
 use crate::rows::{explained_rows, one_setting};
 use crate::words::{
-    ParseStop, engines, features, files, format, mode, named_file, paper, profile, profile_source,
-    target_engines, usage,
+    ParseStop, command_words, engines, features, files, format, mode, named_file, paper, profile,
+    profile_source, target_engines, usage,
 };
 use clap::ArgMatches;
 use nextest_engines::BuildPlatform;
 use rinqebo_keys::RUNS;
+use rinqebo_report::ReportCommand;
 use std::alloc::Global;
 
 /// The words that name a test: the id of its binary, if there is one, and its name.
@@ -202,6 +203,7 @@ pub fn explain_request<'a>(
     let engines = explain_engines(alloc, matches, environment)?;
     Ok(Request {
         question,
+        words: command_words(alloc, matches, ReportCommand::Explain)?,
         profile_source: profile_source(matches, environment),
         files: files(alloc, matches, named_file(matches))?,
         engines,

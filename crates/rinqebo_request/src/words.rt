@@ -8,7 +8,8 @@ ghost use Rattle.nextest_elements.specs.Identifier.{IsPart};
 ghost use Rattle.nextest_elements.specs.IdentifierText.{tool_name_text};
 ghost use Rattle.rinqebo_request.specs.ArgumentTable.{AreProgramChoices, ProgramChoices, program_app};
 ghost use Rattle.rinqebo_request.specs.Lines.{line_of, value_at, values_at};
-ghost use Rattle.rinqebo_request.specs.Requests.{AreEnginesOf, AreFilesOf, IsCommandOf, IsConfigOf, IsListOf, IsListRequest, IsListing, IsNamedCommand, IsSchemaBy, IsShowRequest, IsToolNamed, LacksTarget, mode_by, mode_of, profile_of, source_by, source_of};
+ghost use Rattle.rinqebo_request.specs.Requests.{AreCommandWords, AreEnginesOf, AreFilesOf, IsCommandOf, IsConfigOf, IsListOf, IsListRequest, IsListing, IsNamedCommand, IsSchemaBy, IsShowRequest, IsToolNamed, LacksTarget, mode_by, mode_of, profile_of, source_by, source_of};
+ghost use Rattle.rinqebo_request.specs.Rows.{keys_of};
 ghost use Rattle.rinqebo_request.specs.Variables.{text_set};
 ghost use Rattle.rinqebo_request.specs.Stops.{IsInvalid, IsRefusedFor, IsStopFor, IsToolRefusal, IsUsage};
 
@@ -21,13 +22,15 @@ use crate::options::program;
 use crate::pages::list_format;
 pub use crate::pages::{format, paper};
 use crate::request::{
-    Command, ConfigFile, EngineOptions, FileOptions, ListFile, Question, Request, ToolFile,
+    Command, CommandWords, ConfigFile, EngineOptions, FileOptions, ListFile, Question, Request,
+    ToolFile,
 };
 use crate::rows::listed_rows;
 use crate::test_words::explain_request;
 use clap::ArgMatches;
 use clap::error::ErrorKind;
 use nextest_elements::{InvalidIdentifier, NextestRunMode, ToolName};
+use rinqebo_report::ReportCommand;
 use std::alloc::{AllocError, Global};
 
 /// Why a command line is not a request.
@@ -317,6 +320,32 @@ fn list_question<'a>(
     })
 }
 
+/// The KEYs of a command line, and behind them those of `--key`.
+fn written_keys<'a>(alloc: Global, matches: &ArgMatches<'a>) -> Result<Vec<&'a str>, AllocError>
+    ensures { IfOk result (λ keys. map (λ key. key.now) keys.items
+        ≡ keys_of (line_of matches.now)) }
+{
+    let mut keys = leaf_keys(alloc, matches)?;
+    keys.extend_from_slice(values(matches, "key").unwrap_or(&[]))?;
+    Ok(keys)
+}
+
+/// The command of a command line, and its KEYs as the user writes them.
+pub fn command_words<'a>(
+    alloc: Global,
+    matches: &ArgMatches<'a>,
+    command: ReportCommand,
+) -> Result<CommandWords<'a>, AllocError>
+    ensures { IfOk result (AreCommandWords command (line_of matches.now)) }
+{
+    Ok(CommandWords {
+        command,
+        keys: written_keys(alloc, matches)?,
+        why: value(matches, "why"),
+        by: value(matches, "by"),
+    })
+}
+
 /// The request of the command `list`.
 fn list_request<'a>(
     alloc: Global,
@@ -327,6 +356,7 @@ fn list_request<'a>(
 {
     Ok(Request {
         question: list_question(alloc, matches, environment)?,
+        words: command_words(alloc, matches, ReportCommand::List)?,
         profile_source: profile_source(matches, environment),
         files: files(alloc, matches, named_file(matches))?,
         engines: engines(matches, environment),
@@ -337,7 +367,7 @@ fn list_request<'a>(
     })
 }
 
-/// The KEYs of `show-config`.
+/// The KEYs of a command line.
 fn leaf_keys<'a>(alloc: Global, matches: &ArgMatches<'a>) -> Result<Vec<&'a str>, AllocError>
     ensures { IfOk result (λ keys. map (λ key. key.now) keys.items
         ≡ values_at (codes "KEY") (line_of matches.now)) }
@@ -359,6 +389,7 @@ fn show_request<'a>(
             keys: leaf_keys(alloc, matches)?,
             with_hidden: is_on(matches, "hidden"),
         },
+        words: command_words(alloc, matches, ReportCommand::ShowConfig)?,
         profile_source: profile_source(matches, environment),
         files: files(alloc, matches, named_file(matches))?,
         engines: target_engines(alloc, matches, environment)?,

@@ -2,3 +2,4 @@ mod Taking
 mod Reporting
 pub mod Silent
 mod Reading
+pub mod ShownLists

@@ -5,6 +5,7 @@ use Rattle.std.proofs.lemmas.Bool.{cases_lt}
 use Rattle.rinqebo_request.specs.declared.files.gathering.Gathered.{Gathered}
 use Rattle.rinqebo_report.specs.Rendered.{json_text}
 use Rattle.rinqebo_report.specs.declared.report.Report.{Report}
+use Rattle.rinqebo_report.specs.declared.reported_request.ReportCommand.TheVariants as commands
 use Rattle.rinqebo_request.specs.declared.request.Question.{Question}
 use Rattle.rinqebo_request.specs.declared.request.Question.TheVariants as questions
 use Rattle.rinqebo_request.specs.declared.request.Request.{Request}
@@ -14,7 +15,7 @@ use Rattle.rinqebo_results.specs.declared.answer.Answer.{Answer}
 use Rattle.rinqebo_load.specs.declared.failure.Failure.{Failure}
 use Rattle.rinqebo_load.specs.declared.failure.Failure.TheVariants as failures
 use Rattle.rinqebo_load.specs.declared.session.Session.{Session}
-use Rattle.rinqebo_results.proofs.Refused.{failure_reported}
+use Rattle.rinqebo_results.proofs.Refused.{failure_reported, lacking_report, refused_report}
 use Rattle.rinqebo_forms.specs.Runs.{RunText}
 use Rattle.rinqebo_resolve.specs.Asking.{RequestedText, AreFilesOf, AsksForAll, IsRequestFor, requested_of}
 use Rattle.rinqebo_session.specs.declared.status.TheConstants.{DONE}
@@ -34,7 +35,7 @@ zero_of asked (questions.Check deny_warnings) session report status asks answers
 
 -- the document of an answer
 answered : (asked : RequestedText) (request : Request) (gathered : Gathered) (report : Report) (status : ℕ)
-    (text : List ℕ) → IsRequestFor asked request → IsAnswer request gathered report status
+    (text : List ℕ) → IsRequestFor commands.List asked request → IsAnswer request gathered report status
     → text ≡ json_text report → IsAnswerOf asked gathered text
 answered asked request gathered report status text is_request is_answer document =
     let zero = zero_of asked request.question is_answer.session report status is_request.question
@@ -58,7 +59,7 @@ tested asked (questions.ShowConfig profile keys with_hidden) session asks lacks 
 tested asked (questions.Check deny_warnings) session asks lacks = absurd asks
 
 -- what a request for a list lacks is the profile
-profile_lacks : (asked : RequestedText) (request : Request) (gathered : Gathered) → IsRequestFor asked request
+profile_lacks : (asked : RequestedText) (request : Request) (gathered : Gathered) → IsRequestFor commands.List asked request
     → LackProfileFor request gathered ⊎ LackTestFor request gathered → LackProfileFor request gathered
 profile_lacks asked request gathered is_request (inl profile) = profile
 profile_lacks asked request gathered is_request (inr test) =
@@ -75,14 +76,14 @@ named_none asked (questions.ShowConfig profile keys with_hidden) session report 
 named_none asked (questions.Check deny_warnings) session report asks cause = absurd asks
 
 no_test : {X : Type 0} (asked : RequestedText) (request : Request) (gathered : Gathered) (report : Report)
-    → IsRequestFor asked request → Fails request gathered (failures.NoTest report) → X
+    → IsRequestFor commands.List asked request → Fails request gathered (failures.NoTest report) → X
 no_test asked request gathered report is_request (inl unusable) = absurd unusable
 no_test asked request gathered report is_request (inr fails) =
     named_none asked request.question fails.session report is_request.question fails.cause
 
 -- the ending for which the program answers nothing
 unanswered : (asked : RequestedText) (request : Request) (gathered : Gathered) (failure : Failure) (ending : Ending)
-    → IsRequestFor asked request → Fails request gathered failure → ReportsFailure failure ending
+    → IsRequestFor commands.List asked request → Fails request gathered failure → ReportsFailure failure ending
     → IsEndingIn asked gathered ending
 unanswered asked request gathered (failures.Engines fault) (ends.NoEngines reason) is_request fails tells = record {
   request = request;
@@ -93,15 +94,21 @@ unanswered asked request gathered (failures.Refused report) (ends.Refused text) 
   request = request;
   is_request = is_request;
   report = report;
-  holds = (failure_reported request gathered (failures.Refused report) 3 fails (inl refl)).refused refl;
+  holds = (
+    (failure_reported request gathered (failures.Refused report) 3 fails (inl refl)).refused refl,
+    refused_report request gathered report fails,
+  );
   document = tells;
 }
 unanswered asked request gathered (failures.NoProfile report) (ends.NoProfile text) is_request fails tells = record {
   request = request;
   is_request = is_request;
   report = report;
-  holds = profile_lacks asked request gathered is_request
-      ((failure_reported request gathered (failures.NoProfile report) 4 fails (inl refl)).lacking refl);
+  holds = (
+    profile_lacks asked request gathered is_request
+        ((failure_reported request gathered (failures.NoProfile report) 4 fails (inl refl)).lacking refl),
+    lacking_report request gathered report fails,
+  );
   document = tells;
 }
 unanswered asked request gathered (failures.NoTest report) (ends.NoEngines reason) is_request fails tells =
@@ -115,7 +122,7 @@ unanswered asked request gathered failure ending is_request fails tells = absurd
 
 -- the ending that tells what the program answers
 ends_so : (asked : RequestedText) (request : Request) (gathered : Gathered) (outcome : Result Answer Failure)
-    (ending : Ending) → IsRequestFor asked request
+    (ending : Ending) → IsRequestFor commands.List asked request
     → IfOk outcome (λ answer. IsAnswer request gathered answer.report answer.status)
     → IfErr outcome (Fails request gathered) → ReportsOutcome outcome ending → IsEndingIn asked gathered ending
 ends_so asked request gathered (Ok answer) (ends.Answered text) is_request is_answer fails tells =
@@ -126,7 +133,7 @@ ends_so asked request gathered (Err failure) ending is_request is_answer fails t
 
 -- what the program answers ends a run, where memory suffices to tell it
 pub ended : {E : Type 0} (asked : RequestedText) (request : Request) (gathered : Gathered)
-    (outcome : Result Answer Failure) (told : Result Ending E) → IsRequestFor asked request
+    (outcome : Result Answer Failure) (told : Result Ending E) → IsRequestFor commands.List asked request
     → IfOk outcome (λ answer. IsAnswer request gathered answer.report answer.status)
     → IfErr outcome (Fails request gathered) → IfOk told (ReportsOutcome outcome) → IfOk told (IsEndingIn asked gathered)
 ended asked request gathered outcome (Ok ending) is_request is_answer fails tells =

@@ -1,5 +1,5 @@
 -- A run as a request of the program.
-use Rattle.std.specs.Prelude.{◌≡◌, ℕ, true, List, Option, None, Some, option_and_then, option_map, string_bytes}
+use Rattle.std.specs.Prelude.{◌≡◌, ℕ, true, List, [], Option, None, Some, codes, option_and_then, option_map, string_bytes}
 use Rattle.nextest_elements.specs.declared.experimental.ConfigExperimental.{ConfigExperimental}
 use Rattle.nextest_elements.specs.declared.run_mode.NextestRunMode.{NextestRunMode}
 use Rattle.nextest_rules.specs.KnownView.{features_view}
@@ -12,7 +12,11 @@ use Rattle.rinqebo_request.specs.declared.request.EngineOptions.{EngineOptions}
 use Rattle.rinqebo_request.specs.declared.request.Question.{Question}
 use Rattle.rinqebo_request.specs.declared.request.Question.TheVariants as questions
 use Rattle.rinqebo_request.specs.declared.request.Request.{Request}
+use Rattle.rinqebo_load.specs.ListPath.{file_path}
 use Rattle.rinqebo_load.specs.Sessions.{files_view}
+use Rattle.rinqebo_load.specs.ShownRequests.{shown_of}
+use Rattle.rinqebo_report.specs.Requests.{RequestShown}
+use Rattle.rinqebo_report.specs.declared.reported_request.ReportCommand.{ReportCommand}
 use Rattle.rinqebo_session.specs.Loading.{files_of, is_on}
 use Rattle.rinqebo_forms.specs.Runs.{RunText}
 use Rattle.rinqebo_forms.specs.declared.request.Switches.{Switches}
@@ -51,13 +55,15 @@ abbrev pub AreAll : RequestedSettings → Type 0
 AreAll Decided = ⊥
 AreAll (These runs asked) = (runs ≡ true) × (asked.items ≡ settings)
 
--- a request is for all settings of each test of a list, in a profile and a mode
+-- a request is for all settings of each test of a list, which is a member of a run's request, in a
+-- profile and a mode
 abbrev pub AsksForAll : RequestedText → Question → Type 0
 AsksForAll asked (questions.Explain profile test shown) = ⊥
 AsksForAll asked (questions.Why profile test setting) = ⊥
 AsksForAll asked (questions.WhyRuns profile test) = ⊥
 AsksForAll asked (questions.List profile mode list shown) =
-    (profile.now ≡ asked.profile) × (mode ≡ asked.mode) × AreAll shown
+    (profile.now ≡ asked.profile) × (mode ≡ asked.mode) × (file_path list ≡ codes "list")
+    × AreAll shown
 AsksForAll asked (questions.ShowConfig profile keys with_hidden) = ⊥
 AsksForAll asked (questions.Check deny_warnings) = ⊥
 
@@ -67,9 +73,22 @@ pub record AreEnginesFor (asked : RequestedText) (engines : EngineOptions) : Typ
   pub target : option_map (λ target. target.now) engines.target ≡ asked.target
   pub build_target : engines.build_target ≡ None
 
--- A request of the program is the one of a run, for a document of JSON.
-pub record IsRequestFor (asked : RequestedText) (request : Request) : Type 0 where
+-- what reports show of a request: the command and, in place of a path, the member that has the list
+abbrev pub shown_for : ReportCommand → RequestShown
+shown_for command = record {
+  command = command;
+  test = None;
+  keys = [];
+  why = None;
+  by = None;
+  list = Some (codes "list");
+}
+
+-- A request of the program is the one of a run, for a document of JSON, of a command.
+pub record IsRequestFor (command : ReportCommand) (asked : RequestedText) (request : Request)
+    : Type 0 where
   pub question : AsksForAll asked request.question
+  pub shown : shown_of request ≡ shown_for command
   pub engines : AreEnginesFor asked request.engines
   pub features : (feature : ConfigExperimental)
       → features_view request.features feature ≡ is_on asked.features feature

@@ -4,9 +4,10 @@ use Rattle.std.specs.Str.{IsUtf8}
 use Rattle.rinqebo_request.specs.declared.files.gathering.Gathered.{Gathered}
 use Rattle.rinqebo_report.specs.Rendered.{json_text}
 use Rattle.rinqebo_report.specs.declared.report.Report.{Report}
+use Rattle.rinqebo_report.specs.declared.reported_request.ReportCommand.TheVariants as commands
 use Rattle.rinqebo_request.specs.declared.request.Request.{Request}
 use Rattle.rinqebo_results.specs.Answered.{IsAnswer}
-use Rattle.rinqebo_results.specs.Refused.{AreRefusedFor, HasUsageFailure, LackProfileFor}
+use Rattle.rinqebo_results.specs.Refused.{AreRefusedFor, HasUsageFailure, IsReportFor, LackProfileFor}
 use Rattle.rinqebo_results.specs.declared.answer.Answer.{Answer}
 use Rattle.rinqebo_load.specs.declared.failure.Failure.{Failure}
 use Rattle.rinqebo_load.specs.declared.failure.Failure.TheVariants as failures
@@ -21,7 +22,7 @@ use Rattle.rinqebo_resolve.specs.declared.ending.Ending.TheVariants as ends
 pub record ReportsOf (asked : RequestedText) (gathered : Gathered)
     (Holds : Request → Gathered → Report → Type 0) (text : List ℕ) : Type 0 where
   pub request : Request
-  pub is_request : IsRequestFor asked request
+  pub is_request : IsRequestFor commands.List asked request
   pub report : Report
   pub holds : Holds request gathered report
   pub document : text ≡ json_text report
@@ -31,21 +32,22 @@ abbrev pub IsAnswerOf : RequestedText → Gathered → List ℕ → Type 0
 IsAnswerOf asked gathered =
     ReportsOf asked gathered (λ request files report. IsAnswer request files report 0)
 
--- a text is a document beside files that are refused: some written rule does not hold of them
+-- a text is a document of the request beside files that are refused: some written rule does not
+-- hold of them
 abbrev pub IsRefusalOf : RequestedText → Gathered → List ℕ → Type 0
-IsRefusalOf asked gathered =
-    ReportsOf asked gathered (λ request files report. AreRefusedFor request files)
+IsRefusalOf asked gathered = ReportsOf asked gathered
+    (λ request files report. AreRefusedFor request files × IsReportFor request files report)
 
--- a text is a document beside files that are accepted and lack the profile
+-- a text is a document of the request beside files that are accepted and lack the profile
 abbrev pub ReportsNoProfileOf : RequestedText → Gathered → List ℕ → Type 0
-ReportsNoProfileOf asked gathered =
-    ReportsOf asked gathered (λ request files report. LackProfileFor request files)
+ReportsNoProfileOf asked gathered = ReportsOf asked gathered
+    (λ request files report. LackProfileFor request files × IsReportFor request files report)
 
 -- A run has no engines: its list of tests, its metadata or a machine is not understood, or a filter
 -- needs metadata, for what it requests of files.
 pub record LacksEngines (asked : RequestedText) (gathered : Gathered) : Type 0 where
   pub request : Request
-  pub is_request : IsRequestFor asked request
+  pub is_request : IsRequestFor commands.List asked request
   pub cause : HasUsageFailure request gathered
 
 -- how what a run requests of files ends, unless memory runs out

@@ -7,10 +7,10 @@ ghost use Rattle.rinqebo_resolve.specs.Asking.{AreEnginesFor, AreFilesOf, AsksFo
 
 use nextest_config::{NextestRunMode, Setting};
 use rinqebo_forms::{LoadRequest, Machine, RunRequest, Switches};
-use rinqebo_report::{Colour, Format, Paper};
+use rinqebo_report::{Colour, Format, Paper, ReportCommand};
 use rinqebo_request::{
-    ConfigFile, EngineOptions, FileOptions, Gathered, ListFile, ProfileSource, Question, Request,
-    RequestedSettings,
+    CommandWords, ConfigFile, EngineOptions, FileOptions, Gathered, ListFile, ProfileSource,
+    Question, Request, RequestedSettings,
 };
 use rinqebo_session::features_of;
 use std::alloc::{AllocError, Global};
@@ -85,12 +85,18 @@ impl RequestedRun {
         }
     }
 
-    /// The request of the program, for a document of JSON.
-    pub fn request(&self, alloc: Global) -> Result<Request<'_>, AllocError>
-        ensures { IfOk result (IsRequestFor (requested_view self.now)) }
+    /// The request of the program, for a document of JSON, of a command.
+    pub fn request(&self, alloc: Global, command: ReportCommand) -> Result<Request<'_>, AllocError>
+        ensures { IfOk result (IsRequestFor command (requested_view self.now)) }
     {
         Ok(Request {
             question: self.question(alloc)?,
+            words: CommandWords {
+                command,
+                keys: Vec::new(alloc),
+                why: None,
+                by: None,
+            },
             profile_source: ProfileSource::CommandLine,
             files: FileOptions {
                 root: None,

@@ -10,7 +10,7 @@ use crate::asking::{LIST, RequestedRun, parted};
 use crate::ending::Ending;
 use rinqebo_forms::{RequestFault, RunRequest};
 use rinqebo_load::{Failure, InputFault, OpenFilter};
-use rinqebo_report::{Report, render_json};
+use rinqebo_report::{Report, ReportCommand, render_json};
 use rinqebo_request::Gathered;
 use rinqebo_results::Answer;
 use rinqebo_rules::NoProgress;
@@ -73,7 +73,7 @@ fn ended(alloc: Global, outcome: &Result<Answer, Failure>) -> Result<Ending, All
 fn ending_in(alloc: Global, asked: &RequestedRun, gathered: &Gathered) -> Result<Ending, AllocError>
     ensures { IfOk result (IsEndingIn (requested_view asked.now) gathered.now) }
 {
-    let request = asked.request(alloc)?;
+    let request = asked.request(alloc, ReportCommand::List)?;
     let outcome = answer_of(alloc, &request, gathered, &mut NoProgress);
     ended(alloc, &outcome)
 }

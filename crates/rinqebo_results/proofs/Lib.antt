@@ -10,3 +10,4 @@ pub mod Writing
 pub mod Documents
 pub mod Received
 pub mod LookedUp
+pub mod Errors

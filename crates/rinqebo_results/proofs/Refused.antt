@@ -11,8 +11,9 @@ use Rattle.rinqebo_results.proofs.Statuses.{shown_low}
 use Rattle.rinqebo_results.specs.Answered.{AnswersQuestion, IsAboutTest, IsAnswer}
 use Rattle.rinqebo_load.specs.Accepted.{AreAccepted}
 use Rattle.rinqebo_results.specs.LookedUp.{IsFailureOn}
-use Rattle.rinqebo_results.specs.Refused.{AreRefusedFor, Fails, IsFailureIn, IsReportedBy, LackProfileFor, LackTestFor, LacksProfileOf, LacksTestOf}
+use Rattle.rinqebo_results.specs.Refused.{AreRefusedFor, Fails, IsFailureIn, IsReportFor, IsReportedBy, LackProfileFor, LackTestFor, LacksProfileOf, LacksTestOf}
 use Rattle.rinqebo_checks.specs.Failures.{IsFailureAbout}
+use Rattle.rinqebo_checks.specs.Reports.{IsReportOf}
 use Rattle.rinqebo_load.specs.FindTests.{IsFoundFor}
 use Rattle.rinqebo_load.specs.SessionOf.{IsSessionOf}
 use Rattle.rinqebo_results.specs.Statuses.{failure_status}
@@ -165,13 +166,13 @@ answer_reported request gathered report n m answer (inr (inr six)) = record {
 broken_in : (q : Question) (session : Session) (report : Report) → IsFailureIn session q (failures.Refused report)
     → ¬ AreAccepted session
 broken_in (questions.Explain profile test asked) session report (inl finding) = absurd finding
-broken_in (questions.Explain profile test asked) session report (inr cause) = cause
+broken_in (questions.Explain profile test asked) session report (inr cause) = cause.0
 broken_in (questions.Why profile test setting) session report (inl finding) = absurd finding
-broken_in (questions.Why profile test setting) session report (inr cause) = cause
+broken_in (questions.Why profile test setting) session report (inr cause) = cause.0
 broken_in (questions.WhyRuns profile test) session report (inl finding) = absurd finding
-broken_in (questions.WhyRuns profile test) session report (inr cause) = cause
-broken_in (questions.List profile mode list asked) session report cause = cause
-broken_in (questions.ShowConfig profile keys with_hidden) session report cause = cause
+broken_in (questions.WhyRuns profile test) session report (inr cause) = cause.0
+broken_in (questions.List profile mode list asked) session report cause = cause.0
+broken_in (questions.ShowConfig profile keys with_hidden) session report cause = cause.0
 broken_in (questions.Check deny_warnings) session report cause =
     let no : failures.Refused report ≡ failures.Memory = cause in
     absurd (cc)
@@ -180,13 +181,13 @@ broken_in (questions.Check deny_warnings) session report cause =
 lacks_in : (q : Question) (session : Session) (report : Report) → IsFailureIn session q (failures.NoProfile report)
     → LacksProfileOf session q
 lacks_in (questions.Explain profile test asked) session report (inl finding) = absurd finding
-lacks_in (questions.Explain profile test asked) session report (inr cause) = cause
+lacks_in (questions.Explain profile test asked) session report (inr cause) = cause.0
 lacks_in (questions.Why profile test setting) session report (inl finding) = absurd finding
-lacks_in (questions.Why profile test setting) session report (inr cause) = cause
+lacks_in (questions.Why profile test setting) session report (inr cause) = cause.0
 lacks_in (questions.WhyRuns profile test) session report (inl finding) = absurd finding
-lacks_in (questions.WhyRuns profile test) session report (inr cause) = cause
-lacks_in (questions.List profile mode list asked) session report cause = cause
-lacks_in (questions.ShowConfig profile keys with_hidden) session report cause = cause
+lacks_in (questions.WhyRuns profile test) session report (inr cause) = cause.0
+lacks_in (questions.List profile mode list asked) session report cause = cause.0
+lacks_in (questions.ShowConfig profile keys with_hidden) session report cause = cause.0
 lacks_in (questions.Check deny_warnings) session report cause =
     let no : failures.NoProfile report ≡ failures.Memory = cause in
     absurd (cc)
@@ -194,17 +195,66 @@ lacks_in (questions.Check deny_warnings) session report cause =
 -- there is no test for which a question is not answered
 untested_in : (q : Question) (session : Session) (report : Report) → IsFailureIn session q (failures.NoTest report)
     → LacksTestOf session q
-untested_in (questions.Explain profile test asked) session report (inl finding) = finding
+untested_in (questions.Explain profile test asked) session report (inl finding) = finding.0
 untested_in (questions.Explain profile test asked) session report (inr cause) = absurd cause
-untested_in (questions.Why profile test setting) session report (inl finding) = finding
+untested_in (questions.Why profile test setting) session report (inl finding) = finding.0
 untested_in (questions.Why profile test setting) session report (inr cause) = absurd cause
-untested_in (questions.WhyRuns profile test) session report (inl finding) = finding
+untested_in (questions.WhyRuns profile test) session report (inl finding) = finding.0
 untested_in (questions.WhyRuns profile test) session report (inr cause) = absurd cause
 untested_in (questions.List profile mode list asked) session report cause = absurd cause
 untested_in (questions.ShowConfig profile keys with_hidden) session report cause = absurd cause
 untested_in (questions.Check deny_warnings) session report cause =
     let no : failures.NoTest report ≡ failures.Memory = cause in
     absurd (cc)
+
+-- the report of refused files is one of the session
+refused_about : (q : Question) (session : Session) (report : Report) → IsFailureIn session q (failures.Refused report)
+    → IsReportOf session report
+refused_about (questions.Explain profile test asked) session report (inl finding) = absurd finding
+refused_about (questions.Explain profile test asked) session report (inr cause) = cause.1
+refused_about (questions.Why profile test setting) session report (inl finding) = absurd finding
+refused_about (questions.Why profile test setting) session report (inr cause) = cause.1
+refused_about (questions.WhyRuns profile test) session report (inl finding) = absurd finding
+refused_about (questions.WhyRuns profile test) session report (inr cause) = cause.1
+refused_about (questions.List profile mode list asked) session report cause = cause.1
+refused_about (questions.ShowConfig profile keys with_hidden) session report cause = cause.1
+refused_about (questions.Check deny_warnings) session report cause =
+    let no : failures.Refused report ≡ failures.Memory = cause in
+    absurd (cc)
+
+-- so is that of a profile that files lack
+lacking_about : (q : Question) (session : Session) (report : Report) → IsFailureIn session q (failures.NoProfile report)
+    → IsReportOf session report
+lacking_about (questions.Explain profile test asked) session report (inl finding) = absurd finding
+lacking_about (questions.Explain profile test asked) session report (inr cause) = cause.1
+lacking_about (questions.Why profile test setting) session report (inl finding) = absurd finding
+lacking_about (questions.Why profile test setting) session report (inr cause) = cause.1
+lacking_about (questions.WhyRuns profile test) session report (inl finding) = absurd finding
+lacking_about (questions.WhyRuns profile test) session report (inr cause) = cause.1
+lacking_about (questions.List profile mode list asked) session report cause = cause.1
+lacking_about (questions.ShowConfig profile keys with_hidden) session report cause = cause.1
+lacking_about (questions.Check deny_warnings) session report cause =
+    let no : failures.NoProfile report ≡ failures.Memory = cause in
+    absurd (cc)
+
+-- the reports of failures are those of sessions of the request
+pub refused_report : (request : Asked) (gathered : Gathered) (report : Report)
+    → Fails request gathered (failures.Refused report) → IsReportFor request gathered report
+refused_report request gathered report (inl begins) = absurd begins
+refused_report request gathered report (inr fails) = record {
+  session = fails.session;
+  begun = fails.begun;
+  about = refused_about request.question fails.session report fails.cause;
+}
+
+pub lacking_report : (request : Asked) (gathered : Gathered) (report : Report)
+    → Fails request gathered (failures.NoProfile report) → IsReportFor request gathered report
+lacking_report request gathered report (inl begins) = absurd begins
+lacking_report request gathered report (inr fails) = record {
+  session = fails.session;
+  begun = fails.begun;
+  about = lacking_about request.question fails.session report fails.cause;
+}
 
 -- a failure of status 3 tells that files are refused
 refused_for : (request : Asked) (gathered : Gathered) (failure : Failure) → Fails request gathered failure

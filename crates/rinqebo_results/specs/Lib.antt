@@ -17,3 +17,4 @@ pub mod Begun
 pub mod Written
 pub mod Received
 pub mod LookedUp
+pub mod StandardError

@@ -4,6 +4,7 @@ use Rattle.std.specs.Io.KnownBytes.{Appends}
 use Rattle.nextest_tables.specs.Written.{Name}
 use Rattle.rinqebo_request.specs.declared.files.gathering.Gathered.{Gathered}
 use Rattle.rinqebo_checks.specs.Failures.{IsFailureAbout, IsFailureToFind, LacksProfile}
+use Rattle.rinqebo_checks.specs.Reports.{IsReportOf}
 use Rattle.rinqebo_request.specs.declared.request.Question.{Question}
 use Rattle.rinqebo_request.specs.declared.request.Question.TheVariants as questions
 use Rattle.rinqebo_request.specs.declared.request.Request.{Request}
@@ -108,6 +109,12 @@ pub record IsReportedBy (request : Request) (gathered : Gathered) (status : ℕ)
   pub unusable : status ≡ 2 → HasUsageFailure request gathered
   pub refused : status ≡ 3 → AreRefusedFor request gathered
   pub lacking : status ≡ 4 → LackProfileFor request gathered ⊎ LackTestFor request gathered
+
+-- A report is one of a session of a request: it shows the request.
+pub record IsReportFor (request : Request) (gathered : Gathered) (report : Report) : Type 0 where
+  pub session : Session
+  pub begun : IsSessionOf request gathered session
+  pub about : IsReportOf session report
 
 -- a report says why a run has no result
 abbrev pub IsReportOfFailure : Failure → Report → Type 0

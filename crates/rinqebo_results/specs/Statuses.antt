@@ -1,6 +1,5 @@
 -- The exit statuses of a run.
-use Rattle.std.specs.Prelude.{ℕ, ◌≡◌, ◌⊎◌, ◌≤◌, List, Option, string_bytes}
-use Rattle.std.specs.Io.KnownBytes.{Appends}
+use Rattle.std.specs.Prelude.{ℕ, ◌≡◌, ◌⊎◌, ◌≤◌}
 use Rattle.rinqebo_request.specs.declared.files.gathering.GatherFault.{GatherFault}
 use Rattle.rinqebo_request.specs.declared.files.gathering.GatherFault.TheVariants as gathering
 use Rattle.rinqebo_load.specs.declared.failure.Failure.{Failure}
@@ -46,13 +45,3 @@ abbrev pub IsWordsStatus : ParseStop → ℕ → Type 0
 IsWordsStatus (stops.Help text) n = (n ≡ 0) ⊎ (n ≡ 6)
 IsWordsStatus (stops.Usage text) n = (n ≡ 2) ⊎ (n ≡ 6)
 IsWordsStatus stops.Memory n = (n ≡ 5) ⊎ (n ≡ 6)
-
--- The program reports words that are not a request: help goes to standard output, and why they are
--- not one to standard error, beside which standard output receives nothing.
-abbrev pub ReportsWords : ParseStop → Option (List ℕ) → Option (List ℕ) → Option (List ℕ)
-    → Option (List ℕ) → Type 0
-ReportsWords (stops.Help text) out_old out_new err_old err_new =
-    Appends out_old out_new (string_bytes text)
-ReportsWords (stops.Usage text) out_old out_new err_old err_new =
-    (out_new ≡ out_old) × Appends err_old err_new (string_bytes text)
-ReportsWords stops.Memory out_old out_new err_old err_new = out_new ≡ out_old

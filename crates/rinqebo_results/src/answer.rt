@@ -8,6 +8,6 @@ pub struct Answer {
     pub report: Report,
     /// The exit status.
     pub status: u8,
-    /// A note for standard error, where the report is written as a text.
+    /// What a note on standard error says, if the report is written as a text.
     pub note: Option<String>,
 }

@@ -44,8 +44,8 @@ fn asking_places(
     Ok(places)
 }
 
-/// The note on a test of whose binary only the id is known: it lists the filters that use more.
-/// There is none where no filter does, or where a list or metadata have the binary.
+/// What the note says on a test of whose binary only the id is known: it lists the filters that use
+/// more. There is none where no filter does, or where a list or metadata have the binary.
 pub fn id_note(
     alloc: Global,
     session: &Session<'_>,
@@ -65,6 +65,6 @@ pub fn id_note(
     }
     let binary = test.binary.as_str();
     Ok(Some(format!(in alloc;
-        "note: kind, name and package of `{binary}` are read from its id, and these filters use them: {places}; give `--list FILE` or `--metadata FILE`\n"
+        "kind, name and package of `{binary}` are read from its id, and these filters use them: {places}; give `--list FILE` or `--metadata FILE`"
     )?))
 }

@@ -4,12 +4,14 @@ ghost use Rattle.filter_language.specs.Filtersets.{marks_view};
 ghost use Rattle.filter_engine.specs.Compiling.{names_of};
 ghost use Rattle.filter_engine.specs.Engine.{filter_holds, filter_holds_binary};
 ghost use Rattle.filter_inputs.specs.Lists.ListView.{list_view};
+ghost use Rattle.filter_inputs.specs.Lists.Lists.{all_tests};
 ghost use Rattle.nextest_inheritance.specs.View.{borrowed_view};
 ghost use Rattle.nextest_settings.specs.Profiles.Meaning.{profile_meaning};
 ghost use Rattle.nextest_sources.specs.WarningsView.{warnings_view};
 ghost use Rattle.nextest_tables.specs.FileTexts.{names_in};
 ghost use Rattle.serde_json.specs.View.{view};
 ghost use Rattle.rinqebo_objects.specs.Scripts.{directories_view};
+ghost use Rattle.rinqebo_objects.specs.Uses.{AreUsesIn};
 ghost use Rattle.rinqebo_results.specs.ListedBy.{basis_of};
 ghost use Rattle.rinqebo_results.specs.Listed.{AreObjectsListed, FindsWarnings, directories_for};
 
@@ -18,7 +20,9 @@ use filter_engine::NextestTally;
 use nextest_config::{DefaultConfigWarnings, MergedProfile};
 use rinqebo_load::{Config, Session};
 use rinqebo_object_origins::object_origins;
-use rinqebo_objects::{Directories, Listed, ObjectOrigins, Surroundings, objects_json};
+use rinqebo_objects::{
+    Directories, Listed, ObjectOrigins, ScriptUse, Surroundings, objects_by_uses,
+};
 use rinqebo_report::ExactValue;
 use std::alloc::{AllocError, Global};
 use std::collections::BTreeMap;
@@ -94,23 +98,27 @@ fn surroundings<'a>(
 /// The objects of a profile of a configuration, with the warnings of its load, with what the list of
 /// a session uses of its scripts, and with where the values of the run and the groups come from:
 /// each setup script has the tests that enable it, and the wrappers are those of tests and binaries
-/// of the list. Programs are joined to the root and to the target directory of the list, if
-/// that has one.
-pub fn objects_of_list(
+/// of the list. It is known what each test uses, so no filter is evaluated for a test. Programs are
+/// joined to the root and to the target directory of the list, if that has one.
+pub fn objects_of_list<'c>(
     alloc: Global,
     session: &Session<'_>,
     config: &Config,
     warnings: &DefaultConfigWarnings,
-    profile: &Profile<'_>,
+    profile: &Profile<'c>,
     chain: &[&str],
+    uses: &[ScriptUse<'c>],
 ) -> Result<ExactValue, AllocError>
     ensures objects { let profile = profile_meaning (marks_view names_of) profile.now in
-        IfOk result (λ objects. AreObjectsListed filter_holds filter_holds_binary
+        AreUsesIn filter_holds profile (all_tests (list_view session.now.tests)) uses.now
+        → IfOk result (λ objects. AreObjectsListed filter_holds filter_holds_binary
         (basis_of session.now (borrowed_view chain.now)) profile
         (string_bytes session.now.gathered.now.paths.workspace_root)
         (list_view session.now.tests) (names_in config.now.config.profiles)
         (view objects.value)) }
-    ensures findings { IfOk result (λ objects.
+    ensures findings { let profile = profile_meaning (marks_view names_of) profile.now in
+        AreUsesIn filter_holds profile (all_tests (list_view session.now.tests)) uses.now
+        → IfOk result (λ objects.
         FindsWarnings (warnings_view warnings.now) (view objects.value)) }
 {
     let names = profile_names(alloc, config)?;
@@ -123,6 +131,6 @@ pub fn objects_of_list(
         tests: &tests,
         binaries: &binaries,
     };
-    let objects = objects_json(alloc, profile, around, Some(list), &mut tally)?;
+    let objects = objects_by_uses(alloc, profile, around, list, uses, &mut tally)?;
     Ok(objects)
 }

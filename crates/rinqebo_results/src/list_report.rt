@@ -14,6 +14,7 @@ ghost use Rattle.nextest_tables.specs.FileTexts.{names_in, IsIn};
 ghost use Rattle.filter_inputs.specs.Lists.ListView.{list_view};
 ghost use Rattle.filter_inputs.specs.Lists.Lists.{all_tests, list_tests};
 ghost use Rattle.rinqebo_load.specs.Warned.{warnings_met};
+ghost use Rattle.rinqebo_objects.specs.Uses.{AreUsesIn};
 ghost use Rattle.rinqebo_rules.specs.Rows.{AreTestsReported};
 ghost use Rattle.rinqebo_rules.specs.Unused.{AreUnusedIn, AreUsedIn};
 ghost use Rattle.rinqebo_rules.specs.Conditions.{is_met_by};
@@ -62,7 +63,8 @@ pub fn profile_on<'c>(
     }
 }
 
-/// The rows of the tests of a session, and the rules of a profile that hold for none of them.
+/// The rows of the tests of a session, what these use of scripts, and the rules of a profile that
+/// hold for none of them.
 fn listed_rows<'c, P: Progress>(
     alloc: Global,
     session: &Session<'_>,
@@ -84,6 +86,9 @@ fn listed_rows<'c, P: Progress>(
         IfOk result (λ rows. AreUsedIn
         (map (query_in filter_holds profile) (all_tests (list_view session.now.tests))) mode profile
         rows.used) }
+    ensures uses { let profile = profile_meaning (marks_view names_of) profile.now in
+        IfOk result (λ rows. AreUsesIn filter_holds profile
+        (all_tests (list_view session.now.tests)) rows.uses.items) }
 {
     let asking = Lister {
         profile,
@@ -119,7 +124,7 @@ fn listed<'c, P: Progress>(
     let requested = requested_of(alloc, session, profile, &chain, mode)?;
     let on = profile_on(alloc, session, config, profile)?;
     let rows = listed_rows(alloc, session, &chain, &on, mode, asked, progress)?;
-    let objects = objects_of_list(alloc, session, config, warnings, &on, &chain)?;
+    let objects = objects_of_list(alloc, session, config, warnings, &on, &chain, &rows.uses)?;
     Ok(Content::List {
         asked: requested,
         unused: unused_origins(alloc, &session.layers, &rows.unused)?,

@@ -1,7 +1,10 @@
 //! Writes texts to the streams of a run, and returns exit statuses.
-ghost use Rattle.std.specs.Prelude.{◌≡◌, ◌⊎◌, flat_map};
+ghost use Rattle.std.specs.Prelude.{◌≡◌, ◌⊎◌, MatchResult, flat_map, string_bytes};
 ghost use Rattle.std.specs.Io.KnownBytes.{Appends};
+ghost use Rattle.rinqebo_report.specs.Pages.{findings_runs};
+ghost use Rattle.rinqebo_report.specs.Pieces.{page_text};
 ghost use Rattle.rinqebo_results.specs.Prefixes.{AppendsPrefix};
+ghost use Rattle.rinqebo_results.specs.StandardError.{memory_message};
 
 use crate::status::Status;
 use crate::streams::{write_texts, write_whole};
@@ -45,7 +48,7 @@ const OUT_OF_MEMORY: &str = "error: out of memory\n";
 pub fn refuse_for_memory<E: Write>(err: &mut E) -> u8
     ensures status { (result ≡ 5) ⊎ (result ≡ 6) }
     ensures message { (result ≡ 6)
-        ⊎ Appends (E.contents err.old) (E.contents err.new) OUT_OF_MEMORY.now }
+        ⊎ Appends (E.contents err.old) (E.contents err.new) memory_message }
 {
     print_text(OUT_OF_MEMORY, Status::Memory as u8, err)
 }
@@ -58,17 +61,25 @@ pub fn refuse_with<E: Write>(
     status: u8,
     err: &mut E,
 ) -> u8
-    ensures { (result ≡ status) ⊎ (result ≡ 5) ⊎ (result ≡ 6) }
+    ensures status { (result ≡ status) ⊎ (result ≡ 5) ⊎ (result ≡ 6) }
+    ensures errors { (result ≡ 6)
+        ⊎ ((result ≡ status) × Appends (E.contents err.old) (E.contents err.new)
+        (page_text colour (findings_runs report.now)))
+        ⊎ ((result ≡ 5) × Appends (E.contents err.old) (E.contents err.new) memory_message) }
 {
     match render_findings(alloc, report, colour) {
-        Ok(text) => print_text(text.as_str(), status, err),
+        Ok(page) => print_text(page.as_str(), status, err),
         Err(_) => refuse_for_memory(err),
     }
 }
 
 /// Reports a message, and returns a status.
 pub fn refuse_message<E: Write>(message: Result<String, AllocError>, status: u8, err: &mut E) -> u8
-    ensures { (result ≡ status) ⊎ (result ≡ 5) ⊎ (result ≡ 6) }
+    ensures status { (result ≡ status) ⊎ (result ≡ 5) ⊎ (result ≡ 6) }
+    ensures errors { (result ≡ 6) ⊎ MatchResult message
+        (λ text. (result ≡ status)
+        × Appends (E.contents err.old) (E.contents err.new) (string_bytes text))
+        (λ _. (result ≡ 5) × Appends (E.contents err.old) (E.contents err.new) memory_message) }
 {
     match message {
         Ok(text) => print_text(text.as_str(), status, err),

@@ -89,9 +89,14 @@ open_in tests query writes are_distinct used known shows first rules are unneede
   unneeded = unneeded one.place one.rule one.stands one.is_open.hidden;
 }
 
-rising_more : (P Q : ℕ → Type 0) (least : ℕ) (ns : List ℕ) → ((n : ℕ) → P n → Q n) → Rising P least ns → Rising Q least ns
+pub rising_more : (P Q : ℕ → Type 0) (least : ℕ) (ns : List ℕ) → ((n : ℕ) → P n → Q n) → Rising P least ns → Rising Q least ns
 rising_more P Q least [] more rises = tt
 rising_more P Q least (n ∷ ns) more rises = (rises.0, more n rises.1, rising_more P Q (n + 1) ns more rises.2)
+
+-- rules of numbers of which more holds are evaluated
+pub only_more : (P Q : ℕ → Type 0) (first : ℕ) (old new : List ℕ) → ((n : ℕ) → P n → Q n) → EvaluatesOnly P first old new
+    → EvaluatesOnly Q first old new
+only_more P Q first old new more only = (only.0, only.1, rising_more P Q first only.0 more only.2)
 
 -- rules are evaluated, and then others
 pub evaluated_both : (P P' Q Q' : ℕ → Type 0) (first second : ℕ) (old now new : List ℕ)

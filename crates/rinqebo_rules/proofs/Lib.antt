@@ -15,6 +15,7 @@ pub mod Passing
 pub mod SetMarks
 pub mod Marked
 pub mod BinaryRules
+pub mod KnownMore
 pub mod Enabling
 pub mod Evaluated
 pub mod Unneeded

@@ -14,12 +14,16 @@ abbrev pub AreAnswersAt : {M : Type 0} → BinaryMatch M → EvaluatableModel M 
 AreAnswersAt matches profile binary answers =
     AreAnswersOf matches profile answers × (answered_binary answers ≡ binary)
 
+-- what is known of the rule of a number: whether it holds for a test
+abbrev pub known_at : List (Option Bool) → ℕ → Option Bool
+known_at known number = option_and_then (λ holds. holds) (slice_get known number)
+
 -- What is known of rules, by number, is so for a test.
 abbrev pub AreKnownIn : {M W : Type 0} → QueryContext M → List (EvaluatedRule M W)
     → List (Option Bool) → Type 0
 AreKnownIn {M} {W} query rules known = (n : ℕ) (rule : EvaluatedRule M W)
     → slice_get rules n ≡ Some rule
-    → IsKnownFor query rule (option_and_then (λ holds. holds) (slice_get known n))
+    → IsKnownFor query rule (known_at known n)
 
 -- what is known of overrides, if something is
 abbrev pub known_overrides : Option BinaryAnswers → List (Option Bool)

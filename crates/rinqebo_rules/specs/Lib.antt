@@ -14,4 +14,5 @@ pub mod Scripts
 pub mod Distinct
 pub mod Passed
 pub mod BinaryRules
+pub mod SetupRules
 pub mod Evaluations

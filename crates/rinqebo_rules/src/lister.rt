@@ -5,6 +5,7 @@ ghost use Rattle.filter_inputs.specs.Lists.ListView.{list_test_view};
 ghost use Rattle.nextest_settings.specs.Profiles.Meaning.{profile_meaning};
 ghost use Rattle.nextest_settings.specs.Profiles.SettingsOf.{AreSettingsOf};
 ghost use Rattle.nextest_settings.specs.Queries.{query_in};
+ghost use Rattle.rinqebo_objects.specs.Uses.{AreUsesIn};
 ghost use Rattle.rinqebo_rules.specs.Evaluations.{default_filter_number};
 ghost use Rattle.rinqebo_rules.specs.Rows.{AreTestsReported, IsTestReported};
 ghost use Rattle.rinqebo_rules.specs.Unused.{AreUnusedIn, AreUsedIn};
@@ -19,6 +20,7 @@ use filter_inputs::ListedTest;
 use nextest_elements::NextestRunMode;
 use nextest_engines::{BuildPlatform, Filters, Specs, Tally};
 use nextest_settings::EvaluatableProfile;
+use rinqebo_objects::ScriptUse;
 use rinqebo_origins::Origins;
 use rinqebo_report::{BuiltFor, TestRows};
 use rinqebo_request::RequestedSettings;
@@ -44,6 +46,8 @@ pub struct ListedRows<'c> {
     pub unused: UnusedRules<'c>,
     /// Which rules of the profile hold for some test.
     pub used: UsedRules,
+    /// What each test uses of the scripts of the profile, in order.
+    pub uses: Vec<ScriptUse<'c>>,
 }
 
 /// What a binary is built for, as a report shows it.
@@ -122,8 +126,8 @@ impl<'l, 'c, F: Filters, S: Specs> Lister<'l, 'c, F, S> {
         Listing::new(*self)
     }
 
-    /// Returns the rows of tests, one test after another, and the rules of the profile that hold
-    /// for none of them. It reports progress after each test.
+    /// Returns the rows of tests, one test after another, what each of them uses of scripts, and the
+    /// rules of the profile that hold for none of them. It reports progress after each test.
     pub fn list<P: Progress>(
         &self,
         alloc: Global,
@@ -141,12 +145,17 @@ impl<'l, 'c, F: Filters, S: Specs> Lister<'l, 'c, F, S> {
         ensures used { let profile = profile_meaning F.meaning self.now.profile.now in
             IfOk result (λ rows. AreUsedIn (map (query_in F.holds profile)
             (map (λ t. t.test) (map list_test_view listed.now))) self.now.mode profile rows.used) }
+        ensures uses { let profile = profile_meaning F.meaning self.now.profile.now in
+            IfOk result (λ rows. AreUsesIn F.holds profile
+            (map (λ t. t.test) (map list_test_view listed.now)) rows.uses.items) }
     {
         let mut tests = Vec::new(alloc);
+        let mut uses = Vec::new(alloc);
         let mut used = self.before_tests(alloc)?;
         let mut listing = self.in_turn();
         for test in listed {
-            tests.push(listing.next_test(alloc, test, &mut used, tally, origins)?)?;
+            let rows = listing.next_reported(alloc, test, &mut used, &mut uses, tally, origins)?;
+            tests.push(rows)?;
             progress.asked(tests.len(), listed.len());
         }
         let unused = used.unused(alloc, self.profile)?;
@@ -154,6 +163,7 @@ impl<'l, 'c, F: Filters, S: Specs> Lister<'l, 'c, F, S> {
             tests,
             unused,
             used,
+            uses,
         })
     }
 }

@@ -1,15 +1,16 @@
 //! Lists what a profile gives to tests in turn, by what their binaries decide.
 ghost use Rattle.std.specs.Prelude.{◌≡◌, ◌++◌, ◌∷◌, [], IfOk, IfSome, List, is_some, length, option_map};
 ghost use Rattle.std.specs.Option.{ForSome};
-ghost use Rattle.nextest_engines.specs.Engines.{binary_view, test_view};
+ghost use Rattle.nextest_engines.specs.Engines.{Test, binary_view, test_view};
 ghost use Rattle.filter_inputs.specs.Lists.ListView.{list_test_view};
 ghost use Rattle.nextest_settings.specs.Binaries.{AreAnswersOf, EvaluatesOpen};
 ghost use Rattle.nextest_settings.specs.Deciding.{QueryContext, asked_from};
 ghost use Rattle.nextest_settings.specs.Profiles.Meaning.{profile_meaning};
 ghost use Rattle.nextest_settings.specs.Profiles.SettingsOf.{AreSettingsOf};
 ghost use Rattle.nextest_settings.specs.Queries.{query_in};
-ghost use Rattle.rinqebo_rules.specs.BinaryRules.{AreAnswersAt, known_overrides};
-ghost use Rattle.rinqebo_rules.specs.Evaluations.{EvaluatesInTurn, IsTurnedTo};
+ghost use Rattle.rinqebo_objects.specs.Uses.{AreUsesIn};
+ghost use Rattle.rinqebo_rules.specs.BinaryRules.{AreAnswersAt, known_overrides, known_script_rules};
+ghost use Rattle.rinqebo_rules.specs.Evaluations.{EvaluatesInTurn, EvaluatesReported, IsTurnedTo};
 ghost use Rattle.rinqebo_rules.specs.Rows.{IsTestReported};
 ghost use Rattle.rinqebo_rules.specs.Unused.{AreUsedIn};
 
@@ -20,6 +21,7 @@ use filter_inputs::ListedTest;
 use nextest_elements::NextestRunMode;
 use nextest_engines::{BinaryQuery, Filters, Specs, Tally, TestQuery};
 use nextest_settings::{BinaryAnswers, EvaluatableProfile};
+use rinqebo_objects::ScriptUse;
 use rinqebo_origins::Origins;
 use rinqebo_report::TestRows;
 use std::alloc::{AllocError, Global};
@@ -35,6 +37,26 @@ pub struct Listing<'l, 'c, F: Filters, S: Specs> {
     /// It is so of the rules of the profile.
     ghost are_answers: { ForSome answers
         (AreAnswersOf F.holds_binary (profile_meaning F.meaning lister.profile.now)) },
+}
+
+/// What a binary decides of each override, if that is known.
+fn override_answers<'a>(answers: Option<&'a BinaryAnswers>) -> &'a [Option<bool>]
+    ensures { result.now ≡ known_overrides (option_map (λ known. known.now) answers.entry) }
+{
+    match answers {
+        Some(answers) => answers.overrides(),
+        None => &[],
+    }
+}
+
+/// What a binary decides of each script rule, if that is known.
+fn script_rule_answers<'a>(answers: Option<&'a BinaryAnswers>) -> &'a [Option<bool>]
+    ensures { result.now ≡ known_script_rules (option_map (λ known. known.now) answers.entry) }
+{
+    match answers {
+        Some(answers) => answers.script_rules(),
+        None => &[],
+    }
 }
 
 /// The settings of a test, by what its binary decides, if that is known.
@@ -148,7 +170,73 @@ impl<'l, 'c, F: Filters, S: Specs> Listing<'l, 'c, F, S> {
         let lister = self.lister;
         let answers = self.answers_at(&test.query.binary_query);
         let settings = settings_by(lister.profile, lister.mode, &test.query, answers, tally);
-        used.add(lister.profile, &test.query, answers, &settings, tally);
+        used.add(
+            lister.profile,
+            &test.query,
+            override_answers(answers),
+            script_rule_answers(answers),
+            &settings,
+            tally,
+        );
+        let rows = lister.rows_by(alloc, test, &settings, tally, origins)?;
+        Ok(rows)
+    }
+
+    /// Returns whether a test runs, and its settings, as `next_test` does, and adds what the test
+    /// uses of scripts to what the tests before it use. Beside those that `next_test` evaluates, it
+    /// evaluates the filters of script rules that name a setup script, each once at most.
+    pub(crate) fn next_reported(
+        &mut self,
+        alloc: Global,
+        test: &ListedTest<'_>,
+        used: &mut UsedRules,
+        uses: &mut Vec<ScriptUse<'c>>,
+        tally: &mut F::Tally,
+        origins: &mut Origins<'_, '_, 'c>,
+    ) -> Result<TestRows, AllocError>
+        ensures lister { self.new.lister ≡ self.old.lister }
+        ensures same { origins.new ≡ origins.old }
+        ensures told { let lister = self.old.lister in
+            let profile = profile_meaning F.meaning lister.profile.now in
+            IfOk result (IsTestReported origins.old
+            (query_in F.holds profile (test_view test.now.query))
+            lister.mode profile lister.asked.now (list_test_view test.now)) }
+        ensures used { (tests : List (QueryContext F.Meaning))
+            → let lister = self.old.lister in
+            let profile = profile_meaning F.meaning lister.profile.now in
+            let query = query_in F.holds profile (test_view test.now.query) in
+            AreUsedIn tests lister.mode profile used.old
+            → IfOk result (λ _. AreUsedIn (tests ++ query ∷ []) lister.mode profile used.new) }
+        ensures scripts { (tests : List (QueryContext F.Meaning)) (before : List Test)
+            → let lister = self.old.lister in
+            let profile = profile_meaning F.meaning lister.profile.now in
+            AreUsedIn tests lister.mode profile used.old
+            → AreUsesIn F.holds profile before uses.old.items
+            → IfOk result (λ _. AreUsesIn F.holds profile (before ++ test_view test.now.query ∷ [])
+            uses.new.items) }
+        ensures tally { (tests : List (QueryContext F.Meaning))
+            → let lister = self.old.lister in
+            let profile = profile_meaning F.meaning lister.profile.now in
+            let test = test_view test.now.query in
+            IsTurnedTo self.old.answers test.binary → AreUsedIn tests lister.mode profile used.old
+            → IfOk result (λ _. EvaluatesReported tests (query_in F.holds profile test) lister.mode
+            profile used.old self.old.answers
+            (F.Tally.numbers tally.old) (F.Tally.numbers tally.new)) }
+    {
+        self.turn_to(alloc, &test.query.binary_query, tally)?;
+        let lister = self.lister;
+        let answers = self.answers_at(&test.query.binary_query);
+        let settings = settings_by(lister.profile, lister.mode, &test.query, answers, tally);
+        let scripts = used.add_with_scripts(
+            alloc,
+            lister.profile,
+            &test.query,
+            override_answers(answers),
+            script_rule_answers(answers),
+            &settings,
+            tally,
+        )?;
+        uses.push(scripts)?;
         let rows = lister.rows_by(alloc, test, &settings, tally, origins)?;
         Ok(rows)
     }

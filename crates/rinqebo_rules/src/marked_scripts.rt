@@ -10,7 +10,7 @@ ghost use Rattle.nextest_settings.specs.View.{meant_script_rule};
 ghost use Rattle.nextest_tree.specs.Schema.{is_one_of};
 ghost use Rattle.rinqebo_rules.specs.Unused.{is_used};
 
-use crate::unused::is_marked;
+use crate::marks::is_marked;
 use nextest_engines::{Filters, Specs};
 use nextest_load::ScriptConfig;
 use nextest_scripts::ScriptId;

@@ -1,5 +1,5 @@
 //! The rules of a profile that hold for none of the tests of a list.
-ghost use Rattle.std.specs.Prelude.{◌≡◌, ◌++◌, ◌∷◌, [], ◌||◌, ◌+◌, ◌<◌, ◌^◌, Bool, IfOk, IfSome, IsTrue, List, None, false, is_some, length, map, option_and_then, option_map, replicate, slice_get, slice_set, string_bytes, unwrap_or};
+ghost use Rattle.std.specs.Prelude.{◌≡◌, ◌++◌, ◌∷◌, [], ◌||◌, ◌+◌, ◌<◌, ◌^◌, Bool, IfOk, IsTrue, List, None, is_some, length, map, string_bytes};
 ghost use Rattle.std.specs.List.{AllZip};
 ghost use Rattle.nextest_engines.specs.Engines.{test_view};
 ghost use Rattle.nextest_settings.specs.Profiles.Meaning.{profile_meaning};
@@ -11,7 +11,7 @@ ghost use Rattle.nextest_settings.specs.Engines.{test_query_by};
 ghost use Rattle.nextest_settings.specs.Queries.{enabled_scripts, query_in};
 ghost use Rattle.nextest_elements.specs.Settings.{settings as all_settings};
 ghost use Rattle.nextest_settings.specs.View.{meant_override, meant_script_rule};
-ghost use Rattle.rinqebo_rules.specs.BinaryRules.{AreAnswersAt, AreKnownIn, known_overrides, known_script_rules};
+ghost use Rattle.rinqebo_rules.specs.BinaryRules.{AreKnownIn};
 ghost use Rattle.nextest_settings.specs.Settings.{is_set};
 ghost use Rattle.rinqebo_rules.specs.Distinct.{AreDistinct};
 ghost use Rattle.rinqebo_rules.specs.Evaluations.{EvaluatesBeside, EvaluatesIf, EvaluatesOnly, IsLeftOpen, IsOpenAt, asks};
@@ -21,13 +21,14 @@ ghost use Rattle.rinqebo_rules.specs.Unused.{AreUsedIn, AreUnusedIn, is_used, un
 use crate::distinct::{are_overrides_distinct, are_script_rules_distinct};
 use crate::holds::{override_holds, script_rule_holds};
 use crate::marked_scripts::ids_by_marks;
+use crate::marks::{is_marked, known_at, none_of, set_mark};
 use crate::passed::{all_written, passed_in, shown_of};
 use crate::values::SourcedSettings;
 use crate::wrapping::{passed_for_wrapper, shown_of_script};
 use nextest_elements::{NextestRunMode, Setting};
 use nextest_engines::{EvalContext, Filters, Specs, Tally, TestQuery};
 use nextest_rules::{OverrideId, ScriptRuleId};
-use nextest_settings::{BinaryAnswers, EvaluatableProfile, EvaluatedOverride, EvaluatedScriptRule};
+use nextest_settings::{EvaluatableProfile, EvaluatedOverride, EvaluatedScriptRule};
 use std::alloc::{AllocError, Global};
 
 /// The ids of the rules of a profile that hold for none of some tests.
@@ -51,30 +52,7 @@ pub struct UsedRules {
     /// Whether no two overrides are known to have one id.
     are_overrides_distinct: bool,
     /// Whether no two script rules are known to have one id.
-    are_script_rules_distinct: bool,
-}
-
-/// So many rules, of which none holds for a test so far.
-fn none_of(alloc: Global, count: usize) -> Result<Vec<bool>, AllocError>
-    ensures { IfOk result (λ used. used.items ≡ replicate count false) }
-{
-    Vec::from_elem(alloc, false, count)
-}
-
-/// Whether a rule of a number is marked.
-pub(crate) fn is_marked(used: &[bool], number: usize) -> bool
-    ensures { result ≡ unwrap_or (slice_get used.now number) false }
-{
-    used.get(number).copied().unwrap_or(false)
-}
-
-/// Sets the mark of a number.
-fn set_mark(marks: &mut [bool], number: usize, mark: bool)
-    ensures { marks.new ≡ slice_set marks.old number mark }
-{
-    if number < marks.len() {
-        marks[number] = mark;
-    }
+    pub(crate) are_script_rules_distinct: bool,
 }
 
 /// The settings that the override of a number is known to write.
@@ -85,13 +63,6 @@ fn written_at(written: &[Vec<Setting>], number: usize) -> &[Setting]
         Some(settings) => settings,
         None => &[],
     }
-}
-
-/// What is known of the rule of a number: whether it holds for a test.
-fn known_at(known: &[Option<bool>], number: usize) -> Option<bool>
-    ensures { result ≡ option_and_then (λ holds. holds) (slice_get known.now number) }
-{
-    known.get(number).copied().flatten()
 }
 
 /// Whether an override holds that the binary of a test leaves open. It is evaluated only if the
@@ -217,7 +188,7 @@ fn mark_overrides<F: Filters, S: Specs>(
 /// Whether a script rule holds that the binary of a test leaves open. It is evaluated only if the
 /// run wrapper of the test does not show whether it holds: then the search for the wrapper did not
 /// evaluate it, if script rules are distinct.
-fn open_script_rule_holds<F: Filters, S: Specs>(
+pub(crate) fn open_script_rule_holds<F: Filters, S: Specs>(
     rule: &EvaluatedScriptRule<'_, F, S>,
     number: usize,
     shown: Option<bool>,
@@ -311,26 +282,6 @@ fn mark_script_rules<F: Filters, S: Specs>(
     }
 }
 
-/// What a binary decides of each override, if that is known.
-fn override_answers<'a>(answers: Option<&'a BinaryAnswers>) -> &'a [Option<bool>]
-    ensures { result.now ≡ known_overrides (option_map (λ known. known.now) answers.entry) }
-{
-    match answers {
-        Some(answers) => answers.overrides(),
-        None => &[],
-    }
-}
-
-/// What a binary decides of each script rule, if that is known.
-fn script_rule_answers<'a>(answers: Option<&'a BinaryAnswers>) -> &'a [Option<bool>]
-    ensures { result.now ≡ known_script_rules (option_map (λ known. known.now) answers.entry) }
-{
-    match answers {
-        Some(answers) => answers.script_rules(),
-        None => &[],
-    }
-}
-
 /// The ids of the overrides that are not marked, in their order.
 fn unmarked_overrides<'c, F: Filters, S: Specs>(
     alloc: Global,
@@ -391,27 +342,27 @@ impl UsedRules {
         })
     }
 
-    /// Adds a test, to which a profile gives some settings, by what its binary decides of the
-    /// rules, if that is known. It takes no memory.
+    /// Adds a test, to which a profile gives some settings, by what is known of overrides and of
+    /// script rules for it. It takes no memory.
     ///
-    /// A filter is evaluated only if its rule held for none of the tests so far, the binary leaves
-    /// it open, and the search for the settings did not evaluate it for this test. (If two rules of
-    /// a kind had one id, which those of a profile do not have, those that decide might be
-    /// evaluated again.)
+    /// A filter is evaluated only if its rule held for none of the tests so far, it is not known
+    /// whether the rule holds, and the search for the settings did not evaluate it for this test.
+    /// (If two rules of a kind had one id, which those of a profile do not have, those that decide
+    /// might be evaluated again.)
     pub(crate) fn add<'c, F: Filters, S: Specs>(
         &mut self,
         profile: &EvaluatableProfile<'c, F, S>,
         query: &TestQuery<'_>,
-        answers: Option<&BinaryAnswers>,
+        overrides: &[Option<bool>],
+        script_rules: &[Option<bool>],
         settings: &SourcedSettings<'c, F, S>,
         tally: &mut F::Tally,
     )
         ensures used { (tests : List (QueryContext F.Meaning)) (mode : NextestRunMode)
             → let profile = profile_meaning F.meaning profile.now in
-            let test = test_view query.now in
-            let query = query_in F.holds profile test in
-            IfSome answers.entry
-            (λ known. AreAnswersAt F.holds_binary profile test.binary known.now)
+            let query = query_in F.holds profile (test_view query.now) in
+            AreKnownIn query profile.overrides overrides.now
+            → AreKnownIn query profile.script_rules script_rules.now
             → AreSettingsOf F.meaning query mode profile settings.now
             → AreUsedIn tests mode profile self.old
             → AreUsedIn (tests ++ query ∷ []) mode profile self.new }
@@ -420,8 +371,7 @@ impl UsedRules {
             let query = query_in F.holds profile (test_view query.now) in
             AreSettingsOf F.meaning query mode profile settings.now
             → AreUsedIn tests mode profile self.old
-            → EvaluatesBeside tests query mode profile self.old
-            (option_map (λ known. known.now) answers.entry)
+            → EvaluatesBeside tests query mode profile self.old overrides.now script_rules.now
             (F.Tally.numbers tally.old) (F.Tally.numbers tally.new) }
     {
         let rules = profile.rules();
@@ -431,7 +381,7 @@ impl UsedRules {
         mark_overrides(
             &rules.overrides,
             &mut self.overrides,
-            override_answers(answers),
+            overrides,
             &self.written,
             &passed,
             self.are_overrides_distinct,
@@ -444,7 +394,7 @@ impl UsedRules {
             &rules.script_rules,
             first,
             &mut self.script_rules,
-            script_rule_answers(answers),
+            script_rules,
             passed,
             self.are_script_rules_distinct,
             query,

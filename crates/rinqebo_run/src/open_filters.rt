@@ -1,4 +1,7 @@
 //! The note of `check` about filters that were not looked up.
+ghost use Rattle.std.specs.Prelude.{◌≡◌, ℕ, IfOk, option_map, string_bytes};
+ghost use Rattle.rinqebo_results.specs.StandardError.{open_filters_text};
+
 use filter_engine::NextestFilters;
 use nextest_config::Filters;
 use nextest_rules::{CompiledOverride, CompiledProfile, CompiledProfileScripts};
@@ -6,9 +9,9 @@ use platform_language::TargetSpecs;
 use rinqebo_load::{Config, Session};
 use std::alloc::{AllocError, Global};
 
-/// The note where one filter was not looked up.
+/// What the note says if one filter was not looked up.
 const ONE_FILTER: &str =
-    "note: 1 filter uses `deps()` or `rdeps()`, and was not looked up; give `--metadata FILE`\n";
+    "1 filter uses `deps()` or `rdeps()`, and was not looked up; give `--metadata FILE`";
 
 /// A filter that was read.
 type Filter = <NextestFilters as Filters>::Expr;
@@ -75,18 +78,28 @@ fn count_open_filters(
     )
 }
 
-/// The note of how many filters of the files were not looked up, if there are any.
-pub fn open_filters_note(
-    alloc: Global,
-    session: &Session<'_>,
-    config: &Config,
-) -> Result<Option<String>, AllocError> {
-    let count = count_open_filters(alloc, session, config)?;
+/// What the note says of a number of filters that were not looked up, if there are any.
+fn text_of_count(alloc: Global, count: usize) -> Result<Option<String>, AllocError>
+    ensures { IfOk result (λ said. option_map string_bytes said ≡ open_filters_text count) }
+{
     match count {
         0 => Ok(None),
         1 => Ok(Some(String::from_str(alloc, ONE_FILTER)?)),
         _ => Ok(Some(format!(in alloc;
-            "note: {count} filters use `deps()` or `rdeps()`, and were not looked up; give `--metadata FILE`\n"
+            "{count} filters use `deps()` or `rdeps()`, and were not looked up; give `--metadata FILE`"
         )?)),
     }
+}
+
+/// What the note says of how many filters of the files were not looked up, if there are any.
+pub fn open_filters_note(
+    alloc: Global,
+    session: &Session<'_>,
+    config: &Config,
+) -> Result<Option<String>, AllocError>
+    ensures { IfOk result (λ said. (count : ℕ) × (option_map string_bytes said
+        ≡ open_filters_text count)) }
+{
+    let count = count_open_filters(alloc, session, config)?;
+    text_of_count(alloc, count)
 }

@@ -1,8 +1,11 @@
 //! The note of `check` about the files that it read.
+ghost use Rattle.std.specs.Prelude.{◌≡◌, false, true, OnOk, string_bytes};
+ghost use Rattle.rinqebo_results.specs.StandardError.{AddsNotes, is_json};
+
 use nextest_config::{FileInput, ReadOutcome, ToolConfigFile};
 use rinqebo_report::Format;
 use rinqebo_request::{Gathered, Question, Request};
-use rinqebo_results::{Answer, Status};
+use rinqebo_results::{Answer, Status, push_note};
 use std::alloc::{AllocError, Global};
 
 /// Whether a file was read.
@@ -95,30 +98,44 @@ fn add_files(
     gathered: &Gathered,
     answer: &Answer,
     notes: &mut String,
-) -> Result<(), AllocError> {
+) -> Result<(), AllocError>
+    ensures { OnOk result (AddsNotes false (string_bytes notes.old) (string_bytes notes.new)) }
+{
     let files = files_read(alloc, gathered)?;
     if !files.is_empty() {
-        let note = format!(in alloc; "note: read {files}\n")?;
-        return notes.push_str(note.as_str());
+        let said = format!(in alloc; "read {files}")?;
+        return push_note(said.as_str(), notes);
     }
     if answer.status == Status::Refused as u8 {
         return Ok(());
     }
-    notes.push_str("note: found no configuration file; the defaults apply\n")
+    push_note("found no configuration file; the defaults apply", notes)
 }
 
-/// Adds the note about the files that a check read. The forms for other programs have none.
+/// Whether a request has the note about the files that a check read. The forms for other programs
+/// have none.
+fn notes_files(request: &Request<'_>) -> bool
+    ensures { result ≡ true → is_json request.now.format ≡ false }
+{
+    match (&request.question, request.format) {
+        (Question::Check { .. }, Format::Text) => true,
+        _ => false,
+    }
+}
+
+/// Adds the note about the files that a check read, if the request has it.
 pub fn add_read_files(
     alloc: Global,
     request: &Request<'_>,
     gathered: &Gathered,
     answer: &Answer,
     notes: &mut String,
-) -> Result<(), AllocError> {
-    if !matches!(request.question, Question::Check { .. })
-        || !matches!(request.format, Format::Text)
-    {
-        return Ok(());
+) -> Result<(), AllocError>
+    ensures { OnOk result (AddsNotes (is_json request.now.format) (string_bytes notes.old)
+        (string_bytes notes.new)) }
+{
+    if notes_files(request) {
+        return add_files(alloc, gathered, answer, notes);
     }
-    add_files(alloc, gathered, answer, notes)
+    Ok(())
 }

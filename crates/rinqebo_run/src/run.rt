@@ -1,5 +1,5 @@
 //! Runs a request, and writes its result.
-ghost use Rattle.std.specs.Prelude.{◌≡◌, ◌⊎◌, ◌++◌, [], ◌∷◌, IfOk, IfErr, IfSome, flat_map};
+ghost use Rattle.std.specs.Prelude.{◌≡◌, ◌⊎◌, ◌++◌, ◌||◌, [], ◌∷◌, false, IfOk, IfErr, IfSome, OnOk, flat_map, string_bytes};
 ghost use Rattle.std.specs.Io.KnownBytes.{Appends};
 ghost use Rattle.std.specs.Result.{result_map_both};
 ghost use Rattle.nextest_shape.specs.FileForm.{file_form};
@@ -16,7 +16,8 @@ ghost use Rattle.rinqebo_results.specs.Received.{IsWhole};
 ghost use Rattle.rinqebo_results.specs.Refused.{Fails, IsFailureAboutTest, IsFailureIn, IsReportedBy, ReportsRefusal};
 ghost use Rattle.rinqebo_results.specs.RunsReasons.{ReportsRunsReasons};
 ghost use Rattle.rinqebo_results.specs.ReportsReasons.{ReportsReasons};
-ghost use Rattle.rinqebo_results.specs.Statuses.{IsStatus, IsAnswerStatus, IsGatherStatus, IsWordsStatus, ReportsWords};
+ghost use Rattle.rinqebo_results.specs.StandardError.{AddsNotes, GetsErrors, GetsFault, GetsNotes, GetsNothing, GetsStop, HasNotes, IsFaultMessage, ReportsWords, findings_beside, is_check, is_json};
+ghost use Rattle.rinqebo_results.specs.Statuses.{IsStatus, IsAnswerStatus, IsGatherStatus, IsWordsStatus};
 ghost use Rattle.rinqebo_results.specs.Written.{AsksList, IsStopStatus};
 ghost use Rattle.rinqebo_report.specs.declared.format.Format.TheVariants as formats;
 
@@ -35,10 +36,10 @@ use rinqebo_request::{
     GatherFault, Gathered, ParseStop, Question, Request, RequestedSettings, RequestedTest,
 };
 use rinqebo_results::{
-    Answer, ListStop, ProgressLine, RequestedList, Status, list, print_text, print_texts, refuse,
-    refuse_for_memory, refuse_in, refuse_message, show, write_list,
+    Answer, ListStop, ProgressLine, RequestedList, Status, error_line, is_json, list, print_text,
+    print_texts, push_note, refuse, refuse_for_memory, refuse_in, refuse_message, show, write_list,
 };
-use rinqebo_rules::Progress;
+use rinqebo_rules::{NoProgress, Progress};
 use std::alloc::{AllocError, Global};
 use std::io::Write;
 
@@ -173,25 +174,54 @@ fn answer_in<P: Progress>(
     }
 }
 
+/// Whether a report is of a check.
+fn is_check(content: &Content) -> bool
+    ensures { result ≡ is_check content.now }
+{
+    match content {
+        Content::Check => true,
+        Content::Explain { .. }
+        | Content::Why { .. }
+        | Content::List { .. }
+        | Content::ShowConfig { .. } => false,
+    }
+}
+
+/// Whether the page of a report has its findings itself.
+fn shows_findings(report: &Report, format: Format<'_>) -> bool
+    ensures { result ≡ (is_check report.now.content || is_json format.entry) }
+{
+    is_check(&report.content) || is_json(format)
+}
+
 /// The findings of a report, for standard error, where its page does not have them.
 fn notes_of(
     alloc: Global,
     report: &Report,
     format: Format<'_>,
     colour: Colour,
-) -> Result<String, AllocError> {
-    match (&report.content, format) {
-        (Content::Check, _) | (_, Format::Json) => Ok(String::new(alloc)),
-        _ => render_findings(alloc, report, colour),
+) -> Result<String, AllocError>
+    ensures { IfOk result (λ notes. string_bytes notes
+        ≡ findings_beside report.now format.entry colour) }
+{
+    if shows_findings(report, format) {
+        return Ok(String::new(alloc));
     }
+    render_findings(alloc, report, colour)
 }
 
 /// Adds the note of a result. A document of JSON has none.
-fn add_note(request: &Request<'_>, answer: &Answer, notes: &mut String) -> Result<(), AllocError> {
-    match &answer.note {
-        Some(note) if !matches!(request.format, Format::Json) => notes.push_str(note.as_str()),
-        _ => Ok(()),
+fn add_note(request: &Request<'_>, answer: &Answer, notes: &mut String) -> Result<(), AllocError>
+    ensures { OnOk result (AddsNotes (is_json request.now.format) (string_bytes notes.old)
+        (string_bytes notes.new)) }
+{
+    let Some(note) = &answer.note else {
+        return Ok(());
+    };
+    if is_json(request.format) {
+        return Ok(());
     }
+    push_note(note.as_str(), notes)
 }
 
 /// The notes on a result, for standard error.
@@ -200,7 +230,9 @@ fn notes_on(
     request: &Request<'_>,
     gathered: &Gathered,
     answer: &Answer,
-) -> Result<String, AllocError> {
+) -> Result<String, AllocError>
+    ensures { IfOk result (λ notes. HasNotes request.now answer.now.report (string_bytes notes)) }
+{
     let mut notes = notes_of(alloc, &answer.report, request.format, request.paper.colour)?;
     add_unset(alloc, request, answer, &mut notes)?;
     add_read_files(alloc, request, gathered, answer, &mut notes)?;
@@ -225,6 +257,8 @@ fn print_answer<O: Write, E: Write>(
     ensures begun { (O.contents out.new ≡ O.contents out.old)
         ⊎ AppendsPrefix (O.contents out.old) (O.contents out.new)
         (rendered answer.now.report request.now.format request.now.paper) }
+    ensures errors { (result ≡ 6) ⊎ GetsNotes request.now answer.now.report answer.now.status result
+        (E.contents err.old) (E.contents err.new) }
 {
     let report = &answer.report;
     let Ok(notes) = notes_on(alloc, request, gathered, answer) else {
@@ -238,6 +272,29 @@ fn print_answer<O: Write, E: Write>(
         return told;
     }
     print_text(text.as_str(), answer.status, out)
+}
+
+/// The result of a request over the files that it names. If the request says so, standard error
+/// shows how far a list is.
+fn answer_shown<E: Write>(
+    alloc: Global,
+    request: &Request<'_>,
+    gathered: &Gathered,
+    err: &mut E,
+) -> Result<Answer, Failure>
+    ensures ok { IfOk result
+        (λ answer. IsAnswer request.now gathered.now answer.report answer.status) }
+    ensures err { IfErr result (Fails request.now gathered.now) }
+    ensures errors { request.now.shows_progress ≡ false
+        → E.contents err.new ≡ E.contents err.old }
+{
+    if !request.shows_progress {
+        return answer_of(alloc, request, gathered, &mut NoProgress);
+    }
+    let mut progress = ProgressLine::new(&mut *err, true);
+    let answer = answer_of(alloc, request, gathered, &mut progress);
+    progress.clear();
+    answer
 }
 
 /// Runs a request whose page is known whole before it is written, and returns the exit status.
@@ -260,11 +317,10 @@ fn answer_whole<O: Write, E: Write>(
     ensures cause { IsReportedBy request.now gathered.now result }
     ensures begun { ReceivesPrefix (IsWhole request.now gathered.now (O.contents out.old))
         (O.contents out.old) (O.contents out.new) }
+    ensures errors { request.now.shows_progress ≡ false → (result ≡ 6)
+        ⊎ GetsErrors request.now gathered.now result (E.contents err.old) (E.contents err.new) }
 {
-    let mut progress = ProgressLine::new(&mut *err, request.shows_progress);
-    let answer = answer_of(alloc, request, gathered, &mut progress);
-    progress.clear();
-    match answer {
+    match answer_shown(alloc, request, gathered, err) {
         Ok(answer) => print_answer(alloc, request, gathered, &answer, out, err),
         Err(failure) => refuse_in(alloc, &failure, request, out, err),
     }
@@ -297,7 +353,9 @@ fn text_list<'r>(request: &'r Request<'_>) -> Option<RequestedList<'r>>
 /// Writes why a list was not written whole, and returns the exit status. For a failed write it
 /// writes nothing.
 fn refuse_list<E: Write>(alloc: Global, fault: &ListStop, request: &Request<'_>, err: &mut E) -> u8
-    ensures { IsStopStatus fault.now result }
+    ensures status { IsStopStatus fault.now result }
+    ensures errors { (result ≡ 6) ⊎ GetsStop request.now fault.now result
+        (E.contents err.old) (E.contents err.new) }
 {
     match fault {
         ListStop::Refused(failure) => refuse(alloc, failure, request, err),
@@ -326,6 +384,8 @@ fn answer_list<O: Write, E: Write>(
     ensures cause { IsReportedBy request.now gathered.now result }
     ensures begun { ReceivesPrefix (IsWhole request.now gathered.now (O.contents out.old))
         (O.contents out.old) (O.contents out.new) }
+    ensures errors { request.now.shows_progress ≡ false → (result ≡ 6)
+        ⊎ GetsErrors request.now gathered.now result (E.contents err.old) (E.contents err.new) }
 {
     match write_list(alloc, request, list, gathered, out, err) {
         Ok(()) => Status::Success as u8,
@@ -344,6 +404,9 @@ fn answer_list<O: Write, E: Write>(
 /// The program writes the text of a list as it resolves the tests: where memory runs out meanwhile,
 /// the text has the first tests, each whole. Where a request says so, standard error shows how far
 /// the list is, on a line of its own that the program erases in the end.
+///
+/// Standard error receives the findings of a result and notes on it, or the reason why there is
+/// none.
 ///
 /// After a write that failed, standard output has a prefix of what it gets in a run in which no
 /// write fails.
@@ -367,6 +430,8 @@ pub fn perform<O: Write, E: Write>(
     ensures cause { IsReportedBy request.now gathered.now result }
     ensures begun { ReceivesPrefix (IsWhole request.now gathered.now (O.contents out.old))
         (O.contents out.old) (O.contents out.new) }
+    ensures errors { request.now.shows_progress ≡ false → (result ≡ 6)
+        ⊎ GetsErrors request.now gathered.now result (E.contents err.old) (E.contents err.new) }
 {
     match text_list(request) {
         Some(list) => answer_list(alloc, request, &list, gathered, out, err),
@@ -383,6 +448,8 @@ pub fn print_schema<O: Write, E: Write>(alloc: Global, out: &mut O, err: &mut E)
     ensures begun { (O.contents out.new ≡ O.contents out.old)
         ⊎ AppendsPrefix (O.contents out.old) (O.contents out.new)
         (compact_text (schema_data file_form) ++ 10 ∷ []) }
+    ensures errors { (result ≡ 6)
+        ⊎ GetsNothing result (E.contents err.old) (E.contents err.new) }
 {
     match schema_page(alloc) {
         Ok(text) => print_text(text.as_str(), Status::Success as u8, out),
@@ -416,14 +483,24 @@ pub fn refuse_words<O: Write, E: Write>(stop: &ParseStop, out: &mut O, err: &mut
     }
 }
 
+/// The message of why the files of a request were not read.
+fn gathering_message(alloc: Global, fault: &GatherFault) -> Result<String, AllocError>
+    ensures { IfOk result (λ message. IsFaultMessage (string_bytes message)) }
+{
+    let said = fault.to_string(alloc)?;
+    error_line(alloc, said.as_str())
+}
+
 /// Reports why the files of a request were not read, and returns the exit status.
 pub fn refuse_gathering<E: Write>(alloc: Global, fault: &GatherFault, err: &mut E) -> u8
-    ensures { IsGatherStatus fault.now result }
+    ensures status { IsGatherStatus fault.now result }
+    ensures errors { (result ≡ 6)
+        ⊎ GetsFault result (E.contents err.old) (E.contents err.new) }
 {
     match fault {
         GatherFault::Memory => refuse_for_memory(err),
         fault => {
-            let message = format!(in alloc; "error: {fault}\n");
+            let message = gathering_message(alloc, fault);
             refuse_message(message, Status::Usage as u8, err)
         }
     }

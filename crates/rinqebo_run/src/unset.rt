@@ -1,10 +1,13 @@
 //! The note of `show-config` where nothing is set under its keys.
+ghost use Rattle.std.specs.Prelude.{false, OnOk, string_bytes};
+ghost use Rattle.rinqebo_results.specs.StandardError.{AddsNotes, is_json};
+
 use nextest_config::NextestRunMode;
 use nextest_shape::{Shape, file_shape, keys_of};
 use rinqebo_keys::all_keys;
-use rinqebo_report::{Content, Format, Report};
+use rinqebo_report::{Content, Report};
 use rinqebo_request::{Question, Request, text_hint};
-use rinqebo_results::Answer;
+use rinqebo_results::{Answer, is_json, push_note};
 use std::alloc::{AllocError, Global};
 
 /// The keys beside those of a profile.
@@ -75,12 +78,14 @@ fn key_hint(alloc: Global, key: &str) -> Result<Option<String>, AllocError> {
 }
 
 /// Adds the note that nothing is set under a key.
-fn add_note(alloc: Global, key: &str, notes: &mut String) -> Result<(), AllocError> {
-    let note = match key_hint(alloc, key)? {
-        Some(hint) => format!(in alloc; "note: nothing is set under `{key}`; {hint}\n")?,
-        None => format!(in alloc; "note: nothing is set under `{key}`\n")?,
+fn add_note(alloc: Global, key: &str, notes: &mut String) -> Result<(), AllocError>
+    ensures { OnOk result (AddsNotes false (string_bytes notes.old) (string_bytes notes.new)) }
+{
+    let said = match key_hint(alloc, key)? {
+        Some(hint) => format!(in alloc; "nothing is set under `{key}`; {hint}")?,
+        None => format!(in alloc; "nothing is set under `{key}`")?,
     };
-    notes.push_str(note.as_str())
+    push_note(said.as_str(), notes)
 }
 
 /// Whether the key of a leaf is a key, or is in the table of that key.
@@ -103,6 +108,36 @@ fn shows_under(report: &Report, key: &str) -> bool {
     }
 }
 
+/// Adds the note on a key, if a report shows nothing under it.
+fn add_if_unset(
+    alloc: Global,
+    report: &Report,
+    key: &str,
+    notes: &mut String,
+) -> Result<(), AllocError>
+    ensures { OnOk result (AddsNotes false (string_bytes notes.old) (string_bytes notes.new)) }
+{
+    if shows_under(report, key) {
+        return Ok(());
+    }
+    add_note(alloc, key, notes)
+}
+
+/// Adds a note for each key under which a report shows nothing.
+fn add_notes(
+    alloc: Global,
+    report: &Report,
+    keys: &[&str],
+    notes: &mut String,
+) -> Result<(), AllocError>
+    ensures { OnOk result (AddsNotes false (string_bytes notes.old) (string_bytes notes.new)) }
+{
+    for key in keys {
+        add_if_unset(alloc, report, *key, notes)?;
+    }
+    Ok(())
+}
+
 /// Adds a note for each key of a request under which its result shows nothing. A document of JSON
 /// shows it by itself.
 pub fn add_unset(
@@ -110,17 +145,15 @@ pub fn add_unset(
     request: &Request<'_>,
     answer: &Answer,
     notes: &mut String,
-) -> Result<(), AllocError> {
+) -> Result<(), AllocError>
+    ensures { OnOk result (AddsNotes (is_json request.now.format) (string_bytes notes.old)
+        (string_bytes notes.new)) }
+{
     let Question::ShowConfig { keys, .. } = &request.question else {
         return Ok(());
     };
-    if matches!(request.format, Format::Json) {
+    if is_json(request.format) {
         return Ok(());
     }
-    for key in keys {
-        if !shows_under(&answer.report, *key) {
-            add_note(alloc, *key, notes)?;
-        }
-    }
-    Ok(())
+    add_notes(alloc, &answer.report, keys, notes)
 }

@@ -10,6 +10,7 @@
 //! | `asked PROFILE CHAIN MODE HOST TARGET` | what was requested; the chain has spaces in it |
 //! | `assumed` | the triple of the host is only assumed |
 //! | `explain`, `why KEY`, `list` or `show-config` | the command; without one it is `check` |
+//! | `request COMMAND BINARY TEST WHY BY LIST KEY ..` | the request; without it, it names the command alone |
 //! | `test BINARY NAME PLATFORM` | a test |
 //! | `runs true`, `runs false` | pages show whether the test runs; without it, it runs and they do not |
 //! | `ignored` | a list marks the test as ignored |
@@ -51,6 +52,7 @@ mod found;
 mod line;
 mod parts;
 mod print;
+mod requests;
 
 use crate::row::RowError;
 pub use builder::Builder;

@@ -14,10 +14,11 @@ pub const REPORTS: &str = r##"{
     "check": {
       "description": "The document of check.",
       "type": "object",
-      "required": ["command", "findings", "root", "sources", "summary", "version"],
+      "required": ["command", "findings", "request", "root", "sources", "summary", "version"],
       "properties": {
         "version": { "const": 1 },
         "command": { "const": "check" },
+        "request": { "$ref": "#/$defs/request" },
         "root": { "description": "The root of the workspace.", "type": "string" },
         "sources": { "$ref": "#/$defs/sources" },
         "findings": { "type": "array", "items": { "$ref": "#/$defs/finding" } },
@@ -45,12 +46,13 @@ pub const REPORTS: &str = r##"{
       "type": "object",
       "required": [
         "chain", "command", "entries", "findings", "host", "list-wrappers", "mode", "profile",
-        "root", "rules", "setup-scripts", "sources", "target", "tests", "unreached", "unused",
-        "version"
+        "request", "root", "rules", "setup-scripts", "sources", "target", "tests", "unreached",
+        "unused", "version"
       ],
       "properties": {
         "version": { "const": 1 },
         "command": { "enum": ["explain", "list", "show-config"] },
+        "request": { "$ref": "#/$defs/request" },
         "root": { "description": "The root of the workspace.", "type": "string" },
         "profile": { "type": ["string", "null"] },
         "chain": { "$ref": "#/$defs/chain" },
@@ -73,6 +75,33 @@ pub const REPORTS: &str = r##"{
         },
         "list-wrappers": { "type": "array", "items": { "$ref": "#/$defs/list-wrapper" } },
         "objects": { "$ref": "#/$defs/objects" }
+      },
+      "additionalProperties": false
+    },
+    "request": {
+      "description": "The command, and what the user names.",
+      "type": "object",
+      "required": ["command"],
+      "properties": {
+        "command": { "enum": ["explain", "list", "show-config", "check", "diff"] },
+        "test": {
+          "type": "object",
+          "required": ["name"],
+          "properties": {
+            "binary-id": { "type": "string" },
+            "name": { "type": "string" }
+          },
+          "additionalProperties": false
+        },
+        "keys": {
+          "description": "The KEYs, in order.",
+          "type": "array",
+          "items": { "$ref": "#/$defs/key" },
+          "minItems": 1
+        },
+        "why": { "description": "The KEY of --why.", "$ref": "#/$defs/key" },
+        "by": { "description": "The KEY of --by.", "$ref": "#/$defs/key" },
+        "list": { "description": "The path of LIST, or - for standard input.", "type": "string" }
       },
       "additionalProperties": false
     },

@@ -28,13 +28,13 @@ cause_of side gathered (failures.Refused report) (ends.Refused text) (inl begins
 cause_of side gathered (failures.Refused report) (ends.Refused text) (inr fails) reports = record {
   session = fails.session;
   begun = fails.begun;
-  broken = fails.cause;
+  broken = fails.cause.0;
 }
 cause_of side gathered (failures.NoProfile report) (ends.NoProfile text) (inl begins) reports = absurd begins
 cause_of side gathered (failures.NoProfile report) (ends.NoProfile text) (inr fails) reports = record {
   session = fails.session;
   begun = fails.begun;
-  lacks = fails.cause;
+  lacks = fails.cause.0;
 }
 cause_of side gathered (failures.NoTest report) (ends.NoEngines reason) fails reports = tt
 cause_of side gathered (failures.SeveralTests report) (ends.NoEngines reason) fails reports = tt

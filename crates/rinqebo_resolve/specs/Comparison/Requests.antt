@@ -4,11 +4,12 @@ use Rattle.rinqebo_diff.specs.Asked.{AreAll}
 use Rattle.rinqebo_diff.specs.declared.request.DiffFormat.TheVariants as formats
 use Rattle.rinqebo_diff.specs.declared.request.DiffRequest.{DiffRequest}
 use Rattle.rinqebo_diff.specs.declared.request.DiffSide.{DiffSide}
+use Rattle.rinqebo_report.specs.declared.reported_request.ReportCommand.TheVariants as commands
 use Rattle.rinqebo_resolve.specs.Asking.{RequestedText, IsRequestFor}
 
 -- A side is what a run requests of its files.
 pub record IsSideFor (asked : RequestedText) (side : DiffSide) : Type 0 where
-  pub request : IsRequestFor asked side.request
+  pub request : IsRequestFor commands.Diff asked side.request
   pub profile : side.profile.now ≡ asked.profile
   pub mode : side.mode ≡ asked.mode
 

@@ -5,7 +5,7 @@ ghost use Rattle.rinqebo_resolve.specs.Comparison.Requests.{IsRequestBetween, Is
 
 use crate::asking::RequestedRun;
 use rinqebo_diff::{ComparedSettings, DiffFormat, DiffRequest, DiffSide};
-use rinqebo_report::{Colour, Paper};
+use rinqebo_report::{Colour, Paper, ReportCommand};
 use std::alloc::{AllocError, Global};
 
 /// A side: what a run requests of its files.
@@ -13,7 +13,7 @@ fn side_of<'a>(alloc: Global, asked: &'a RequestedRun) -> Result<DiffSide<'a>, A
     ensures { IfOk result (IsSideFor (requested_view asked.now)) }
 {
     Ok(DiffSide {
-        request: asked.request(alloc)?,
+        request: asked.request(alloc, ReportCommand::Diff)?,
         profile: asked.profile.as_str(),
         mode: asked.mode,
     })

@@ -2,11 +2,12 @@
 use crate::reports::found::{complete, finding_of};
 use crate::reports::line::Line;
 use crate::reports::parts::{answer_of, origin_of, scalar_of, verdict_of, written_of};
+use crate::reports::requests::{bare_request, request_of};
 use crate::row::RowError;
 use rinqebo_report::{
     Asked, BuiltFor, Condition, ConditionAnswer, Content, Entry, Finding, ListScripts, ListWrapper,
-    Origin, Report, Rule, RunMode, Scalar, SettingRow, Source, SourceKind, TableMember, TestId,
-    TestRows, Unreached, Value,
+    Origin, Report, ReportCommand, ReportedRequest, Rule, RunMode, Scalar, SettingRow, Source,
+    SourceKind, TableMember, TestId, TestRows, Unreached, Value,
 };
 use std::alloc::{AllocError, Global};
 use std::mem;
@@ -26,6 +27,7 @@ pub struct Builder {
     alloc: Global,
     pub name: String,
     root: String,
+    request: Option<ReportedRequest>,
     sources: Vec<Source>,
     command: Option<Command>,
     asked: Option<Asked>,
@@ -70,6 +72,7 @@ impl Builder {
             alloc,
             name: String::new(alloc),
             root: String::new(alloc),
+            request: None,
             sources: Vec::new(alloc),
             command: None,
             asked: None,
@@ -86,14 +89,30 @@ impl Builder {
     /// The report that is put together. None is there after it.
     pub fn take_report(&mut self) -> Result<Report, RowError> {
         let alloc = self.alloc;
+        let request = self.take_request();
         let content = self.take_content()?;
         Ok(Report {
+            request,
             root: mem::replace(&mut self.root, String::new(alloc)),
             sources: mem::replace(&mut self.sources, Vec::new(alloc)),
             findings: mem::replace(&mut self.findings, Vec::new(alloc)),
             unreached: mem::replace(&mut self.unreached, Vec::new(alloc)),
             content,
         })
+    }
+
+    /// The request: without a line of its own, it names the command alone.
+    fn take_request(&mut self) -> ReportedRequest {
+        let command = match &self.command {
+            Some(Command::Explain) | Some(Command::Why(_)) => ReportCommand::Explain,
+            Some(Command::List) => ReportCommand::List,
+            Some(Command::ShowConfig) => ReportCommand::ShowConfig,
+            None => ReportCommand::Check,
+        };
+        match self.request.take() {
+            Some(request) => request,
+            None => bare_request(self.alloc, command),
+        }
     }
 
     fn take_content(&mut self) -> Result<Content, RowError> {
@@ -150,6 +169,10 @@ impl Builder {
     pub fn take(&mut self, line: &Line) -> Result<(), RowError> {
         match line.word(0)? {
             "case" => self.begin(line),
+            "request" => {
+                self.request = Some(request_of(self.alloc, line)?);
+                Ok(())
+            }
             "source" => self.add_source(line),
             "asked" => self.set_requested(line),
             "assumed" => self.assume_host(),

@@ -9,7 +9,9 @@ use Rattle.rinqebo_checks.proofs.failures.failure_of_load.Goals as goal
 pub returns : goal.returns
 unfolding error_view
 returns c =
-    let error = c.args.error.now in
-    no_want (source_of error) error.kind
-    (same_some (λ path. path_view path.now) (λ source. source.path) c.config_file.result (source_of error)
-    c.config_file.ensures.path ∙ c.if-is_none.ensures)
+    let error = c.args.error.now in (
+      no_want (source_of error) error.kind
+          (same_some (λ path. path_view path.now) (λ source. source.path) c.config_file.result (source_of error)
+          c.config_file.ensures.path ∙ c.if-is_none.ensures),
+      c.in_ok-report.ensures.about,
+    )

@@ -1,25 +1,36 @@
-use Rattle.std.proofs.Common.{map, option_map, string_bytes}
+use Rattle.std.proofs.Common.{IfOk, map, option_map, string_bytes, subst, sym}
 use Rattle.nextest_settings.specs.Profiles.Meaning.{profile_meaning}
 use Rattle.nextest_sources.specs.WarningsView.{warnings_view}
 use Rattle.serde_json.specs.View.{view}
+use Rattle.rinqebo_objects.specs.Objects.{AreObjectsOf}
 use Rattle.rinqebo_objects.specs.Scripts.{directories_view}
 use Rattle.rinqebo_objects.specs.Used.{listed_view, used_in}
-use Rattle.rinqebo_objects.proofs.ExactObjects.{objects_nest, objects_are_whole}
 use Rattle.rinqebo_objects.proofs.objects.objects_json.Goals as goal
 
-pub invariant_of-result : goal.invariant_of-result
-invariant_of-result g c =
+pub returns-in-Some : goal.returns-in-Some
+returns-in-Some g c =
     let F = g.F.Filters in
     let facts = c.args.profile.now.facts in
-    let run = c.in_ok-run.run' in
+    let filter = c.args.profile.now.default_filter.text in
     let profiles = map string_bytes c.args.around.profiles.now in
     let warnings = warnings_view c.args.around.warnings.now in
     let directories = directories_view c.args.around.directories in
-    let meant = profile_meaning F.meaning c.args.profile.now in
-    let used = used_in F.holds F.holds_binary meant (listed_view c.args.list) in
     let origins = option_map (λ origins. origins.now) c.args.around.origins in
-    let value = view c.in_ok-value.value in
-    record {
-      nests = objects_nest facts run profiles warnings directories used origins value c.in_ok-value.ensures;
-      whole = objects_are_whole facts run profiles warnings directories used origins value c.in_ok-value.ensures;
-    }
+    let meant = profile_meaning F.meaning c.args.profile.now in
+    subst (λ list. IfOk c.objects_of_list.result (λ objects. AreObjectsOf facts filter profiles warnings directories
+    (used_in F.holds F.holds_binary meant (listed_view list)) origins (view objects.value)))
+    (sym c.in-Some.is) c.objects_of_list.ensures
+
+pub returns-in-None : goal.returns-in-None
+returns-in-None g c =
+    let F = g.F.Filters in
+    let facts = c.args.profile.now.facts in
+    let filter = c.args.profile.now.default_filter.text in
+    let profiles = map string_bytes c.args.around.profiles.now in
+    let warnings = warnings_view c.args.around.warnings.now in
+    let directories = directories_view c.args.around.directories in
+    let origins = option_map (λ origins. origins.now) c.args.around.origins in
+    let meant = profile_meaning F.meaning c.args.profile.now in
+    subst (λ list. IfOk c.objects_of.result (λ objects. AreObjectsOf facts filter profiles warnings directories
+    (used_in F.holds F.holds_binary meant (listed_view list)) origins (view objects.value)))
+    (sym c.in-None.is) c.objects_of.ensures

@@ -1,5 +1,4 @@
 use Rattle.std.proofs.Common.{◌∙◌, ◌++◌, ap, map, sym}
-use Rattle.nextest_settings.specs.Profiles.Meaning.{profile_meaning}
 use Rattle.nextest_scripts.specs.ScriptId.{script_text}
 use Rattle.nextest_scripts.specs.ScriptTexts.{SetupScriptText, setup_script_view}
 use Rattle.nextest_scripts.specs.declared.script_id.ScriptId.{ScriptId}
@@ -7,16 +6,13 @@ use Rattle.nextest_scripts.specs.declared.setup_script.SetupScriptConfig.{SetupS
 use Rattle.nextest_tables.specs.Written.{Name}
 use Rattle.serde_json.specs.View.{view}
 use Rattle.rinqebo_objects.specs.Scripts.{directories_view, setup_script_data}
-use Rattle.rinqebo_objects.specs.Used.{listed_view, used_in}
+use Rattle.rinqebo_objects.specs.Uses.{used_by}
 use Rattle.rinqebo_objects.proofs.Gathered.{one_more}
 use Rattle.rinqebo_objects.proofs.scripts.setup_scripts_json.Goals as goal
 
 pub loop-id-preserved : goal.loop-id-preserved
-loop-id-preserved g c =
-    let F = g.F.Filters in
-    let meant = profile_meaning F.meaning c.args.profile.now in
-    let used = used_in F.holds F.holds_binary meant (listed_view c.args.list) in
-    let gives = setup_script_data (directories_view c.args.directories) used in
+loop-id-preserved c =
+    let gives = setup_script_data (directories_view c.args.directories) (used_by c.args.list) in
     let read : ScriptId × SetupScriptConfig → Name × SetupScriptText = λ e. (script_text e.0, setup_script_view e.1) in
     let old = c.loop-id.entries.items in
     one_more view gives old _ c.in_ok-entry.entry (read (c.in-Some.id.now, c.in-Some.script.now))

@@ -6,6 +6,7 @@ pub returns : goal.returns
 returns c =
     record {
       question = c.in_ok-denies_warnings.ensures;
+      words = c.in_ok-command_words.ensures;
       source = refl;
       line_is = record {
         files = with_config _ _ _ _ c.in_ok-checked_file.ensures c.in_ok-files.ensures;

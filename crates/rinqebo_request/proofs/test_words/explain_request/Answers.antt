@@ -6,6 +6,7 @@ pub returns : goal.returns
 returns c =
     record {
       question = c.in_ok-question.ensures;
+      words = c.in_ok-command_words.ensures;
       source = c.profile_source.ensures;
       line_is = record {
         files = with_config _ _ _ _ c.named_file.ensures c.in_ok-files.ensures;

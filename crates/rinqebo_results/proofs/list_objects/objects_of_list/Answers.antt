@@ -1,4 +1,4 @@
-use Rattle.std.proofs.Common.{◌∙◌, List, Option, Some, ap, codes, map, refl, string_bytes, subst}
+use Rattle.std.proofs.Common.{◌∙◌, List, Option, Some, ap, codes, map, refl, string_bytes, subst, sym}
 use Rattle.filter_language.specs.Filtersets.{marks_view}
 use Rattle.filter_engine.specs.Compiling.{names_of}
 use Rattle.filter_engine.specs.Engine.{filter_holds, filter_holds_binary}
@@ -12,6 +12,7 @@ use Rattle.nextest_tables.specs.FileTexts.{names_in}
 use Rattle.rinqebo_objects.specs.Objects.{AreObjectsOf}
 use Rattle.rinqebo_objects.specs.Scripts.{directories_view}
 use Rattle.rinqebo_objects.specs.Used.{Used, used_in}
+use Rattle.rinqebo_objects.specs.Uses.{AreUsesIn}
 use Rattle.rinqebo_objects.specs.WarningObjects.{warnings_data}
 use Rattle.rinqebo_results.proofs.Listing.{basis_here}
 use Rattle.rinqebo_results.specs.Listed.{directories_for}
@@ -21,7 +22,7 @@ use Rattle.serde_json.specs.View.{view}
 use Rattle.rinqebo_results.proofs.list_objects.objects_of_list.Goals as goal
 
 pub returns-clause-objects : goal.returns-clause-objects
-returns-clause-objects c =
+returns-clause-objects c = λ are_uses.
     let facts = c.args.profile.now.facts in
     let filter = c.args.profile.now.default_filter.text in
     let profile = profile_meaning (marks_view names_of) c.args.profile.now in
@@ -37,6 +38,8 @@ returns-clause-objects c =
     let used : List Test → List Binary → Option Used =
     λ ts bs. used_in filter_holds filter_holds_binary profile (Some (record { tests = ts; binaries = bs })) in
     let joined = directories_for (string_bytes session.gathered.now.paths.workspace_root) (list_view session.tests) in
+    let same_tests = ap (map test_view) c.deref-3.ensures.value ∙ c.in_ok-tests.ensures in
+    let uses_known = subst (λ ts. AreUsesIn filter_holds profile ts c.args.uses.now) (sym same_tests) are_uses in
     record {
       warnings = warnings;
       origins = origins;
@@ -44,7 +47,7 @@ returns-clause-objects c =
           (basis_here session _ c.deref.result.now (borrowed_view c.args.chain.now) refl c.deref.ensures.value)
           c.in_ok-origins.ensures;
       are = subst (λ ts. AreObjectsOf facts filter known warnings joined (used ts (all_binaries list)) (Some origins) value)
-          (ap (map test_view) c.deref-3.ensures.value ∙ c.in_ok-tests.ensures)
+          same_tests
           (subst (λ bs. AreObjectsOf facts filter known warnings joined (used tests bs) (Some origins) value)
           (ap (map binary_view) c.deref-4.ensures.value ∙ c.in_ok-binaries.ensures)
           (subst (λ names. AreObjectsOf facts filter names warnings joined (used tests binaries) (Some origins) value)
@@ -55,10 +58,13 @@ returns-clause-objects c =
           (ap directories_view c.surroundings-around.ensures.directories ∙ c.directories_of.ensures)
           (subst (λ os. AreObjectsOf facts filter (map string_bytes around.profiles.now) warnings
           (directories_view around.directories) (used tests binaries) os value)
-          c.surroundings-around.ensures.origins c.in_ok-objects.ensures))));
+          c.surroundings-around.ensures.origins (c.in_ok-objects.ensures.objects uses_known)))));
     }
 
 pub returns-clause-findings : goal.returns-clause-findings
-returns-clause-findings c =
-    ap (get (codes "findings")) c.in_ok-objects.ensures.same
+returns-clause-findings c = λ are_uses.
+    let profile = profile_meaning (marks_view names_of) c.args.profile.now in
+    let uses_known = subst (λ ts. AreUsesIn filter_holds profile ts c.args.uses.now)
+    (sym (ap (map test_view) c.deref-3.ensures.value ∙ c.in_ok-tests.ensures)) are_uses in
+    ap (get (codes "findings")) (c.in_ok-objects.ensures.objects uses_known).same
     ∙ ap (λ warnings. Some (warnings_data (warnings_view warnings))) c.surroundings-around.ensures.warnings

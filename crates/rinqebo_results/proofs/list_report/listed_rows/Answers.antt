@@ -6,6 +6,7 @@ use Rattle.filter_engine.specs.Engine.{filter_holds}
 use Rattle.nextest_inheritance.specs.View.{borrowed_view}
 use Rattle.nextest_settings.specs.Profiles.Meaning.{profile_meaning}
 use Rattle.nextest_settings.specs.Queries.{query_in}
+use Rattle.rinqebo_objects.specs.Uses.{AreUsesIn}
 use Rattle.rinqebo_origins.specs.TestOrigins.{Basis}
 use Rattle.rinqebo_rules.specs.Rows.{AreTestsReported}
 use Rattle.rinqebo_rules.specs.Unused.{AreUnusedIn, AreUsedIn}
@@ -39,3 +40,10 @@ returns-clause-used g c =
     subst (λ tests. IfOk c.list.result
     (λ rows. AreUsedIn (map (query_in filter_holds profile) (map (λ t. t.test) tests)) c.args.mode profile rows.used))
     (ap (map list_test_view) c.deref-2.ensures.value ∙ c.in_ok-tests.ensures) c.list.ensures.used
+
+pub returns-clause-uses : goal.returns-clause-uses
+returns-clause-uses g c =
+    let profile = profile_meaning (marks_view names_of) c.args.profile.now in
+    subst (λ tests. IfOk c.list.result
+    (λ rows. AreUsesIn filter_holds profile (map (λ t. t.test) tests) rows.uses.items))
+    (ap (map list_test_view) c.deref-2.ensures.value ∙ c.in_ok-tests.ensures) c.list.ensures.uses

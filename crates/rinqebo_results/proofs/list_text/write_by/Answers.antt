@@ -1,12 +1,13 @@
 use Rattle.std.proofs.Common.{ℕ, List, Option, inr}
 use Rattle.std.proofs.lemmas.Result.{IfErr-weaker, on_ok_weaker}
+use Rattle.rinqebo_results.proofs.Errors.{stopped, warned}
 use Rattle.rinqebo_results.proofs.Stops.{passed_stop, stops_before, stops_so}
 use Rattle.rinqebo_results.proofs.Writing.{has_page}
 use Rattle.rinqebo_results.specs.Written.{AreFirstBy, HasPage, WritesPage}
 use Rattle.rinqebo_results.proofs.list_text.write_by.Goals as goal
 
-pub write-written-requires : goal.write-written-requires
-write-written-requires g c = c.requires
+pub write_shown-requires : goal.write_shown-requires
+write_shown-requires g c = c.requires
 
 pub returns-in_err-head-clause-err : goal.returns-in_err-head-clause-err
 returns-in_err-head-clause-err g c =
@@ -21,11 +22,11 @@ returns-in_err-head-clause-err g c =
 pub returns-clause-ok : goal.returns-clause-ok
 returns-clause-ok g c =
     let list = c.args.list.now in
-    on_ok_weaker c.write-written.result
+    on_ok_weaker c.write_shown.result
     (has_page c.args.session.now c.args.config.now list.profile.now list.mode list.settings.now c.in_ok-head.head
-    c.args.paper (g.O.Write.contents c.args.out.now) (g.O.Write.contents c.write-written.new.out)
+    c.args.paper (g.O.Write.contents c.args.out.now) (g.O.Write.contents c.write_shown.new.out)
     c.in_ok-head.ensures.about)
-    c.write-written.ensures.ok
+    c.write_shown.ensures.ok
 
 pub returns-clause-err : goal.returns-clause-err
 returns-clause-err g c =
@@ -34,14 +35,32 @@ returns-clause-err g c =
     let config = c.args.config.now in
     let head = c.in_ok-head.head in
     let old = g.O.Write.contents c.args.out.now in
-    let new = g.O.Write.contents c.write-written.new.out in
+    let new = g.O.Write.contents c.write_shown.new.out in
     let First : Option (List ℕ) → Type 0 =
     AreFirstBy session config list.profile.now list.mode list.settings.now c.args.paper old in
-    IfErr-weaker c.write-written.result _ _
+    IfErr-weaker c.write_shown.result _ _
     (λ fault. stops_so (λ _. ⊥) (λ _. ⊥) First First
     (WritesPage session config list.profile.now list.mode list.settings.now head c.args.paper old)
     (HasPage session config list.profile.now list.mode list.settings.now c.args.paper old) old new fault
     (λ _ none. none) (λ _ first. first)
-    (λ whole writes. inr (has_page session config list.profile.now list.mode list.settings.now head c.args.paper old whole
+    (λ whole writes. inr (has_page session config list.profile.now list.mode list.settings.now head
+    c.args.paper old whole
     c.in_ok-head.ensures.about writes)))
-    c.write-written.ensures.err
+    c.write_shown.ensures.err
+
+pub returns-in_err-head-clause-errors : goal.returns-in_err-head-clause-errors
+returns-in_err-head-clause-errors g c quiet =
+    stopped _ _ c.from_residual.result c.in_err-head.field-0.0 c.from_residual.ensures.1 c.in_err-head.ensures.errors
+
+pub returns-clause-errors : goal.returns-clause-errors
+returns-clause-errors g c quiet =
+    let list = c.args.list.now in
+    let session = c.args.session.now in
+    let config = c.args.config.now in
+    let head = c.in_ok-head.head in
+    let old = g.O.Write.contents c.args.out.now in
+    warned session c.args.paper.colour
+    (AreFirstBy session config list.profile.now list.mode list.settings.now c.args.paper old)
+    (WritesPage session config list.profile.now list.mode list.settings.now head c.args.paper old) old head
+    (g.O.Write.contents c.write_shown.new.out) _ _ _ c.in_ok-head.ensures.about c.in_ok-head.ensures.errors
+    (c.write_shown.ensures.errors quiet) c.write_shown.result c.write_shown.ensures.err

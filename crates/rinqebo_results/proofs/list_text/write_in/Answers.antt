@@ -1,10 +1,12 @@
-use Rattle.std.proofs.Common.{inr}
+use Rattle.std.proofs.Common.{inr, refl}
 use Rattle.std.proofs.lemmas.Result.{IfErr-weaker, on_ok_weaker}
+use Rattle.rinqebo_results.proofs.Errors.{stopped}
 use Rattle.rinqebo_results.proofs.Stops.{stops_so}
 use Rattle.rinqebo_results.proofs.Writing.{begins_list, writes_list}
 use Rattle.rinqebo_results.specs.Begun.{BeginsList}
 use Rattle.rinqebo_results.specs.LookedUp.{IsFailureOn}
 use Rattle.rinqebo_results.specs.Written.{AreFirstBy, HasPage, WritesList}
+use Rattle.rinqebo_results.specs.declared.list_stop.ListStop.TheVariants as stops
 use Rattle.rinqebo_results.proofs.list_text.write_in.Goals as goal
 
 pub returns-clause-ok : goal.returns-clause-ok
@@ -36,3 +38,10 @@ returns-clause-err g c =
     (λ whole page. inr (writes_list session list.profile.now list.mode list.settings.now c.args.paper loaded old whole
     config.accepted config.means config.known config.looked_up page)))
     c.write_by.ensures.err
+
+pub returns-in_err-config-clause-errors : goal.returns-in_err-config-clause-errors
+returns-in_err-config-clause-errors g c quiet =
+    stopped _ _ c.from_residual.result (stops.Refused c.in_err-config.field-0.0) c.from_residual.ensures.1 refl
+
+pub returns-clause-errors : goal.returns-clause-errors
+returns-clause-errors g c quiet = c.write_by.ensures.errors quiet

@@ -1,3 +1,4 @@
+use Rattle.rinqebo_results.proofs.Errors.{by_document}
 use Rattle.rinqebo_results.proofs.Documents.{document_quiet, document_reported, no_document}
 use Rattle.rinqebo_results.proofs.Received.{document_begun}
 use Rattle.rinqebo_results.proofs.refusing.refuse_json.Goals as goal
@@ -21,4 +22,9 @@ returns-in-Some-clause-begun g c =
 
 pub returns-in-None-clause-document : goal.returns-in-None-clause-document
 returns-in-None-clause-document g c told =
-    no_document c.args.failure.now _ c.in-None.ensures c.refuse.ensures told
+    no_document c.args.failure.now _ c.in-None.ensures c.refuse.ensures.status told
+
+pub returns-in-Some-clause-errors : goal.returns-in-Some-clause-errors
+returns-in-Some-clause-errors g c =
+    by_document c.args.failure.now c.args.request.now c.in-Some.report.now _ _ _ _ c.requires.json c.in-Some.ensures
+    c.status_of_failure-status.ensures c.refuse_page.ensures.errors

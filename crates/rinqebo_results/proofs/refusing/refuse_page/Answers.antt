@@ -1,8 +1,16 @@
-use Rattle.std.proofs.Common.{◌∙◌, inr, subst}
+use Rattle.std.proofs.Common.{◌∙◌, inr, refl, subst}
 use Rattle.rinqebo_results.specs.Prefixes.{AppendsPrefix}
+use Rattle.rinqebo_results.proofs.Errors.{memory_lost, memory_told, or_memory, unchanged}
 use Rattle.rinqebo_results.proofs.refusing.refuse_page.Goals as goal
 
 pub returns-in-Ok-clause-begun : goal.returns-in-Ok-clause-begun
 returns-in-Ok-clause-begun g c =
     inr (subst (AppendsPrefix (g.O.Write.contents c.args.out.now) (g.O.Write.contents c.print_text.new.out))
     (c.as_str.ensures.value ∙ c.in-Ok.ensures) c.print_text.ensures.begun)
+
+pub returns-in-Ok-clause-errors : goal.returns-in-Ok-clause-errors
+returns-in-Ok-clause-errors g c = or_memory (unchanged c.args.status _ _ _ refl c.print_text.ensures.status)
+
+pub returns-in-Err-clause-errors : goal.returns-in-Err-clause-errors
+returns-in-Err-clause-errors g c =
+    memory_lost (memory_told _ _ _ c.refuse_for_memory.ensures.status c.refuse_for_memory.ensures.message)

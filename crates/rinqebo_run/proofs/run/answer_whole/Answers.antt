@@ -1,4 +1,5 @@
 use Rattle.rinqebo_results.proofs.Documents.{answer_ends, one_of_four, refusal_quiet, refusal_told}
+use Rattle.rinqebo_results.proofs.Errors.{of_answer, of_reasons}
 use Rattle.rinqebo_results.proofs.Received.{answer_begun, failure_begun}
 use Rattle.rinqebo_results.proofs.Refused.{answer_reported, failure_reported}
 use Rattle.rinqebo_results.proofs.Statuses.{answer_status, answered_status, reported_same, reported_page, tells, failed_silent, failed_status}
@@ -37,7 +38,8 @@ returns-in-Ok-clause-begun g c =
     c.print_answer.ensures.begun
 
 pub returns-in-Err-clause-status : goal.returns-in-Err-clause-status
-returns-in-Err-clause-status g c = failed_status c.args.request.now.question c.in-Err.failure _ c.refuse_in.ensures.status
+returns-in-Err-clause-status g c =
+    failed_status c.args.request.now.question c.in-Err.failure _ c.refuse_in.ensures.status
 
 pub returns-in-Err-clause-quiet : goal.returns-in-Err-clause-quiet
 returns-in-Err-clause-quiet g c =
@@ -63,3 +65,15 @@ pub returns-in-Err-clause-begun : goal.returns-in-Err-clause-begun
 returns-in-Err-clause-begun g c =
     failure_begun c.args.request.now c.args.gathered.now _ _ c.in-Err.failure c.in-Err.ensures.err
     c.refuse_in.ensures.begun
+
+pub returns-in-Ok-clause-errors : goal.returns-in-Ok-clause-errors
+returns-in-Ok-clause-errors g c quiet =
+    of_answer c.args.request.now c.args.gathered.now c.in-Ok.answer.report _ _ _ _ _
+    (c.in-Ok.ensures.errors quiet) c.in-Ok.ensures.ok
+    c.print_answer.ensures.errors
+
+pub returns-in-Err-clause-errors : goal.returns-in-Err-clause-errors
+returns-in-Err-clause-errors g c quiet =
+    of_reasons c.args.request.now c.args.gathered.now c.in-Err.failure _ _ _ _ (c.in-Err.ensures.errors quiet)
+    c.in-Err.ensures.err
+    c.refuse_in.ensures.errors

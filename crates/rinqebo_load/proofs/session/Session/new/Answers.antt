@@ -70,6 +70,7 @@ returns-in_err-engines-clause-cause c =
 
 pub returns-clause-begun : goal.returns-clause-begun
 returns-clause-begun c = record {
+  request_is = c.in_ok-reported_request.ensures;
   read = refl;
   layers = c.in_ok-layers.ensures;
   features = c.in_ok-features_of.ensures c.args.gathered.now

@@ -1,12 +1,13 @@
-use Rattle.std.proofs.Common.{◌≡◌, ◌∙◌, ap, map, refl, subst, take}
+use Rattle.std.proofs.Common.{◌≡◌, ◌∙◌, ap, map, refl, subst, sym, take}
 use Rattle.std.proofs.lemmas.List.{take_all}
 use Rattle.std.specs.List.{AllZip}
 use Rattle.filter_inputs.specs.Lists.ListView.{list_test_view}
 use Rattle.nextest_settings.specs.Profiles.Meaning.{profile_meaning}
 use Rattle.nextest_settings.specs.Queries.{query_in}
+use Rattle.rinqebo_objects.specs.Uses.{AreUsesIn}
 use Rattle.rinqebo_rules.specs.Rows.{IsTestReported}
 use Rattle.rinqebo_rules.specs.Unused.{AreUnusedIn, AreUsedIn}
-use Rattle.rinqebo_rules.proofs.ListedTests.{zip_mapped}
+use Rattle.rinqebo_rules.proofs.ListedTests.{made_twice, zip_mapped}
 use Rattle.rinqebo_rules.proofs.Marked.{map_more, twice}
 use Rattle.rinqebo_origins.proofs.RowsMore.{zip_more_by}
 use Rattle.rinqebo_rules.proofs.lister.Lister.list.Goals as goal
@@ -18,17 +19,20 @@ loop-test-preserved g c =
     let profile = profile_meaning F.meaning self.profile.now in
     let before = c.loop-test.invariant in
     record {
-      lister = c.next_test.ensures.lister ∙ before.lister;
-      same = c.next_test.ensures.same ∙ before.same;
+      lister = c.next_reported.ensures.lister ∙ before.lister;
+      same = c.next_reported.ensures.same ∙ before.same;
       told = zip_more_by (λ basis test. IsTestReported basis (query_in F.holds profile (list_test_view test).test) self.mode profile
           self.asked.now (list_test_view test)) c.args.origins.now c.loop-test.origins before.same c.args.listed.now
           c.loop-test.test-index _ _ c.loop-test-test.true refl _ _ _ before.told
-          (rw before.lister at c.in_ok-next_test.ensures.told)
+          (rw before.lister at c.in_ok-rows.ensures.told)
           c.in_ok-push.ensures.items;
-      marked = subst (λ tests. AreUsedIn tests self.mode profile c.next_test.new.used)
+      marked = subst (λ tests. AreUsedIn tests self.mode profile c.next_reported.new.used)
           (map_more (λ test. query_in F.holds profile (list_test_view test).test) c.args.listed.now
           c.loop-test.test-index _ _ c.loop-test-test.true refl)
-          ((rw before.lister at c.in_ok-next_test.ensures.used) _ before.marked);
+          ((rw before.lister at c.in_ok-rows.ensures.used) _ before.marked);
+      uses = subst (λ tests. AreUsesIn F.holds profile tests c.next_reported.new.uses.items)
+          (map_more (λ test. (list_test_view test).test) c.args.listed.now c.loop-test.test-index _ _ c.loop-test-test.true refl)
+          ((rw before.lister at c.in_ok-rows.ensures.scripts) _ _ before.marked before.uses);
     }
 
 pub returns-clause-tests : goal.returns-clause-tests
@@ -67,3 +71,13 @@ returns-clause-used g c =
     (take_all c.loop-test.test-index listed c.loop-test-test.false)
     ∙ twice (query_in F.holds profile) (λ t. t.test) list_test_view listed)
     c.loop-test.invariant.marked
+
+pub returns-clause-uses : goal.returns-clause-uses
+returns-clause-uses g c =
+    let F = g.F.Filters in
+    let profile = profile_meaning F.meaning c.args.self.now.profile.now in
+    let listed = c.args.listed.now in
+    subst (λ tests. AreUsesIn F.holds profile tests c.loop-test.uses.items)
+    (ap (map (λ test. (list_test_view test).test)) (take_all c.loop-test.test-index listed c.loop-test-test.false)
+    ∙ sym (made_twice (λ t. t.test) list_test_view listed))
+    c.loop-test.invariant.uses

@@ -9,7 +9,6 @@ use Rattle.nextest_elements.specs.Settings.{settings}
 use Rattle.nextest_elements.specs.declared.setting.Setting.{Setting}
 use Rattle.nextest_rules.specs.Rules.{OverrideUse, ScriptRuleUse}
 use Rattle.nextest_settings.specs.View.{evaluated_override_view, evaluated_script_rule_view, meant_override}
-use Rattle.rinqebo_rules.proofs.BinaryRules.{overrides_known, script_rules_known}
 use Rattle.rinqebo_rules.proofs.Evaluated.{evaluated_both, open_in}
 use Rattle.rinqebo_rules.proofs.Marked.{marks_alike}
 use Rattle.rinqebo_rules.proofs.NoneHold.{meant_overrides}
@@ -18,13 +17,13 @@ use Rattle.rinqebo_rules.proofs.SetMarks.{taken_back}
 use Rattle.rinqebo_rules.proofs.Unneeded.{override_unneeded, script_rule_unneeded}
 use Rattle.rinqebo_rules.specs.BinaryRules.{AreKnownIn}
 use Rattle.rinqebo_rules.specs.Distinct.{AreDistinct}
-use Rattle.rinqebo_rules.specs.Evaluations.{EvaluatesOnly, IsOpenAt, IsOpenIn}
+use Rattle.rinqebo_rules.specs.Evaluations.{EvaluatesOnly, IsOpenAt}
 use Rattle.rinqebo_rules.specs.Passed.{AreWritten, IsPassed, IsShown, IsShownBy, ids_of}
 use Rattle.rinqebo_rules.specs.Unused.{is_used, written_at}
 use Rattle.rinqebo_rules.proofs.unused.UsedRules.add.Goals as goal
 
 pub returns-clause-used : goal.returns-clause-used
-returns-clause-used g c = λ tests mode decided of_profile are.
+returns-clause-used g c = λ tests mode knows knows_scripts of_profile are.
     let F = g.F.Filters in
     let profile = c.args.profile.now in
     let meaning = profile_meaning F.meaning profile in
@@ -46,9 +45,8 @@ returns-clause-used g c = λ tests mode decided of_profile are.
     let used_scripts = c.deref_mut-2.result.now in
     let count = c.passed_for_wrapper-passed.result in
     let after_scripts = c.mark_script_rules.new.used in
-    let speak = g.met.F.Filters.binaries_speak in
-    let known = c.override_answers.result.now in
-    let known_scripts = c.script_rule_answers.result.now in
+    let known = c.args.overrides.now in
+    let known_scripts = c.args.script_rules.now in
     let are_distinct = c.args.self.now.are_overrides_distinct in
     let are_scripts_distinct = c.args.self.now.are_script_rules_distinct in
     record {
@@ -62,8 +60,7 @@ returns-clause-used g c = λ tests mode decided of_profile are.
           (subst (AllZip (AreWritten mode) meaning.overrides) (sym c.deref-3.ensures.value) are.written)
           (c.passed_in-passed.ensures query mode meaning (sym walked) of_profile)
           are.distinct_overrides
-          (subst (AreKnownIn query meaning.overrides) (sym c.override_answers.ensures)
-          (overrides_known F.holds F.holds_binary speak meaning test c.args.answers decided))
+          knows
           (c.deref_mut.ensures.value ∙ are.overrides);
       script_rules = taken_back after_scripts _ _ (c.mark_script_rules.auto.used ∙ c.deref_mut-2.ensures.len) ∙ marks_alike (λ q rules. IsPassed q (λ w. is_some w.scripts.run_wrapper) (λ w. w.id) rules count
           → (IsTrue are_scripts_distinct → AreDistinct (ids_of (λ w. w.id) rules))
@@ -72,8 +69,7 @@ returns-clause-used g c = λ tests mode decided of_profile are.
           (λ passes distinct holds marks. c.mark_script_rules.ensures.marks passes distinct holds tests marks)
           (c.passed_for_wrapper-passed.ensures query mode meaning (sym searched) of_profile)
           are.distinct_script_rules
-          (subst (AreKnownIn query meaning.script_rules) (sym c.script_rule_answers.ensures)
-          (script_rules_known F.holds F.holds_binary speak meaning test c.args.answers decided))
+          knows_scripts
           (c.deref_mut-2.ensures.value ∙ are.script_rules);
       written = are.written;
       distinct_overrides = are.distinct_overrides;
@@ -103,8 +99,8 @@ returns-clause-tally g c = λ tests mode of_profile are.
     let passed = c.passed_in-passed.result in
     let used_scripts = c.deref_mut-2.result.now in
     let count = c.passed_for_wrapper-passed.result in
-    let known = c.override_answers.result.now in
-    let known_scripts = c.script_rule_answers.result.now in
+    let known = c.args.overrides.now in
+    let known_scripts = c.args.script_rules.now in
     let are_distinct = c.args.self.now.are_overrides_distinct in
     let are_scripts_distinct = c.args.self.now.are_script_rules_distinct in
     let first = c.len-first.result in
@@ -122,22 +118,16 @@ returns-clause-tally g c = λ tests mode of_profile are.
     evaluated_both (IsOpenAt query used known shows 0 meaning.overrides) _
     (IsOpenAt query used_scripts known_scripts shows_wrapping (length meaning.overrides) meaning.script_rules) _
     0 (length meaning.overrides) old now new
-    (λ number one. subst (λ ks. IsOpenIn tests query wants are_distinct ks 0 meaning.overrides number)
-    c.override_answers.ensures
     (open_in tests query wants are_distinct used known shows 0 meaning.overrides
     (c.deref_mut.ensures.value ∙ are.overrides)
     (λ n rule stands hidden. override_unneeded query wants (λ w. w.id) meaning.overrides n are_distinct written passed
     (subst (AllZip (AreWritten mode) meaning.overrides) (sym c.deref-3.ensures.value) are.written)
-    (c.passed_in-passed.ensures query mode meaning (sym walked) of_profile) are.distinct_overrides hidden)
-    number one))
-    (λ number one. subst (λ ks. IsOpenIn tests query (λ (wrapper : Unit {0}) w. wraps w) are_scripts_distinct ks
-    (length meaning.overrides) meaning.script_rules number) c.script_rule_answers.ensures
+    (c.passed_in-passed.ensures query mode meaning (sym walked) of_profile) are.distinct_overrides hidden))
     (open_in tests query (λ (wrapper : Unit {0}) w. wraps w) are_scripts_distinct used_scripts known_scripts shows_wrapping
     (length meaning.overrides) meaning.script_rules (c.deref_mut-2.ensures.value ∙ are.script_rules)
     (λ n rule stands hidden. script_rule_unneeded query wraps (λ w. w.id) meaning.script_rules n count are_scripts_distinct
     rule stands (c.passed_for_wrapper-passed.ensures query mode meaning (sym searched) of_profile)
-    are.distinct_script_rules hidden)
-    number one))
+    are.distinct_script_rules hidden))
     (marks_alike (λ q rules. EvaluatesOnly (IsOpenAt q used known shows 0 rules) 0 old now) _ query _ meaning.overrides
     same_query overrides c.mark_overrides.ensures.tally)
     (subst (λ k. EvaluatesOnly (IsOpenAt query used_scripts known_scripts shows_wrapping k meaning.script_rules) k now new)
