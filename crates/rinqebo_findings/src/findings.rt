@@ -1,17 +1,19 @@
 //! Findings: how they are made.
 ghost use Rattle.std.specs.Prelude.{◌≡◌, IfOk, Some, None, map, option_map};
+ghost use Rattle.std.specs.Option.{option_and_then, option_copied};
 ghost use Rattle.rinqebo_report.specs.Codes.Codes.{code_word};
 ghost use Rattle.nextest_places.specs.Spans.Paths.{path_step};
 ghost use Rattle.nextest_tree.specs.View.{tree_view};
 ghost use Rattle.rinqebo_faults.specs.Paths.{shown_path};
 ghost use Rattle.rinqebo_findings.specs.Later.{document_at, whole_place};
 ghost use Rattle.rinqebo_findings.specs.Placed.{IsPlaceIn};
+ghost use Rattle.rinqebo_findings.specs.Sources.{layer_at};
 ghost use Rattle.rinqebo_findings.specs.Subjects.{step_view, subject};
 ghost use Rattle.rinqebo_findings.specs.Warnings.{WarnsAt};
 
 use nextest_places::{PathSpans, Step};
 use nextest_tree::Tree;
-use rinqebo_faults::{keys_note, path_text, unknown_key_help, unknown_key_text};
+use rinqebo_faults::{keys_note, owned, path_text, unknown_key_help, unknown_key_text};
 use rinqebo_report::{Code, FilePlace, Finding, FindingStep, Level};
 use rinqebo_request::{Layer, NoDocument, SpanPart, part_place};
 use std::alloc::{AllocError, Global};
@@ -35,7 +37,10 @@ impl<'l, 't> SourceAt<'l, 't> {
     }
 
     /// Where the values of the source are written in its text, if it has one.
-    pub fn spans(self) -> Option<&'l PathSpans<'t>> {
+    pub fn spans(self) -> Option<&'l PathSpans<'t>>
+        ensures { option_copied result ≡ option_and_then (λ layer. layer.places)
+            (layer_at self.entry.layers.now self.entry.position) }
+    {
         let layer = self.layers.get(self.position?)?;
         match &layer.places {
             Some(document) => Some(document.spans()),
@@ -44,7 +49,10 @@ impl<'l, 't> SourceAt<'l, 't> {
     }
 
     /// Why the text of the source is not a document, if it is not one.
-    pub fn fault(self) -> Option<&'l NoDocument> {
+    pub fn fault(self) -> Option<&'l NoDocument>
+        ensures { option_copied result ≡ option_and_then (λ layer. layer.fault)
+            (layer_at self.entry.layers.now self.entry.position) }
+    {
         self.layers.get(self.position?)?.fault.as_ref()
     }
 
@@ -93,14 +101,6 @@ pub const UNKNOWN_KEY: Label = Label {
     upstream: Some("UnknownConfigKeys"),
 };
 
-/// A copy of a text, if there is one.
-pub fn copied(alloc: Global, text: Option<&str>) -> Result<Option<String>, AllocError> {
-    match text {
-        Some(text) => Ok(Some(String::from_str(alloc, text)?)),
-        None => Ok(None),
-    }
-}
-
 /// A finding of a source, with a message alone.
 pub fn finding(
     alloc: Global,
@@ -114,7 +114,7 @@ pub fn finding(
     ensures place { IfOk result (λ found. found.place
         ≡ option_map whole_place source.entry.position) }
 {
-    let upstream = copied(alloc, label.upstream)?;
+    let upstream = owned(alloc, label.upstream)?;
     let code = String::from_str(alloc, label.code.word())?;
     let mut found = Finding::new(alloc, level, code, message);
     found.upstream = upstream;

@@ -7,13 +7,13 @@ ghost use Rattle.rinqebo_faults.specs.Paths.{profile_path};
 ghost use Rattle.rinqebo_findings.specs.Each.{AreOfEach};
 ghost use Rattle.rinqebo_findings.specs.Warnings.{is_other, other_warnings, profile_steps, ReportWarning, ReportWarningAt, ReportWarnings, source_of, WarnsOf, WarnsOfKey};
 
-use crate::findings::{Label, SourceAt, copied, key_warning, unknown_key_at};
+use crate::findings::{Label, SourceAt, key_warning, unknown_key_at};
 use crate::given::value_at;
 use crate::paths::spelled_path;
 use nextest_places::Step;
 use nextest_sources::{ConfigSource, ConfigWarning, DefaultConfigWarnings};
 use nextest_tree::Tree;
-use rinqebo_faults::{Fault, header_text, profile_path};
+use rinqebo_faults::{Fault, header_text, owned, profile_path};
 use rinqebo_report::{Code, Finding};
 use rinqebo_request::{Layer, place_of};
 use std::alloc::{AllocError, Global};
@@ -53,7 +53,7 @@ fn reserved_profile(
     ensures { IfOk result (WarnsOf source.entry.layers.now source.entry.position
         Code.ReservedProfile (profile_steps name.now)) }
 {
-    let expected = copied(alloc, Some("a name that does not begin with `default-`"))?;
+    let expected = owned(alloc, Some("a name that does not begin with `default-`"))?;
     let message = format!(in alloc;
         "`{name}`: names of profiles that begin with `default-` are nextest's own"
     )?;
@@ -126,7 +126,7 @@ fn empty_rules(
         (WarnsOf source.entry.layers.now source.entry.position Code.EmptyScriptRule)
         (profile_path profile.now (codes "scripts") ∷ []) findings.items) }
 {
-    let expected = copied(alloc, Some("`setup`, `list-wrapper` or `run-wrapper`"))?;
+    let expected = owned(alloc, Some("`setup`, `list-wrapper` or `run-wrapper`"))?;
     let message = format!(in alloc; "rules that name no script: {count}")?;
     let mut found = key_warning(
         alloc,
