@@ -57,3 +57,19 @@ quoted_list names = fold with_quoted [] names
 unfoldable pub feature_list : Option Node → List ConfigExperimental → List ℕ
 feature_list listed missing =
     quoted_list (listed_features listed ++ map experimental_text missing)
+
+-- what a command line passes for a feature
+abbrev pub or_pass : List ℕ → List ℕ
+or_pass feature = codes ", or pass `--experimental " ++ (feature ++ codes "`")
+
+-- how to switch on a feature where a file lists features so: by a key of the table, or by the list
+abbrev pub enabled_by : Option Node → List ℕ → List ConfigExperimental → List ℕ
+enabled_by (Some (Node.table es)) feature missing =
+    codes "write `experimental." ++ (feature ++ (codes " = true`" ++ or_pass feature))
+enabled_by listed feature missing =
+    codes "write `experimental = [" ++ (feature_list listed missing ++ (codes "]`" ++ or_pass feature))
+
+-- how to switch on a feature, of several that a file lacks
+abbrev pub feature_help : Option Node → List ℕ → List ConfigExperimental → List ℕ
+feature_help file feature missing =
+    enabled_by (value_at file (codes "experimental")) feature missing

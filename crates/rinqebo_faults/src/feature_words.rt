@@ -2,7 +2,7 @@
 ghost use Rattle.std.specs.Prelude.{◌≡◌, IfOk, OnOk, fold, map, option_map, string_bytes};
 ghost use Rattle.nextest_places.specs.Spans.Paths.{path_step};
 ghost use Rattle.nextest_tree.specs.View.{tree_view};
-ghost use Rattle.rinqebo_faults.specs.Features.{feature_list, feature_path, kind_of_feature, listed_features, value_at, with_quoted};
+ghost use Rattle.rinqebo_faults.specs.Features.{feature_help, feature_list, feature_path, kind_of_feature, listed_features, value_at, with_quoted};
 
 use nextest_elements::ConfigExperimental;
 use nextest_places::Step;
@@ -100,7 +100,10 @@ pub fn feature_help(
     tree: Option<&Tree>,
     feature: &str,
     missing: &[ConfigExperimental],
-) -> Result<String, AllocError> {
+) -> Result<String, AllocError>
+    ensures { IfOk result (λ help. string_bytes help ≡ feature_help
+        (option_map (λ tree. tree_view tree.now) tree.entry) feature.now missing.now) }
+{
     let listed = value_of(tree, "experimental");
     if let Some(Tree::Table(_)) = listed {
         return format!(in alloc;
