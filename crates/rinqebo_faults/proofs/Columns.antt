@@ -3,10 +3,11 @@ use Rattle.std.proofs.Common.{◌≡◌, ◌≢◌, ◌+◌, ◌-◌, ◌<◌, �
 use Rattle.std.specs.Prelude.{slice_get, unwrap_or, option_map}
 use Rattle.std.specs.Char.{encode_utf8}
 use Rattle.std.specs.List.{list_any, position_or_len}
-use Rattle.std.specs.Str.{IsCharBoundary, IsUtf8, chars, encode_utf8_all, scalars}
+use Rattle.std.specs.Str.{IsCharBoundary, IsUtf8, chars, encode_utf8_all}
 use Rattle.std.specs.Str.Iter.{char_indices_offset, char_indices_rest, char_indices_steps}
 use Rattle.std.specs.Str.Pattern.{GetsRange}
 use Rattle.std.specs.declared.iter.text.CharIndices.{CharIndices}
+use Rattle.std.proofs.Math.Utf8.{scalars}
 use Rattle.std.proofs.lemmas.Bool.{and_parts, cases_Bool}
 use Rattle.std.proofs.lemmas.List.{take_all}
 use Rattle.std.proofs.lemmas.Iterator.{YieldsList}
@@ -20,16 +21,16 @@ pub none_any : (text : List ℕ) → position_or_len is_equals text ≡ length t
 none_any [] none = refl
 none_any (b ∷ text) none =
     elim (cases_Bool (is_equals b)) [
-      | inl yes ↦
+      | inl holds ↦
           let here : position_or_len is_equals (b ∷ text) ≡ 0 =
-          ap (λ t. cond (not t) (1 + position_or_len is_equals text) 0) yes in
+          ap (λ t. cond (not t) (1 + position_or_len is_equals text) 0) holds in
           let long : length (b ∷ text) ≡ length text + 1 = omega arith in
           absurd (omega arith)
-      | inr no ↦
+      | inr fails ↦
           let further : position_or_len is_equals (b ∷ text) ≡ 1 + position_or_len is_equals text =
-          ap (λ t. cond (not t) (1 + position_or_len is_equals text) 0) no in
+          ap (λ t. cond (not t) (1 + position_or_len is_equals text) 0) fails in
           let long : length (b ∷ text) ≡ length text + 1 = omega arith in
-          ap (λ t. t || list_any is_equals text) no ∙ none_any text (omega arith)
+          ap (λ t. t || list_any is_equals text) fails ∙ none_any text (omega arith)
     ]
 
 -- characters with the bytes at which they start
@@ -49,9 +50,9 @@ one_taken : (at : ℕ) (text rest : List ℕ) (p : ℕ × ℕ) (next : ℕ) → 
     → text ≡ encode_utf8 p.1 ++ rest → next ≡ at + length (encode_utf8 p.1)
     → indexed at (chars text) ≡ p ∷ indexed next (chars rest)
 unfolding indexed
-one_taken at text rest p next utf8 here is then =
+one_taken at text rest p next utf8 here is behind =
     ap (indexed at) (chars_past_char text rest p.1 utf8 is)
-    ∙ ap (λ k. (at, p.1) ∷ indexed k (chars rest)) (sym then)
+    ∙ ap (λ k. (at, p.1) ∷ indexed k (chars rest)) (sym behind)
     ∙ ap (λ k. (k, p.1) ∷ indexed next (chars rest)) (sym here)
 
 -- what `char_indices` gives

@@ -31,13 +31,13 @@ hidden number line mark low =
     ap (λ b. if b then here else []) (hidden_range mark.range number low)
 
 -- a mark that a line doesn't show adds no part
-pub skip : (number : ℕ) (line : List ℕ) (marks : List Mark) (i : ℕ) (mark : Mark) → i < length marks
-    → mark ≡ get_or marks i mark → last_shown mark.range < number
+pub skip : (number : ℕ) (line : List ℕ) (marks : List Mark) (i shown : ℕ) (d : Mark) → i < length marks
+    → shown ≡ last_shown (get_or marks i d).range → shown < number
     → flat_map (part_of number line) (drop i marks) ≡ flat_map (part_of number line) (drop (i + 1) marks)
-skip number line marks i mark inside is low =
-    at_drop_more (flat_map (part_of number line)) marks i mark inside
-    ∙ ap (λ m. part_of number line m ++ flat_map (part_of number line) (drop (i + 1) marks)) (sym is)
-    ∙ ap (λ ps. ps ++ flat_map (part_of number line) (drop (i + 1) marks)) (hidden number line mark low)
+skip number line marks i shown d inside is low =
+    at_drop_more (flat_map (part_of number line)) marks i d inside
+    ∙ ap (λ ps. ps ++ flat_map (part_of number line) (drop (i + 1) marks))
+    (hidden number line (get_or marks i d) (subst (λ n. n < number) is low))
 
 -- no line is shown behind the last one
 pub none_behind : (marks : List Mark) (last number : ℕ) (rest : List (List ℕ))
@@ -100,11 +100,11 @@ pub next_shown : (marks : List Mark) (text : List (List ℕ)) (n : ℕ) (line : 
     → new ≡ old ++ option_to_list (shown_with next line (line_parts marks next line))
     → old ++ shown_behind marks number (drop n text) ≡ all
     → new ++ shown_behind marks next (drop count text) ≡ all
-next_shown marks text n line number next count old new all here then counted low is more so_far =
-    ap (λ k. new ++ shown_behind marks k (drop count text)) then
+next_shown marks text n line number next count old new all here behind counted low is more so_far =
+    ap (λ k. new ++ shown_behind marks k (drop count text)) behind
     ∙ ap (λ k. new ++ shown_behind marks (n + 1) (drop k text)) counted
     ∙ next_line marks text n line old new (low, is)
-    (more ∙ ap (λ k. old ++ option_to_list (shown_with k line (line_parts marks k line))) then)
+    (more ∙ ap (λ k. old ++ option_to_list (shown_with k line (line_parts marks k line))) behind)
     ∙ ap (λ k. old ++ shown_behind marks k (drop n text)) (sym here)
     ∙ so_far
 
@@ -116,19 +116,19 @@ at_most_one (Some line) = omega arith
 pub still_few : (old new : List SourceLine) (o : Option ShownLine) (full : Bool)
     → map shown_view new ≡ map shown_view old ++ option_to_list o → length old < 3
     → full ≡ (length new == 3) → full ≡ false → length new < 3
-still_few old new o full more few is not =
+still_few old new o full more few is not_full =
     let long : length new ≡ length old + length (option_to_list o) =
-    sym (length-map shown_view new) ∙ ap length more
+    sym (length-map new shown_view) ∙ ap length more
     ∙ length-append (map shown_view old) (option_to_list o)
-    ∙ ap (λ n. n + length (option_to_list o)) (length-map shown_view old) in
+    ∙ ap (λ n. n + length (option_to_list o)) (length-map old shown_view) in
     let one = at_most_one o in
-    let other : length new ≡ 3 → ⊥ = λ three. true≢false (sym (is ∙ eq-eqb (length new) 3 three) ∙ not) in
+    let other : length new ≡ 3 → ⊥ = λ three. true≢false (sym (is ∙ eq-eqb (length new) 3 three) ∙ not_full) in
     omega (arith, other)
 
 pub is_three : (new : List SourceLine) (full : Bool) → full ≡ (length new == 3) → full ≡ true
     → length (map shown_view new) ≡ 3
-is_three new full is yes =
-    length-map shown_view new ∙ eqb-true (length new) 3 (sym is ∙ yes)
+is_three new full is is_full =
+    length-map new shown_view ∙ eqb-true (length new) 3 (sym is ∙ is_full)
 
 pub few_shown : (new : List SourceLine) → length new < 3 → length (map shown_view new) ≤ 3
-few_shown new few = let l = length-map shown_view new in omega arith
+few_shown new few = let l = length-map new shown_view in omega arith

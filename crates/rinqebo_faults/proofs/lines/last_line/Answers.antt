@@ -9,7 +9,7 @@ pub loop-mark-preserved : goal.loop-mark-preserved
 loop-mark-preserved c = λ number high line.
     let l = c.loop-mark in
     l.invariant number (omega arith) line
-    ∙ skip number line c.args.marks.now l.mark-index c.mark-item.result c.loop-mark-test.true c.mark-item.is (omega arith)
+    ∙ skip number line c.args.marks.now l.mark-index c.last_shown.result _ c.loop-mark-test.true c.last_shown.ensures (omega arith)
 
 pub returns : goal.returns
 returns c = λ number high line.

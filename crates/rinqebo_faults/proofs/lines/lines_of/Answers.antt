@@ -21,10 +21,10 @@ loop-line-preserved c =
     let count = length_push l.yielded c.in-Some.line in
     let more = c.in_ok-add_shown.ensures
     ∙ ap (λ o. map shown_view l.shown.items ++ option_to_list o) c.in_ok-part.ensures in
-    let next : c.saturating_add.result ≡ n + 1 = let a = l.invariant.0 in let b = t.2 in omega arith in (
+    let next : c.saturating_add-number.result ≡ n + 1 = let a = l.invariant.0 in let b = t.2 in omega arith in (
       omega arith,
       still_few l.shown.items c.add_shown.new.shown.items _ c.is_full.result more l.invariant.1 c.is_full.ensures c.if-is_full.false,
-      next_shown c.args.marks.now text n c.in-Some.line.now l.number c.saturating_add.result _
+      next_shown c.args.marks.now text n c.in-Some.line.now l.number c.saturating_add-number.result _
           _ _ (shown_behind c.args.marks.now 0 text) l.invariant.0 next count t.0 t.1 more l.invariant.2,
     )
 
@@ -40,9 +40,9 @@ returns-then-is_full c =
     let count = length_push l.yielded c.in-Some.line in
     let more = c.in_ok-add_shown.ensures
     ∙ ap (λ o. map shown_view l.shown.items ++ option_to_list o) c.in_ok-part.ensures in
-    let next : c.saturating_add.result ≡ n + 1 = let a = l.invariant.0 in let b = t.2 in omega arith in
+    let next : c.saturating_add-number.result ≡ n + 1 = let a = l.invariant.0 in let b = t.2 in omega arith in
     first_three _ _ (shown_behind c.args.marks.now 0 text)
-    (next_shown c.args.marks.now text n c.in-Some.line.now l.number c.saturating_add.result _
+    (next_shown c.args.marks.now text n c.in-Some.line.now l.number c.saturating_add-number.result _
     _ _ (shown_behind c.args.marks.now 0 text) l.invariant.0 next count t.0 t.1 more l.invariant.2)
     (is_three c.add_shown.new.shown.items c.is_full.result c.is_full.ensures c.if-is_full.true)
 

@@ -1,4 +1,4 @@
-use Rattle.std.proofs.Common.{◌≡◌, ◌&&◌, ap, sym, lit<}
+use Rattle.std.proofs.Common.{◌≡◌, ◌&&◌, None, ap, sym, lit<}
 use Rattle.std.specs.Str.{bytes_eq}
 use Rattle.std.proofs.lemmas.Str.Pattern.{split_once_first}
 use Rattle.rinqebo_faults.specs.Meant.{has_key, key_of}
@@ -9,4 +9,4 @@ pub returns-in-None : goal.returns-in-None
 unfolding has_key
 returns-in-None c =
     sym (ap (λ b. b && bytes_eq (key_of c.args.line.now) c.args.key.now)
-    (none_any c.args.line.now (split_once_first 61 c.args.line.now _ c.in-None.ensures.cases (lit< tt))))
+    (none_any c.args.line.now (split_once_first 61 c.args.line.now None c.in-None.ensures.cases (lit< tt))))
