@@ -6,7 +6,7 @@ use Rattle.std.specs.List.{list_any, position_or_len}
 use Rattle.std.specs.Str.{IsCharBoundary, IsUtf8, chars, encode_utf8_all}
 use Rattle.std.specs.Str.Iter.{char_indices_offset, char_indices_rest, char_indices_steps}
 use Rattle.std.specs.Str.Pattern.{GetsRange}
-use Rattle.std.specs.declared.iter.text.CharIndices.{CharIndices}
+use Rattle.std.specs.declared.str.CharIndices.{CharIndices}
 use Rattle.std.proofs.Math.Utf8.{scalars}
 use Rattle.std.proofs.lemmas.Bool.{and_parts, cases_Bool}
 use Rattle.std.proofs.lemmas.List.{take_all}

@@ -1,11 +1,16 @@
-use Rattle.std.proofs.Common.{◌≡◌, ◌∙◌, ap, sym, map, string_bytes}
+use Rattle.std.proofs.Common.{◌≡◌, ◌∙◌, ap, sym, map, string_bytes, subst}
 use Rattle.nextest_tree.specs.View.{entries_view, tree_view}
 use Rattle.rinqebo_faults.specs.FileNamings.{profile_names, profiles_names}
-use Rattle.rinqebo_faults.proofs.Named.{left_all, left_more, left_none}
+use Rattle.rinqebo_faults.proofs.Named.{Left, left_all, left_more, left_none}
 use Rattle.rinqebo_faults.proofs.namings.add_profiles.Goals as goal
 
 pub loop-profile-init : goal.loop-profile-init
-loop-profile-init c = left_all _ _
+loop-profile-init c =
+    let each = profiles_names c.args.list.now (map (λ k. k.now) c.args.keys.now) in
+    let rest = c.into_iter-profile-iterator.result in
+    subst (λ all. Left c.args.firsts.now c.args.firsts.now (each (entries_view rest)) (each (entries_view all)))
+    (c.into_iter-profile-iterator.ensures.into_iter_gives ∙ c.iter-profile-items.ensures.rest)
+    (left_all c.args.firsts.now (each (entries_view rest)))
 
 pub loop-profile-preserved : goal.loop-profile-preserved
 loop-profile-preserved c =

@@ -1,8 +1,7 @@
 use Rattle.std.proofs.Common.{◌≡◌, ◌∙◌, ◌+◌, ◌++◌, None, drop, ap, sym, map}
 use Rattle.std.proofs.lemmas.List.{at_drop_all, at_drop_more}
-use Rattle.nextest_tree.specs.Node.{member_of}
 use Rattle.nextest_tree.specs.View.{tree_view}
-use Rattle.rinqebo_faults.specs.FileNamings.{rule_names, written_names}
+use Rattle.rinqebo_faults.specs.FileNamings.{rule_names}
 use Rattle.rinqebo_faults.proofs.Named.{left_all, left_more, left_none}
 use Rattle.rinqebo_faults.proofs.namings.add_rule.Goals as goal
 
@@ -15,13 +14,9 @@ loop-key-preserved c =
     let keys = c.args.keys.now in
     let profile = c.args.profile.now in
     let rule = tree_view c.args.rule.now in
-    let key = c.key-item.result in
-    left_more _ l.firsts c.add_key.new.firsts
-    (written_names profile (record { rule = c.args.position; key = key.now; item = None }) (member_of key.now rule))
+    left_more _ l.firsts c.add_key.new.firsts _
     (rule_names profile (map (λ k. k.now) (drop (l.key-index + 1) keys)) c.args.position rule) _ _ l.invariant
-    (at_drop_more (λ ks. rule_names profile (map (λ k. k.now) ks) c.args.position rule) keys l.key-index key c.loop-key-test.true
-    ∙ ap (λ k. written_names profile (record { rule = c.args.position; key = k.now; item = None }) (member_of k.now rule)
-    ++ rule_names profile (map (λ k. k.now) (drop (l.key-index + 1) keys)) c.args.position rule) (sym c.key-item.is))
+    (at_drop_more (λ ks. rule_names profile (map (λ k. k.now) ks) c.args.position rule) keys l.key-index _ c.loop-key-test.true)
     c.in_ok-add_key.ensures
 
 pub returns : goal.returns

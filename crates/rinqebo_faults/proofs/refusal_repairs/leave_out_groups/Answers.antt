@@ -23,8 +23,8 @@ returns-in-Some c =
     (end ≡ with_edits old (profiles_edits c.args.place test (entries_view c.in-Some.profiles.now.entries))))
     same c.leave_out_marked.ensures)
 
-pub returns-in-None : goal.returns-in-None
-returns-in-None c =
+pub returns : goal.returns
+returns c =
     let old = edits_view c.args.edits.now in
     let refused : List ℕ → Bool = λ mark. list_any (names_group mark) c.args.errors.now in
     subst
