@@ -34,7 +34,7 @@ none_any (b ∷ text) none =
     ]
 
 -- characters with the bytes at which they start
-indexed : ℕ → List ℕ → List (ℕ × ℕ)
+pub indexed : ℕ → List ℕ → List (ℕ × ℕ)
 indexed at [] = []
 indexed at (c ∷ cs) = (at, c) ∷ indexed (at + length (encode_utf8 c)) cs
 
@@ -96,7 +96,7 @@ at_place at (suc n) (c ∷ cs) p is =
     ≡ at + length (encode_utf8 c ++ encode_utf8_all (take n cs)) = omega arith in
     more ∙ further
 
-drop_none : (n : ℕ) → drop n ([] {A = ℕ}) ≡ []
+drop_none : (n : ℕ) → drop {A = ℕ} n [] ≡ []
 drop_none zero = refl
 drop_none (suc n) = refl
 

@@ -47,13 +47,7 @@ impl<'t> BadLine<'t> {
     fn parted(self) -> (&'t str, &'t str)
         ensures { result.1.now ≡ from_column self.entry.column self.entry.line.now }
     {
-        match self.line.char_indices().nth(self.column) {
-            Some((at, _)) => (
-                self.line.get(..at).unwrap_or(""),
-                self.line.get(at..).unwrap_or(""),
-            ),
-            None => (self.line, ""),
-        }
+        parted_at(self.line, self.column)
     }
 
     /// What is expected, as the reader of TOML words it.
@@ -99,6 +93,16 @@ impl<'t> BadLine<'t> {
             return start;
         }
         key_of(self.rest())
+    }
+}
+
+/// A line before a column, and from there on.
+fn parted_at(line: &str, column: usize) -> (&str, &str)
+    ensures { result.1.now ≡ from_column column line.now }
+{
+    match line.char_indices().nth(column) {
+        Some((at, _)) => (line.get(..at).unwrap_or(""), line.get(at..).unwrap_or("")),
+        None => (line, ""),
     }
 }
 

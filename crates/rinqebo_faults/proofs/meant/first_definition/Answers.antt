@@ -28,14 +28,14 @@ loop-line-preserved c =
     let count = length_push l.yielded c.in-Some.line in
     let there : slice_get text n ≡ Some c.in-Some.line.now =
     slice_get-get_or text n c.in-Some.line.now t.0 ∙ ap Some (sym t.1) in
-    let first : c.first_behind.result ≡ first_behind l.first n (trim c.in-Some.line.now) name =
-    c.first_behind.ensures
+    let first : c.first_behind-first.result ≡ first_behind l.first n (trim c.in-Some.line.now) name =
+    c.first_behind-first.ensures
     ∙ ap (λ k. first_behind l.first k c.trim.result.now name) l.invariant.0
     ∙ ap (λ t. first_behind l.first n t name) c.trim.ensures.trim in
     let a = l.invariant.0 in
     let b = t.2 in (
       omega arith,
-      subst (λ k. IsFirstDefinition text k name c.first_behind.result) (sym count)
+      subst (λ k. IsFirstDefinition text k name c.first_behind-first.result) (sym count)
           (subst (IsFirstDefinition text (n + 1) name) (sym first)
           (step_first text n name c.in-Some.line.now l.first there l.invariant.1)),
     )

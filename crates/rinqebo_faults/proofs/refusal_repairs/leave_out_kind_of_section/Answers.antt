@@ -1,8 +1,8 @@
 -- What is read in place of a section that is refused for each kind of fault.
-use Rattle.std.proofs.Common.{◌≡◌, ◌∙◌, ◌++◌, ◌||◌, Bool, true, false, List, Option, is_some, ap, codes, map, refl, subst, sym}
+use Rattle.std.proofs.Common.{◌≡◌, ◌∙◌, ◌++◌, ◌||◌, ℕ, Bool, true, false, List, is_some, ap, codes, map, subst, sym}
 use Rattle.std.specs.Prelude.{OnOk}
 use Rattle.std.proofs.lemmas.List.Sums.{fold-append}
-use Rattle.nextest_places.specs.Spans.Paths.{path_step}
+use Rattle.nextest_places.specs.Spans.Paths.{PathStep, path_step}
 use Rattle.rinqebo_faults.specs.Edits.{Edit, EditsView, edits_view, with_edit, with_edits}
 use Rattle.rinqebo_faults.specs.Repairs.{any_filter, any_platform, kind_edits, text_edits}
 use Rattle.rinqebo_faults.proofs.refusal_repairs.leave_out_kind_of_section.Goals as goal
@@ -27,11 +27,40 @@ returns-in-ConstraintsNotSpecified c =
     ≡ with_edits (edits_view c.args.edits.now) (kind_edits c.args.place (map path_step c.args.section.now) kind)))
     (sym c.in-ConstraintsNotSpecified.is) c.add.ensures
 
+abbrev parts : ℕ → List PathStep → Bool → Bool → Bool → List Edit
+parts place section platform filter other =
+    text_edits place section (codes "platform") any_platform platform
+    ++ (text_edits place section (codes "filter") any_filter filter
+    ++ text_edits place section (codes "default-filter") any_filter other)
+
+same_parts : (place : ℕ) (section : List PathStep) (p p' f f' o o' : Bool) → p ≡ p' → f ≡ f' → o ≡ o'
+    → parts place section p f o ≡ parts place section p' f' o'
+same_parts place section p p' f f' o o' first second third =
+    ap (λ b. parts place section b f o) first ∙ ap (λ b. parts place section p' b o) second
+    ∙ ap (λ b. parts place section p' f' b) third
+
 pub returns-in_ok-replace_key-in-Parse-2 : goal.returns-in_ok-replace_key-in-Parse-2
 returns-in_ok-replace_key-in-Parse-2 c =
     let old = edits_view c.args.edits.now in
     let end = edits_view c.replace_key-in-Parse-2.new.edits in
     let place = c.args.place in
     let section = map path_step c.args.section.now in
-    let h = c.if-is_some.branch in
-    ?
+    let host = is_some c.in-Parse.host_parse_error in
+    let target = is_some c.in-Parse.target_parse_error in
+    let platform : c.if-is_some.platform ≡ (host || target) =
+    elim c.if-is_some.branch [
+      | then-is_some w ↦ either host target _ (sym c.is_some.ensures ∙ w.if-is_some.true) (w.platform-is ∙ w.if-is_some.true)
+      | else-is_some w ↦
+          neither host target _ (sym c.is_some.ensures ∙ w.if-is_some.false) (w.platform-is ∙ w.is_some-platform.ensures)
+    ] in
+    subst
+    (λ kind. OnOk c.replace_key-in-Parse-2.result (end ≡ with_edits old (kind_edits place section kind)))
+    (sym c.in-Parse.is)
+    (subst (λ v. OnOk c.replace_key-in-Parse-2.result (end ≡ v))
+    (three old _ _ (text_edits place section (codes "platform") any_platform c.if-is_some.platform)
+    (text_edits place section (codes "filter") any_filter c.is_some-filter.result)
+    (text_edits place section (codes "default-filter") any_filter c.is_some-default.result)
+    c.in_ok-replace_key-in-Parse.ensures c.in_ok-replace_key-in-Parse-2.ensures
+    ∙ ap (with_edits old)
+    (same_parts place section _ _ _ _ _ _ platform c.is_some-filter.ensures c.is_some-default.ensures))
+    c.replace_key-in-Parse-2.ensures)

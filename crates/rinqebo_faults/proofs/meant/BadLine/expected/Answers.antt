@@ -4,8 +4,7 @@ use Rattle.std.proofs.lemmas.Str.Pattern.{split_text_parts}
 use Rattle.rinqebo_faults.proofs.meant.BadLine.expected.Goals as goal
 
 pub returns-in-Some : goal.returns-in-Some
-returns-in-Some c =
-    (
+returns-in-Some c = (
   c.in-Some._wrong.now,
   split_text_parts (codes ", expected ") c.args.self.reason.now (Some (c.in-Some._wrong, c.in-Some.expected)) c.in-Some.ensures.cases,
 )
