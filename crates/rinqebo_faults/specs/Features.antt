@@ -68,11 +68,13 @@ is_table (Some (Node.table es)) = true
 is_table value = false
 
 -- how to switch on a feature: by a key of the table of features, or by their list
-abbrev pub by_key_or_list : (in_table : Bool) → Option Node → List ℕ → List ConfigExperimental → List ℕ
+abbrev pub by_key_or_list : (in_table : Bool) → Option Node → List ℕ → List ConfigExperimental
+    → List ℕ
 by_key_or_list true listed feature missing =
     codes "write `experimental." ++ (feature ++ (codes " = true`" ++ or_pass feature))
 by_key_or_list false listed feature missing =
-    codes "write `experimental = [" ++ (feature_list listed missing ++ (codes "]`" ++ or_pass feature))
+    codes "write `experimental = ["
+    ++ (feature_list listed missing ++ (codes "]`" ++ or_pass feature))
 
 -- how to switch on a feature where a file lists features so
 abbrev pub enabled_by : Option Node → List ℕ → List ConfigExperimental → List ℕ

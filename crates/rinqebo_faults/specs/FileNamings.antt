@@ -92,7 +92,8 @@ or_place None other = other
 or_place (Some first) other = Some first
 
 -- The first namings by texts, with more names behind those that they are of.
-abbrev pub Adds : BTreeMap (String Global) Naming → BTreeMap (String Global) Naming → List RuleName → Type 0
+abbrev pub Adds : BTreeMap (String Global) Naming → BTreeMap (String Global) Naming
+    → List RuleName → Type 0
 Adds old new names =
     (mark : List ℕ) → option_map naming_place (get_by_text new mark)
     ≡ or_place (option_map naming_place (get_by_text old mark)) (first_place mark names)

@@ -53,8 +53,8 @@ blank from to =
 abbrev pub end_of : LinePart → ℕ
 end_of part = max part.span.to (min (part.span.from + 1) greatest)
 
--- parts behind a character: each with the blank before it, without those that start before the end of
--- an earlier one
+-- parts behind a character: each with the blank before it, without those that start before the end
+-- of an earlier one
 abbrev pub parts_from : ℕ → List LinePart → List LinePart
 parts_from end [] = []
 parts_from end (part ∷ parts) =

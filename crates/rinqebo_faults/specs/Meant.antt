@@ -66,8 +66,8 @@ abbrev pub or_here : Option ℕ → Option ℕ → Option ℕ
 or_here None here = here
 or_here (Some first) here = Some first
 
--- the place of the line that first defines a header or a key, of the one before a line and that of the
--- line itself: a line that begins a table ends the one before
+-- the place of the line that first defines a header or a key, of the one before a line and that of
+-- the line itself: a line that begins a table ends the one before
 abbrev pub first_behind : Option ℕ → ℕ → (line name : List ℕ) → Option ℕ
 first_behind first place line name =
     if is_header line && not (is_header name) then None

@@ -126,7 +126,8 @@ items_or_none (Some items) = items
 
 -- the overrides of a profile
 abbrev pub overrides_in : Node → Nodes
-overrides_in profile = items_or_none (option_and_then as_array (member_of (codes "overrides") profile))
+overrides_in profile =
+    items_or_none (option_and_then as_array (member_of (codes "overrides") profile))
 
 -- the same of all profiles
 abbrev pub profiles_edits : ℕ → (refused : List ℕ → Bool) → Entries → List Edit
@@ -149,7 +150,8 @@ entries_or_none (Some entries) = entries
 -- groups that overrides set and no file defines are left out
 abbrev pub unknown_groups_edits : ℕ → Option Node → List UnknownTestGroupError → List Edit
 unknown_groups_edits place file errors =
-    profiles_edits place (λ mark. list_any (names_group mark) errors) (entries_or_none (profiles_in file))
+    profiles_edits place (λ mark. list_any (names_group mark) errors)
+    (entries_or_none (profiles_in file))
 
 -- the script rules of a profile are left out
 abbrev pub rules_edit : ℕ → List ℕ → Edit

@@ -227,7 +227,8 @@ fn add_profile(
     table: &Tree,
 ) -> Result<(), AllocError>
     ensures { OnOk result (Adds firsts.old firsts.new
-        (profile_names list.now (map (λ key. key.now) keys.now) profile.now (tree_view table.now))) }
+        (profile_names list.now (map (λ key. key.now) keys.now) profile.now
+        (tree_view table.now))) }
 {
     let Some(rules) = rules_of(table, list) else {
         return Ok(());
@@ -247,7 +248,8 @@ fn add_profiles(
     profiles: &BTreeMap<String, Tree>,
 ) -> Result<(), AllocError>
     ensures { OnOk result (Adds firsts.old firsts.new
-        (profiles_names list.now (map (λ key. key.now) keys.now) (entries_view profiles.now.entries))) }
+        (profiles_names list.now (map (λ key. key.now) keys.now)
+        (entries_view profiles.now.entries))) }
 {
     for (profile, table) in profiles.iter() {
         add_profile(alloc, firsts, list, keys, profile.as_str(), table)?;

@@ -325,8 +325,8 @@ fn overrides_of(profile: &Tree) -> Option<&[Tree]>
     profile.get("overrides")?.as_array()
 }
 
-/// Leaves out the group that the override at a position of a profile sets, if it is among those with
-/// some marks.
+/// Leaves out the group that the override at a position of a profile sets, if it is among those
+/// with some marks.
 fn leave_out_group(
     alloc: Global,
     edits: &mut Edits,
@@ -421,7 +421,8 @@ pub fn leave_out_groups(
     errors: &[UnknownTestGroupError],
 ) -> Result<(), AllocError>
     ensures { OnOk result (edits_view edits.new ≡ with_edits (edits_view edits.old)
-        (unknown_groups_edits place (option_map (λ tree. tree_view tree.now) tree.entry) errors.now)) }
+        (unknown_groups_edits place (option_map (λ tree. tree_view tree.now) tree.entry)
+        errors.now)) }
 {
     let marks = marks_of(alloc, errors)?;
     match profiles_of(tree) {
