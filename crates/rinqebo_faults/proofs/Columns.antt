@@ -1,6 +1,6 @@
 -- A line from so many characters on.
-use Rattle.std.proofs.Common.{◌≡◌, ◌≢◌, ◌+◌, ◌-◌, ◌<◌, ◌≤◌, ℕ, zero, suc, Bool, true, false, ◌&&◌, List, [], ◌∷◌, ◌++◌, Option, None, Some, MatchOption, Bor, length, take, drop, refl, sym, ap, ◌∙◌, subst, arith, add-zero, zero-add, true≢false, cond, not, ◌||◌, inl, inr, length-append, length-drop, append_assoc}
-use Rattle.std.specs.Prelude.{slice_get, unwrap_or, option_map}
+use Rattle.std.proofs.Common.{◌≡◌, ◌+◌, ◌-◌, ℕ, zero, suc, true, false, List, [], ◌∷◌, ◌++◌, Option, None, Some, Bor, length, take, drop, refl, sym, ap, ◌∙◌, subst, arith, add-zero, zero-add, cond, not, ◌||◌, inl, inr, length-append, length-drop, append_assoc}
+use Rattle.std.specs.Prelude.{slice_get, unwrap_or}
 use Rattle.std.specs.Char.{encode_utf8}
 use Rattle.std.specs.List.{list_any, position_or_len}
 use Rattle.std.specs.Str.{IsCharBoundary, IsUtf8, chars, encode_utf8_all}

@@ -1,6 +1,6 @@
 -- The first naming of a name at one of some keys has the lowest rule.
-use Rattle.std.proofs.Common.{◌≡◌, ◌<◌, ◌≤◌, ℕ, zero, suc, Bool, true, false, List, [], ◌∷◌, Option, None, Some, refl, sym, ap, ◌∙◌, subst, inl, inr, arith, lt-ltb, le-ltb}
-use Rattle.std.specs.Prelude.{fold, slice_get, nat_lt, if◌then◌else◌}
+use Rattle.std.proofs.Common.{◌≡◌, ◌<◌, ◌≤◌, ℕ, zero, suc, List, [], ◌∷◌, Option, None, Some, refl, sym, ap, ◌∙◌, subst, inl, inr, arith, lt-ltb, le-ltb}
+use Rattle.std.specs.Prelude.{fold, slice_get, if◌then◌else◌}
 use Rattle.std.proofs.lemmas.Bool.{cases_lt}
 use Rattle.rinqebo_faults.specs.Namings.{IsFirstAt, IsFirstNaming, earlier, first_naming, naming_of}
 use Rattle.rinqebo_faults.specs.declared.namings.Naming.{Naming}

@@ -1,12 +1,11 @@
 -- The lines of a text that show marks.
-use Rattle.std.proofs.Common.{◌≡◌, ◌<◌, ◌≤◌, ◌+◌, ℕ, zero, suc, Bool, true, false, not, ◌&&◌, List, [], ◌∷◌, ◌++◌, Option, None, Some, length, take, drop, get_or, map, refl, sym, ap, ◌∙◌, subst, arith, append_assoc, append-nil, lt-ltb, inl, inr, length-append, length-take, get_or-take, eq-eqb, eqb-true, true≢false, ◌==◌}
+use Rattle.std.proofs.Common.{◌≡◌, ◌<◌, ◌≤◌, ◌+◌, ℕ, Bool, true, false, not, ◌&&◌, List, [], ◌∷◌, ◌++◌, Option, None, Some, length, take, drop, get_or, map, refl, sym, ap, ◌∙◌, subst, arith, append_assoc, append-nil, lt-ltb, inl, inr, length-append, length-take, get_or-take, eq-eqb, eqb-true, true≢false, ◌==◌}
 use Rattle.std.specs.Prelude.{flat_map, nat_lt, if◌then◌else◌}
 use Rattle.std.specs.Option.{option_to_list}
 use Rattle.std.proofs.Math.Seq.{take-append_seam}
 use Rattle.std.proofs.lemmas.Bool.{cases_lt}
-use Rattle.std.proofs.lemmas.Bool.Decides.{nat_tests}
 use Rattle.std.proofs.lemmas.List.{at_drop_more, drop_all, length-map, take_all}
-use Rattle.rinqebo_faults.specs.Lines.{ShownLine, is_shown, last_shown, line_parts, part_of, parts_from, shown_behind, shown_view, shown_with, span_in}
+use Rattle.rinqebo_faults.specs.Lines.{ShownLine, is_shown, last_shown, line_parts, part_of, shown_behind, shown_view, shown_with, span_in}
 use Rattle.rinqebo_faults.specs.declared.lines.Mark.{Mark}
 use Rattle.rinqebo_report.specs.declared.finding.LinePart.{LinePart}
 use Rattle.rinqebo_report.specs.declared.finding.SourceLine.{SourceLine}

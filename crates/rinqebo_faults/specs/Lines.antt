@@ -1,5 +1,5 @@
 -- The lines of a text that show parts of it.
-use Rattle.std.specs.Prelude.{ℕ, ◌+◌, ◌-◌, ◌==◌, nat_lt, max, min, Bool, not, ◌&&◌, List, [], ◌∷◌, ◌++◌, flat_map, length, take, Option, None, Some, option_map, string_bytes, if◌then◌else◌}
+use Rattle.std.specs.Prelude.{ℕ, ◌+◌, ◌-◌, ◌==◌, nat_lt, max, min, Bool, not, ◌&&◌, List, [], ◌∷◌, ◌++◌, flat_map, length, take, Option, None, Some, string_bytes, if◌then◌else◌}
 use Rattle.std.specs.Char.{is_whitespace}
 use Rattle.std.specs.List.{prefix_len}
 use Rattle.std.specs.Option.{option_to_list}

@@ -2,7 +2,6 @@
 use Rattle.std.specs.Prelude.{◌≡◌, ◌≢◌, ◌<◌, ◌==◌, ℕ, nat_eq, Bool, true, false, not, ◌&&◌, List, ◌++◌, codes, drop, slice_get, Option, None, Some, if◌then◌else◌}
 use Rattle.std.specs.List.{before_first, list_any, starts_with}
 use Rattle.std.specs.Str.{bytes_eq, chars, encode_utf8_all, trim}
-use Rattle.std.specs.Str.Lines.{lines}
 
 -- the reader of TOML says that a line defines what is defined before it
 abbrev pub is_second : List ℕ → Bool

@@ -1,4 +1,4 @@
-use Rattle.std.proofs.Common.{◌≡◌, ◌&&◌, None, ap, sym, lit<}
+use Rattle.std.proofs.Common.{◌&&◌, None, ap, sym, lit<}
 use Rattle.std.specs.Str.{bytes_eq}
 use Rattle.std.proofs.lemmas.Str.Pattern.{split_once_first}
 use Rattle.rinqebo_faults.specs.Meant.{has_key, key_of}

@@ -1,5 +1,5 @@
 -- The first naming by a text is kept.
-use Rattle.std.proofs.Common.{◌≡◌, ◌∙◌, List, ℕ, true, is_some, None, option_map, refl, sym, ap, string_bytes}
+use Rattle.std.proofs.Common.{◌∙◌, is_some, option_map, refl, sym, ap, string_bytes}
 use Rattle.std.specs.BTreeMap.{get_by_text}
 use Rattle.std.specs.Str.{bytes_eq}
 use Rattle.rinqebo_faults.specs.FileNamings.{naming_place, or_place}

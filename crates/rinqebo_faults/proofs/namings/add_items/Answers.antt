@@ -1,4 +1,4 @@
-use Rattle.std.proofs.Common.{◌≡◌, ◌∙◌, ◌+◌, ◌++◌, Some, drop, ap, sym, map}
+use Rattle.std.proofs.Common.{◌∙◌, ◌+◌, ◌++◌, Some, drop, ap, sym}
 use Rattle.std.proofs.lemmas.List.{at_drop_all, at_drop_more}
 use Rattle.nextest_tree.specs.Node.{as_text}
 use Rattle.nextest_tree.specs.View.{nodes_view, tree_view}

@@ -1,6 +1,6 @@
-use Rattle.std.proofs.Common.{drop, List}
+use Rattle.std.proofs.Common.{drop}
 use Rattle.nextest_tree.specs.View.{nodes_view}
-use Rattle.rinqebo_faults.specs.FileNamings.{Adds, RuleName, item_names, naming_place}
+use Rattle.rinqebo_faults.specs.FileNamings.{item_names, naming_place}
 use Rattle.rinqebo_faults.proofs.Named.{Left}
 use Rattle.rinqebo_faults.proofs.namings.add_items.Given as goal
 

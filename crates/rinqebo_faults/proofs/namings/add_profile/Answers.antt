@@ -1,7 +1,7 @@
-use Rattle.std.proofs.Common.{◌≡◌, ◌∙◌, ◌+◌, ◌++◌, drop, ap, sym, map, subst}
+use Rattle.std.proofs.Common.{◌∙◌, ◌+◌, ◌++◌, drop, ap, sym, map, subst}
 use Rattle.std.proofs.lemmas.List.{at_drop_all, at_drop_more}
 use Rattle.nextest_tree.specs.View.{nodes_view, tree_view}
-use Rattle.rinqebo_faults.specs.FileNamings.{Adds, profile_names, rule_names, rules_names}
+use Rattle.rinqebo_faults.specs.FileNamings.{Adds, rule_names, rules_names}
 use Rattle.rinqebo_faults.specs.Repairs.{items_or_none}
 use Rattle.rinqebo_faults.proofs.Named.{left_all, left_more, left_none}
 use Rattle.rinqebo_faults.proofs.namings.add_profile.Goals as goal

@@ -1,4 +1,4 @@
-use Rattle.std.proofs.Common.{◌≡◌, ◌∙◌, ap, sym, map, string_bytes, subst}
+use Rattle.std.proofs.Common.{◌∙◌, ap, map, string_bytes, subst}
 use Rattle.nextest_tree.specs.View.{entries_view, tree_view}
 use Rattle.rinqebo_faults.specs.FileNamings.{profile_names, profiles_names}
 use Rattle.rinqebo_faults.proofs.Named.{Left, left_all, left_more, left_none}

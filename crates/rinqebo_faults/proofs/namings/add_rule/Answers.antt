@@ -1,4 +1,4 @@
-use Rattle.std.proofs.Common.{◌≡◌, ◌∙◌, ◌+◌, ◌++◌, None, drop, ap, sym, map}
+use Rattle.std.proofs.Common.{◌+◌, drop, map}
 use Rattle.std.proofs.lemmas.List.{at_drop_all, at_drop_more}
 use Rattle.nextest_tree.specs.View.{tree_view}
 use Rattle.rinqebo_faults.specs.FileNamings.{rule_names}

@@ -1,9 +1,9 @@
 -- A group is left out where an error names it.
-use Rattle.std.proofs.Common.{◌≡◌, ℕ, Bool, List, None, Some, refl, subst}
-use Rattle.std.specs.Prelude.{OnOk, option_map}
+use Rattle.std.proofs.Common.{◌≡◌, ℕ, Bool, List, refl, subst}
+use Rattle.std.specs.Prelude.{OnOk}
 use Rattle.std.specs.BTreeSet.{contains_text}
 use Rattle.std.specs.List.{list_any}
-use Rattle.nextest_tree.specs.View.{entries_view, tree_view}
+use Rattle.nextest_tree.specs.View.{entries_view}
 use Rattle.rinqebo_faults.specs.Edits.{edits_view, with_edits}
 use Rattle.rinqebo_faults.specs.Repairs.{entries_or_none, names_group, profiles_edits}
 use Rattle.rinqebo_faults.proofs.refusal_repairs.leave_out_groups.Goals as goal

@@ -6,7 +6,7 @@ use Rattle.std.proofs.lemmas.List.Sums.{fold-append}
 use Rattle.nextest_sources.specs.declared.error.scripts.ProfileListScriptUsesRunFiltersError.{ProfileListScriptUsesRunFiltersError}
 use Rattle.nextest_sources.specs.declared.error.scripts.ProfileUnknownScriptError.{ProfileUnknownScriptError}
 use Rattle.nextest_sources.specs.declared.error.scripts.ProfileWrongConfigScriptTypeError.{ProfileWrongConfigScriptTypeError}
-use Rattle.rinqebo_faults.specs.Edits.{Edit, EditsView, edits_view, with_edit, with_edits}
+use Rattle.rinqebo_faults.specs.Edits.{EditsView, edits_view, with_edit, with_edits}
 use Rattle.rinqebo_faults.specs.Repairs.{rules_edit}
 use Rattle.rinqebo_faults.proofs.refusal_repairs.leave_out_script_rules.Goals as goal
 
