@@ -1,5 +1,10 @@
+pub mod Columns
 pub mod FirstChars
+pub mod FirstDefinitions
+pub mod FirstNamings
 pub mod Listing
 pub mod MarkSets
+pub mod Named
 pub mod Numbers
+pub mod ShownLines
 pub mod Suffixes

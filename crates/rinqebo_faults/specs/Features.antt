@@ -1,5 +1,5 @@
 -- Features that are not enabled: what needs them, and how to switch them on.
-use Rattle.std.specs.Prelude.{ℕ, ◌-◌, ◌==◌, nat_eq, List, [], ◌∷◌, ◌++◌, codes, fold, length, map, take, is_some, Option, None, Some, if◌then◌else◌}
+use Rattle.std.specs.Prelude.{ℕ, ◌-◌, ◌==◌, nat_eq, Bool, true, false, List, [], ◌∷◌, ◌++◌, codes, fold, length, map, take, is_some, Option, None, Some, if◌then◌else◌}
 use Rattle.std.specs.List.{ends_with}
 use Rattle.std.specs.Option.{option_and_then}
 use Rattle.nextest_elements.specs.Experimental.{experimental_text}
@@ -57,3 +57,30 @@ quoted_list names = fold with_quoted [] names
 unfoldable pub feature_list : Option Node → List ConfigExperimental → List ℕ
 feature_list listed missing =
     quoted_list (listed_features listed ++ map experimental_text missing)
+
+-- what a command line passes for a feature
+abbrev pub or_pass : List ℕ → List ℕ
+or_pass feature = codes ", or pass `--experimental " ++ (feature ++ codes "`")
+
+-- a value is a table
+abbrev pub is_table : Option Node → Bool
+is_table (Some (Node.table es)) = true
+is_table value = false
+
+-- how to switch on a feature: by a key of the table of features, or by their list
+abbrev pub by_key_or_list : (in_table : Bool) → Option Node → List ℕ → List ConfigExperimental
+    → List ℕ
+by_key_or_list true listed feature missing =
+    codes "write `experimental." ++ (feature ++ (codes " = true`" ++ or_pass feature))
+by_key_or_list false listed feature missing =
+    codes "write `experimental = ["
+    ++ (feature_list listed missing ++ (codes "]`" ++ or_pass feature))
+
+-- how to switch on a feature where a file lists features so
+abbrev pub enabled_by : Option Node → List ℕ → List ConfigExperimental → List ℕ
+enabled_by listed feature missing = by_key_or_list (is_table listed) listed feature missing
+
+-- how to switch on a feature, of several that a file lacks
+abbrev pub feature_help : Option Node → List ℕ → List ConfigExperimental → List ℕ
+feature_help file feature missing =
+    enabled_by (value_at file (codes "experimental")) feature missing

@@ -1,5 +1,5 @@
 -- Where the rules of profiles name groups and scripts.
-use Rattle.std.specs.Prelude.{ℕ, nat_lt, List, [], ◌∷◌, ◌++◌, fold, Option, None, Some, if◌then◌else◌}
+use Rattle.std.specs.Prelude.{◌≡◌, ◌<◌, ◌≤◌, ℕ, nat_lt, List, [], ◌∷◌, ◌++◌, fold, slice_get, Option, None, Some, if◌then◌else◌}
 use Rattle.std.specs.BTreeMap.{get_by_text}
 use Rattle.nextest_places.specs.Spans.Paths.{PathStep}
 use Rattle.nextest_places.specs.Spans.Paths as paths
@@ -42,3 +42,25 @@ abbrev pub naming_path : Namings → (profile : List ℕ) → (keys : List (List
     → List PathStep
 naming_path namings profile keys name =
     profile_path profile namings.list.now ++ naming_steps (first_naming namings profile keys name)
+
+-- The naming of a name at one of some keys whose rule no other one's is lower than: at a key whose
+-- place among the keys is this, and at no earlier key is a naming with the same rule.
+pub record IsFirstAt (namings : Namings) (profile : List ℕ) (keys : List (List ℕ)) (name : List ℕ)
+    (first : Naming) : Type 0 where
+  pub place : ℕ
+  pub key : List ℕ
+  pub is : slice_get keys place ≡ Some key
+  pub there : naming_of namings profile key name ≡ Some first
+  pub none_lower : (at : ℕ) (other : List ℕ) (naming : Naming) → slice_get keys at ≡ Some other
+      → naming_of namings profile other name ≡ Some naming → first.rule ≤ naming.rule
+  pub none_before : (at : ℕ) (other : List ℕ) (naming : Naming) → at < place
+      → slice_get keys at ≡ Some other → naming_of namings profile other name ≡ Some naming
+      → first.rule < naming.rule
+
+-- The first naming of a name at one of some keys, or none where there is none at any of them.
+abbrev pub IsFirstNaming : Namings → (profile : List ℕ) → (keys : List (List ℕ)) → (name : List ℕ)
+    → Option Naming → Type 0
+IsFirstNaming namings profile keys name None =
+    (at : ℕ) (key : List ℕ) → slice_get keys at ≡ Some key
+    → naming_of namings profile key name ≡ None
+IsFirstNaming namings profile keys name (Some first) = IsFirstAt namings profile keys name first

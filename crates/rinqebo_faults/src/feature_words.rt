@@ -2,7 +2,7 @@
 ghost use Rattle.std.specs.Prelude.{◌≡◌, IfOk, OnOk, fold, map, option_map, string_bytes};
 ghost use Rattle.nextest_places.specs.Spans.Paths.{path_step};
 ghost use Rattle.nextest_tree.specs.View.{tree_view};
-ghost use Rattle.rinqebo_faults.specs.Features.{feature_list, feature_path, kind_of_feature, listed_features, value_at, with_quoted};
+ghost use Rattle.rinqebo_faults.specs.Features.{enabled_by, feature_help, feature_list, feature_path, is_table, kind_of_feature, listed_features, value_at, with_quoted};
 
 use nextest_elements::ConfigExperimental;
 use nextest_places::Step;
@@ -94,19 +94,44 @@ fn feature_list(
     Ok(list)
 }
 
-/// How to switch on a feature, of several that are missing in a file.
-pub fn feature_help(
+/// Whether a value is a table.
+fn is_table(value: Option<&Tree>) -> bool
+    ensures { result ≡ is_table (option_map (λ tree. tree_view tree.now) value.entry) }
+{
+    match value {
+        Some(Tree::Table(_)) => true,
+        _ => false,
+    }
+}
+
+/// How to switch on a feature, of several that are missing, where a file lists features so.
+fn enabled_by(
     alloc: Global,
-    tree: Option<&Tree>,
+    listed: Option<&Tree>,
     feature: &str,
     missing: &[ConfigExperimental],
-) -> Result<String, AllocError> {
-    let listed = value_of(tree, "experimental");
-    if let Some(Tree::Table(_)) = listed {
+) -> Result<String, AllocError>
+    ensures { IfOk result (λ help. string_bytes help ≡ enabled_by
+        (option_map (λ tree. tree_view tree.now) listed.entry) feature.now missing.now) }
+{
+    if is_table(listed) {
         return format!(in alloc;
             "write `experimental.{feature} = true`, or pass `--experimental {feature}`"
         );
     }
     let list = feature_list(alloc, listed, missing)?;
     format!(in alloc; "write `experimental = [{list}]`, or pass `--experimental {feature}`")
+}
+
+/// How to switch on a feature, of several that are missing in a file.
+pub fn feature_help(
+    alloc: Global,
+    tree: Option<&Tree>,
+    feature: &str,
+    missing: &[ConfigExperimental],
+) -> Result<String, AllocError>
+    ensures { IfOk result (λ help. string_bytes help ≡ feature_help
+        (option_map (λ tree. tree_view tree.now) tree.entry) feature.now missing.now) }
+{
+    enabled_by(alloc, value_of(tree, "experimental"), feature, missing)
 }

@@ -51,7 +51,7 @@ pub use hints::{names_of, near_hint};
 pub use left_out::{LeftOut, Names};
 pub use lines::{Mark, lines_of};
 pub use meant::{BadLine, LineWords, line_words};
-pub use namings::Namings;
+pub use namings::{Namings, law_first_naming};
 pub use order::in_order;
 pub use paths::{
     parent_path, parted, path_text, path_with, profile_path, script_path, section_path, spelled_in,

@@ -1,5 +1,10 @@
 //! What is wrong with lines that are not TOML, in words: what is there, what is expected, and what
 //! is meant, where that is plain.
+ghost use Rattle.std.specs.Prelude.{◌≡◌, IfOk, option_map, string_bytes};
+ghost use Rattle.std.specs.Option.{option_copied};
+ghost use Rattle.std.specs.Str.Lines.{lines};
+ghost use Rattle.rinqebo_faults.specs.Meant.{IsExpected, IsExpectedBy, IsFirstDefinition, defined, defines, first_behind, from_column, has_key, is_header, is_second, key_of, own_words};
+
 use crate::worded::first_of;
 use crate::words::owned;
 use std::alloc::{AllocError, Global};
@@ -39,20 +44,20 @@ pub struct LineWords {
 
 impl<'t> BadLine<'t> {
     /// The line before the fault, and from there on.
-    fn parted(self) -> (&'t str, &'t str) {
-        match self.line.char_indices().nth(self.column) {
-            Some((at, _)) => (
-                self.line.get(..at).unwrap_or(""),
-                self.line.get(at..).unwrap_or(""),
-            ),
-            None => (self.line, ""),
-        }
+    fn parted(self) -> (&'t str, &'t str)
+        ensures { result.1.now ≡ from_column self.entry.column self.entry.line.now }
+    {
+        parted_at(self.line, self.column)
     }
 
     /// What is expected, as the reader of TOML words it.
-    fn expected(self) -> Option<&'t str> {
-        let (_wrong, expected) = self.reason.split_once(", expected ")?;
-        Some(expected)
+    fn expected(self) -> Option<&'t str>
+        ensures { IsExpectedBy self.entry.reason.now (option_copied result) }
+    {
+        match self.reason.split_once(", expected ") {
+            Some((_wrong, expected)) => Some(expected),
+            None => None,
+        }
     }
 
     /// What is wrong, as the reader of TOML words it.
@@ -63,22 +68,58 @@ impl<'t> BadLine<'t> {
         }
     }
 
+    /// The line from the fault on.
+    fn rest(self) -> &'t str
+        ensures { result.now ≡ from_column self.entry.column self.entry.line.now }
+    {
+        let (_before, rest) = self.parted();
+        rest
+    }
+
     /// Whether the line defines what is defined before it.
-    pub fn is_second(self) -> bool {
+    pub fn is_second(self) -> bool
+        ensures { result ≡ is_second self.entry.reason.now }
+    {
         self.reason == "duplicate key"
     }
 
     /// What the line defines: a header with its brackets, or the key at the fault.
-    pub fn defined(self) -> &'t str {
+    #[tactic(auto, unfolding(crate::specs::Meant::defined))]
+    pub fn defined(self) -> &'t str
+        ensures { result.now ≡ defined self.entry.line.now self.entry.column }
+    {
         let start = self.line.trim();
-        if start.starts_with('[') {
+        if is_header(start) {
             return start;
         }
-        let (_before, rest) = self.parted();
-        match rest.split_once('=') {
-            Some((key, _value)) => key.trim(),
-            None => rest.trim(),
-        }
+        key_of(self.rest())
+    }
+}
+
+/// A line before a column, and from there on.
+fn parted_at(line: &str, column: usize) -> (&str, &str)
+    ensures { result.1.now ≡ from_column column line.now }
+{
+    match line.char_indices().nth(column) {
+        Some((at, _)) => (line.get(..at).unwrap_or(""), line.get(at..).unwrap_or("")),
+        None => (line, ""),
+    }
+}
+
+/// Whether a text without blanks around it begins a table.
+fn is_header(text: &str) -> bool
+    ensures { result ≡ is_header text.now }
+{
+    text.starts_with('[')
+}
+
+/// What is before the first equals sign of a text, or all of it, without the blanks around it.
+fn key_of(text: &str) -> &str
+    ensures { result.now ≡ key_of text.now }
+{
+    match text.split_once('=') {
+        Some((key, _value)) => key.trim(),
+        None => text.trim(),
     }
 }
 
@@ -208,56 +249,91 @@ fn len_there(bad: BadLine<'_>, rest: &str) -> usize {
     word_at(rest).chars().count()
 }
 
-/// What is expected in a line.
-fn wanted<'t>(bad: BadLine<'t>) -> Option<&'t str> {
-    match bad.reason {
+/// What is expected in a line that is not TOML for a reason, where the reader does not say so.
+#[tactic(auto, unfolding(crate::specs::Meant::own_words))]
+fn own_words(reason: &str) -> Option<&'static str>
+    ensures { option_copied result ≡ own_words reason.now }
+{
+    match reason {
         "duplicate key" => Some("one definition"),
         "invalid escape sequence" => Some("an escape of TOML, as `\\\\` for a backslash"),
         "invalid string" => Some("a closing quote on the same line"),
-        _ => bad.expected(),
+        _ => None,
+    }
+}
+
+/// What is expected in a line.
+fn wanted<'t>(bad: BadLine<'t>) -> Option<&'t str>
+    ensures { IsExpected (own_words bad.entry.reason.now) bad.entry.reason.now
+        (option_copied result) }
+{
+    match own_words(bad.reason) {
+        Some(words) => Some(words),
+        None => bad.expected(),
     }
 }
 
 /// What is wrong with a line, in words.
-pub fn line_words(alloc: Global, bad: BadLine<'_>) -> Result<LineWords, AllocError> {
+pub fn line_words(alloc: Global, bad: BadLine<'_>) -> Result<LineWords, AllocError>
+    ensures { IfOk result (λ words. IsExpected (own_words bad.entry.reason.now)
+        bad.entry.reason.now (option_map string_bytes words.expected)) }
+{
     let (_before, rest) = bad.parted();
+    let expected = owned(alloc, wanted(bad))?;
     Ok(LineWords {
         len: len_there(bad, rest),
         message: there(alloc, bad, rest)?,
-        expected: owned(alloc, wanted(bad))?,
+        expected,
         help: line_help(alloc, bad)?,
     })
 }
 
-/// Whether a line defines a key.
-fn defines(line: &str, key: &str) -> bool {
+/// Whether a line without the blanks around it has an equals sign behind a key.
+#[tactic(auto, unfolding(crate::specs::Meant::has_key))]
+fn has_key(line: &str, key: &str) -> bool
+    ensures { result ≡ has_key line.now key.now }
+{
     match line.split_once('=') {
         Some((own, _value)) => own.trim() == key,
         None => false,
     }
 }
 
+/// Whether a line without the blanks around it defines a header or a key.
+#[tactic(auto, unfolding(crate::specs::Meant::defines))]
+fn defines(line: &str, name: &str) -> bool
+    ensures { result ≡ defines line.now name.now }
+{
+    if is_header(name) {
+        return line == name;
+    }
+    !is_header(line) && has_key(line, name)
+}
+
+/// The place of the line that first defines a header or a key, of the one before a line and that of
+/// the line itself, which has no blanks around it.
+fn first_behind(first: Option<usize>, place: usize, line: &str, name: &str) -> Option<usize>
+    ensures { result ≡ first_behind first place line.now name.now }
+{
+    if is_header(line) && !is_header(name) {
+        return None;
+    }
+    match first {
+        None if defines(line, name) => Some(place),
+        first => first,
+    }
+}
+
 /// The place, among the lines of a text before another one, of the one that first defines a header
 /// or a key. A key is defined in the same table.
-pub fn first_definition(text: &str, end: usize, defined: &str) -> Option<usize> {
-    let is_header = defined.starts_with('[');
+pub fn first_definition(text: &str, end: usize, defined: &str) -> Option<usize>
+    ensures { IsFirstDefinition (lines text.now) end defined.now result }
+{
     let mut first = None;
-    for (place, line) in text.lines().enumerate() {
-        if place >= end {
-            return first;
-        }
-        let line = line.trim();
-        if is_header {
-            if line == defined {
-                return Some(place);
-            }
-            continue;
-        }
-        if line.starts_with('[') {
-            first = None;
-        } else if first.is_none() && defines(line, defined) {
-            first = Some(place);
-        }
+    let mut place = 0usize;
+    for line in text.lines().take(end) {
+        first = first_behind(first, place, line.trim(), defined);
+        place = place.saturating_add(1);
     }
     first
 }

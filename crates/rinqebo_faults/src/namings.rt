@@ -1,8 +1,13 @@
 //! Where the rules of profiles name groups and scripts.
-ghost use Rattle.std.specs.Prelude.{◌≡◌, IfOk, string_bytes, ◌++◌, Some, map};
+ghost use Rattle.std.specs.Prelude.{◌≡◌, ℕ, List, IfOk, OnOk, string_bytes, ◌++◌, Some, map, option_map};
+ghost use Rattle.std.specs.Option.{option_and_then};
+ghost use Rattle.nextest_tree.specs.Node.{as_array, as_text, member_of};
+ghost use Rattle.nextest_tree.specs.View.{entries_view, nodes_view, tree_view};
+ghost use Rattle.rinqebo_faults.specs.FileNamings.{Adds, AreNamings, file_names, item_names, name_at, naming_place, one_name, profile_names, profiles_names, rule_names, written_names};
 ghost use Rattle.rinqebo_faults.specs.Repairs.{naming_mark};
 ghost use Rattle.nextest_places.specs.Spans.Paths.{path_step};
-ghost use Rattle.rinqebo_faults.specs.Namings.{earlier, first_naming, naming_of, naming_path, naming_steps};
+ghost use Rattle.rinqebo_faults.specs.declared.namings.Namings.{Namings};
+ghost use Rattle.rinqebo_faults.specs.Namings.{IsFirstNaming, earlier, first_naming, naming_of, naming_path, naming_steps};
 
 use crate::given::profiles_of;
 use crate::paths::profile_path;
@@ -73,6 +78,204 @@ pub struct Namings {
     firsts: BTreeMap<String, Naming>,
 }
 
+/// Adds a naming that is found by a text, unless an earlier one is.
+fn add_first(
+    firsts: &mut BTreeMap<String, Naming>,
+    mark: String,
+    naming: Naming,
+) -> Result<(), AllocError>
+    ensures { OnOk result (Adds firsts.old firsts.new
+        (one_name (string_bytes mark) (naming_place naming))) }
+{
+    if firsts.contains_key(mark.as_str()) {
+        return Ok(());
+    }
+    drop(firsts.insert(mark, naming)?);
+    Ok(())
+}
+
+/// Adds a rule of a profile that has a name, unless an earlier one has it at the same key.
+fn add_name(
+    alloc: Global,
+    firsts: &mut BTreeMap<String, Naming>,
+    profile: &str,
+    name: &str,
+    naming: Naming,
+) -> Result<(), AllocError>
+    ensures { OnOk result (Adds firsts.old firsts.new
+        (name_at profile.now (naming_place naming) (Some name.now))) }
+{
+    let mark = naming_mark(alloc, profile, naming.key, name)?;
+    add_first(firsts, mark, naming)
+}
+
+/// Adds the name that an item of an array at a key of a rule is, if it is one.
+#[tactic(auto, using(crate::proofs::Named::adds_none))]
+fn add_item(
+    alloc: Global,
+    firsts: &mut BTreeMap<String, Naming>,
+    profile: &str,
+    naming: Naming,
+    item: &Tree,
+) -> Result<(), AllocError>
+    ensures { OnOk result (Adds firsts.old firsts.new
+        (name_at profile.now (naming_place naming) (as_text (tree_view item.now)))) }
+{
+    match item.as_str() {
+        Some(name) => add_name(alloc, firsts, profile, name, naming),
+        None => Ok(()),
+    }
+}
+
+/// Adds the names that an array has at a key of a rule.
+fn add_items(
+    alloc: Global,
+    firsts: &mut BTreeMap<String, Naming>,
+    profile: &str,
+    naming: Naming,
+    items: &[Tree],
+) -> Result<(), AllocError>
+    ensures { OnOk result (Adds firsts.old firsts.new
+        (item_names profile.now (naming_place naming) 0 (nodes_view items.now))) }
+{
+    for (place, item) in items.iter().enumerate() {
+        let here = Naming {
+            item: Some(place),
+            ..naming
+        };
+        add_item(alloc, firsts, profile, here, item)?;
+    }
+    Ok(())
+}
+
+/// Adds the names that a rule has at a key: the text there, or those of the array there.
+#[tactic(auto, using(crate::proofs::Named::adds_none))]
+fn add_written(
+    alloc: Global,
+    firsts: &mut BTreeMap<String, Naming>,
+    profile: &str,
+    naming: Naming,
+    written: &Tree,
+) -> Result<(), AllocError>
+    ensures { OnOk result (Adds firsts.old firsts.new
+        (written_names profile.now (naming_place naming) (Some (tree_view written.now)))) }
+{
+    match written {
+        Tree::Text(name) => add_name(alloc, firsts, profile, name.as_str(), naming),
+        Tree::Array(items) => add_items(alloc, firsts, profile, naming, items),
+        Tree::Table(_) | Tree::Int(_) | Tree::Bool(_) | Tree::Opaque => Ok(()),
+    }
+}
+
+/// Adds the names that are at a key of a rule, if the rule has something there.
+#[tactic(auto, using(crate::proofs::Named::adds_none))]
+fn add_key(
+    alloc: Global,
+    firsts: &mut BTreeMap<String, Naming>,
+    profile: &str,
+    naming: Naming,
+    rule: &Tree,
+) -> Result<(), AllocError>
+    ensures { OnOk result (Adds firsts.old firsts.new (written_names profile.now
+        (naming_place naming) (member_of naming.key.now (tree_view rule.now)))) }
+{
+    match rule.get(naming.key) {
+        Some(written) => add_written(alloc, firsts, profile, naming, written),
+        None => Ok(()),
+    }
+}
+
+/// Adds the names that the rule at a position has.
+fn add_rule(
+    alloc: Global,
+    firsts: &mut BTreeMap<String, Naming>,
+    profile: &str,
+    position: usize,
+    rule: &Tree,
+    keys: &[&'static str],
+) -> Result<(), AllocError>
+    ensures { OnOk result (Adds firsts.old firsts.new
+        (rule_names profile.now (map (λ key. key.now) keys.now) position (tree_view rule.now))) }
+{
+    for key in keys {
+        let naming = Naming {
+            key: *key,
+            rule: position,
+            item: None,
+        };
+        add_key(alloc, firsts, profile, naming, rule)?;
+    }
+    Ok(())
+}
+
+/// The rules in a list of a profile.
+fn rules_of<'t>(table: &'t Tree, list: &str) -> Option<&'t [Tree]>
+    ensures { option_map (λ rules. nodes_view rules.now) result
+        ≡ option_and_then as_array (member_of list.now (tree_view table.entry.now)) }
+{
+    table.get(list)?.as_array()
+}
+
+/// Adds the names that the rules in a list of a profile have.
+#[tactic(auto, using(crate::proofs::Named::adds_none))]
+fn add_profile(
+    alloc: Global,
+    firsts: &mut BTreeMap<String, Naming>,
+    list: &'static str,
+    keys: &[&'static str],
+    profile: &str,
+    table: &Tree,
+) -> Result<(), AllocError>
+    ensures { OnOk result (Adds firsts.old firsts.new
+        (profile_names list.now (map (λ key. key.now) keys.now) profile.now
+        (tree_view table.now))) }
+{
+    let Some(rules) = rules_of(table, list) else {
+        return Ok(());
+    };
+    for (position, rule) in rules.iter().enumerate() {
+        add_rule(alloc, firsts, profile, position, rule, keys)?;
+    }
+    Ok(())
+}
+
+/// Adds the names that the rules in a list of each of some profiles have.
+fn add_profiles(
+    alloc: Global,
+    firsts: &mut BTreeMap<String, Naming>,
+    list: &'static str,
+    keys: &[&'static str],
+    profiles: &BTreeMap<String, Tree>,
+) -> Result<(), AllocError>
+    ensures { OnOk result (Adds firsts.old firsts.new
+        (profiles_names list.now (map (λ key. key.now) keys.now)
+        (entries_view profiles.now.entries))) }
+{
+    for (profile, table) in profiles.iter() {
+        add_profile(alloc, firsts, list, keys, profile.as_str(), table)?;
+    }
+    Ok(())
+}
+
+/// Adds the names that the rules in a list of each profile of a file have.
+#[tactic(auto, using(crate::proofs::Named::adds_none))]
+fn add_file(
+    alloc: Global,
+    firsts: &mut BTreeMap<String, Naming>,
+    list: &'static str,
+    keys: &[&'static str],
+    tree: Option<&Tree>,
+) -> Result<(), AllocError>
+    ensures { OnOk result (Adds firsts.old firsts.new
+        (file_names (option_map (λ tree. tree_view tree.now) tree.entry) list.now
+        (map (λ key. key.now) keys.now))) }
+{
+    match profiles_of(tree) {
+        Some(profiles) => add_profiles(alloc, firsts, list, keys, profiles),
+        None => Ok(()),
+    }
+}
+
 impl Namings {
     /// The names that the rules of a list of each profile of a file have at some keys.
     pub fn of(
@@ -80,89 +283,18 @@ impl Namings {
         tree: Option<&Tree>,
         list: &'static str,
         keys: &[&'static str],
-    ) -> Result<Namings, AllocError> {
-        let mut namings = Namings {
+    ) -> Result<Namings, AllocError>
+        ensures { IfOk result (AreNamings list.now (file_names
+            (option_map (λ tree. tree_view tree.now) tree.entry) list.now
+            (map (λ key. key.now) keys.now))) }
+    {
+        let mut firsts = BTreeMap::new(alloc);
+        add_file(alloc, &mut firsts, list, keys, tree)?;
+        Ok(Namings {
             alloc,
             list,
-            firsts: BTreeMap::new(alloc),
-        };
-        if let Some(profiles) = profiles_of(tree) {
-            for (profile, table) in profiles.iter() {
-                namings.add_profile(profile.as_str(), table, keys)?;
-            }
-        }
-        Ok(namings)
-    }
-
-    /// Adds the names that the rules of a profile have.
-    fn add_profile(
-        &mut self,
-        profile: &str,
-        table: &Tree,
-        keys: &[&'static str],
-    ) -> Result<(), AllocError> {
-        let Some(list) = table.get(self.list) else {
-            return Ok(());
-        };
-        let Some(rules) = list.as_array() else {
-            return Ok(());
-        };
-        for (position, rule) in rules.iter().enumerate() {
-            self.add_rule(profile, position, rule, keys)?;
-        }
-        Ok(())
-    }
-
-    /// Adds the names that the rule at a position has.
-    fn add_rule(
-        &mut self,
-        profile: &str,
-        position: usize,
-        rule: &Tree,
-        keys: &[&'static str],
-    ) -> Result<(), AllocError> {
-        for key in keys {
-            if let Some(written) = rule.get(*key) {
-                let naming = Naming {
-                    key: *key,
-                    rule: position,
-                    item: None,
-                };
-                self.add_written(profile, naming, written)?;
-            }
-        }
-        Ok(())
-    }
-
-    /// Adds the names that a rule has at a key: the text there, or those of the array there.
-    fn add_written(
-        &mut self,
-        profile: &str,
-        naming: Naming,
-        written: &Tree,
-    ) -> Result<(), AllocError> {
-        if let Some(name) = written.as_str() {
-            return self.add(profile, name, naming);
-        }
-        let Some(items) = written.as_array() else {
-            return Ok(());
-        };
-        for (place, item) in items.iter().enumerate() {
-            if let Some(name) = item.as_str() {
-                let item = Some(place);
-                self.add(profile, name, Naming { item, ..naming })?;
-            }
-        }
-        Ok(())
-    }
-
-    /// Adds a rule of a profile that has a name, unless an earlier one has it at the same key.
-    fn add(&mut self, profile: &str, name: &str, naming: Naming) -> Result<(), AllocError> {
-        let mark = naming_mark(self.alloc, profile, naming.key, name)?;
-        if !self.firsts.contains_key(mark.as_str()) {
-            drop(self.firsts.insert(mark, naming)?);
-        }
-        Ok(())
+            firsts,
+        })
     }
 
     /// The naming of a name at a key.
@@ -206,3 +338,11 @@ impl Namings {
         }
     }
 }
+
+/// Of the namings of a name at some keys, the first one has the lowest rule, and of those with this
+/// rule the earliest key.
+#[tactic(auto, using(crate::proofs::FirstNamings::is_first))]
+pub fn law_first_naming()
+    ensures { (namings : Namings) (profile : List ℕ) (keys : List (List ℕ)) (name : List ℕ)
+        → IsFirstNaming namings profile keys name (first_naming namings profile keys name) }
+{}

@@ -1,10 +1,13 @@
 //! What files are read without where a later check refuses them.
-ghost use Rattle.std.specs.Prelude.{◌≡◌, [], ◌∷◌, OnOk, codes, flat_map, map, option_map, string_bytes};
+ghost use Rattle.std.specs.Prelude.{◌≡◌, ℕ, List, [], ◌∷◌, IfOk, OnOk, codes, flat_map, map, option_map, string_bytes};
+ghost use Rattle.std.specs.BTreeSet.{contains_text};
+ghost use Rattle.std.specs.List.{list_any};
 ghost use Rattle.std.specs.Option.{option_and_then, option_copied};
-ghost use Rattle.nextest_tree.specs.Node.{as_array, as_table, member_of};
+ghost use Rattle.nextest_tree.specs.Node.{as_array, as_table, keys, member_of};
+ghost use Rattle.nextest_places.specs.Spans.Paths.{path_step};
 ghost use Rattle.nextest_tree.specs.View.{entries_view, nodes_view, tree_view};
-ghost use Rattle.rinqebo_faults.specs.Edits.{edits_view, mark_of, remove, with_edits};
-ghost use Rattle.rinqebo_faults.specs.Repairs.{group_edits, group_of, groups_edits, kind_path, parent_edits, parents_edits, refused_children, script_edits, scripts_edits};
+ghost use Rattle.rinqebo_faults.specs.Edits.{edits_view, mark_of, omit_script, remove, with_edits};
+ghost use Rattle.rinqebo_faults.specs.Repairs.{group_edits, group_of, groups_edits, kind_edits, kind_path, names_group, old_scripts_edits, overrides_edits, overrides_in, parent_edits, parents_edits, profiles_edits, refused_children, rule_edits, rules_edit, script_edits, script_rules_edits, scripts_edits, section_edits, sections_edits, text_edits, unknown_groups_edits};
 
 use crate::edits::Edits;
 use crate::given::profiles_of;
@@ -15,8 +18,9 @@ use nextest_inheritance::InheritsError;
 use nextest_places::Step;
 use nextest_scripts::ScriptId;
 use nextest_sources::{
-    ConfigCompileError, ConfigCompileErrorKind, ConfigCompileSection, ProfileScriptErrors,
-    UnknownTestGroupError,
+    ConfigCompileError, ConfigCompileErrorKind, ConfigCompileSection,
+    ProfileListScriptUsesRunFiltersError, ProfileScriptErrors, ProfileUnknownScriptError,
+    ProfileWrongConfigScriptTypeError, UnknownTestGroupError,
 };
 use nextest_tree::Tree;
 use std::alloc::{AllocError, Global};
@@ -111,18 +115,31 @@ fn old_scripts(tree: Option<&Tree>) -> Option<&BTreeMap<String, Tree>>
     tree?.get("script")?.as_table()
 }
 
+/// Notes that the scripts of a table are left out.
+fn omit_names(edits: &mut Edits, scripts: &BTreeMap<String, Tree>) -> Result<(), AllocError>
+    ensures { OnOk result (edits_view edits.new ≡ with_edits (edits_view edits.old)
+        (map omit_script (keys (entries_view scripts.now.entries)))) }
+{
+    for (name, _script) in scripts.iter() {
+        edits.omit_script(name.as_str())?;
+    }
+    Ok(())
+}
+
 /// Leaves out the old table of scripts of a source.
 pub fn leave_out_old_scripts(
     edits: &mut Edits,
     place: usize,
     tree: Option<&Tree>,
-) -> Result<(), AllocError> {
-    if let Some(scripts) = old_scripts(tree) {
-        for name in scripts.keys() {
-            edits.omit_script(name.as_str())?;
-        }
+) -> Result<(), AllocError>
+    ensures { OnOk result (edits_view edits.new ≡ with_edits (edits_view edits.old)
+        (old_scripts_edits place (option_map (λ tree. tree_view tree.now) tree.entry))) }
+{
+    edits.remove(place, &[Step::Key("script")])?;
+    match old_scripts(tree) {
+        Some(scripts) => omit_names(edits, scripts),
+        None => Ok(()),
     }
-    edits.remove(place, &[Step::Key("script")])
 }
 
 /// Leaves out the parent of a profile, in any source.
@@ -197,23 +214,42 @@ pub fn leave_out_parents(
     Ok(())
 }
 
-/// Reads something in place of what does not compile.
-fn leave_out_section(
+/// Reads a text in place of what is at a key of a section, if that is refused.
+fn replace_key<'p>(
     alloc: Global,
     edits: &mut Edits,
     place: usize,
-    error: &ConfigCompileError,
-) -> Result<(), AllocError> {
-    let section = section_path(alloc, error.profile_name.as_str(), error.section)?;
-    if let ConfigCompileSection::DefaultFilter = error.section {
-        return edits.replace(place, &section, FILTER);
+    section: &[Step<'p>],
+    key: &'p str,
+    text: &'static str,
+    is_refused: bool,
+) -> Result<(), AllocError>
+    ensures { OnOk result (edits_view edits.new ≡ with_edits (edits_view edits.old)
+        (text_edits place (map path_step section.now) key.entry.now text.now is_refused)) }
+{
+    if !is_refused {
+        return Ok(());
     }
-    match &error.kind {
+    edits.replace(place, &path_with(alloc, section, key)?, text)
+}
+
+/// Reads something in place of a section that is refused for some kind of fault.
+fn leave_out_kind_of_section(
+    alloc: Global,
+    edits: &mut Edits,
+    place: usize,
+    section: &[Step<'_>],
+    kind: &ConfigCompileErrorKind,
+) -> Result<(), AllocError>
+    ensures { OnOk result (edits_view edits.new ≡ with_edits (edits_view edits.old)
+        (kind_edits place (map path_step section.now) kind.now)) }
+{
+    match kind {
         ConfigCompileErrorKind::ConstraintsNotSpecified { .. } => {
-            edits.add(place, &section, CONDITION)
+            edits.add(place, section, CONDITION)
         }
         ConfigCompileErrorKind::FilterAndDefaultFilterSpecified => {
-            edits.remove_key(place, &section, "filter")
+            edits.remove_key(place, section, "filter")
         }
         ConfigCompileErrorKind::Parse {
             host_parse_error,
@@ -221,17 +257,39 @@ fn leave_out_section(
             filter_parse_error,
             default_filter_parse_error,
         } => {
-            if host_parse_error.is_some() || target_parse_error.is_some() {
-                edits.replace(place, &path_with(alloc, &section, "platform")?, PLATFORM)?;
-            }
-            if filter_parse_error.is_some() {
-                edits.replace(place, &path_with(alloc, &section, "filter")?, FILTER)?;
-            }
-            if default_filter_parse_error.is_some() {
-                let path = path_with(alloc, &section, "default-filter")?;
-                edits.replace(place, &path, FILTER)?;
-            }
-            Ok(())
+            let platform = host_parse_error.is_some() || target_parse_error.is_some();
+            replace_key(alloc, edits, place, section, "platform", PLATFORM, platform)?;
+            let filter = filter_parse_error.is_some();
+            replace_key(alloc, edits, place, section, "filter", FILTER, filter)?;
+            let default = default_filter_parse_error.is_some();
+            replace_key(
+                alloc,
+                edits,
+                place,
+                section,
+                "default-filter",
+                FILTER,
+                default,
+            )
+        }
+    }
+}
+
+/// Reads something in place of what does not compile.
+fn leave_out_section(
+    alloc: Global,
+    edits: &mut Edits,
+    place: usize,
+    error: &ConfigCompileError,
+) -> Result<(), AllocError>
+    ensures { OnOk result (edits_view edits.new
+        ≡ with_edits (edits_view edits.old) (section_edits place error.now)) }
+{
+    let section = section_path(alloc, error.profile_name.as_str(), error.section)?;
+    match error.section {
+        ConfigCompileSection::DefaultFilter => edits.replace(place, &section, FILTER),
+        ConfigCompileSection::Override(_) | ConfigCompileSection::Script(_) => {
+            leave_out_kind_of_section(alloc, edits, place, &section, &error.kind)
         }
     }
 }
@@ -242,7 +300,10 @@ pub fn leave_out_sections(
     edits: &mut Edits,
     place: usize,
     errors: &[ConfigCompileError],
-) -> Result<(), AllocError> {
+) -> Result<(), AllocError>
+    ensures { OnOk result (edits_view edits.new
+        ≡ with_edits (edits_view edits.old) (sections_edits place errors.now)) }
+{
     for error in errors {
         leave_out_section(alloc, edits, place, error)?;
     }
@@ -264,8 +325,8 @@ fn overrides_of(profile: &Tree) -> Option<&[Tree]>
     profile.get("overrides")?.as_array()
 }
 
-/// Leaves out the group that the override at a position of a profile sets, if it is among those with
-/// some marks.
+/// Leaves out the group that the override at a position of a profile sets, if it is among those
+/// with some marks.
 fn leave_out_group(
     alloc: Global,
     edits: &mut Edits,
@@ -274,7 +335,11 @@ fn leave_out_group(
     index: usize,
     rule: &Tree,
     marks: &BTreeSet<String>,
-) -> Result<(), AllocError> {
+) -> Result<(), AllocError>
+    ensures { OnOk result (edits_view edits.new ≡ with_edits (edits_view edits.old)
+        (rule_edits place (contains_text marks.now) profile.now index
+        (group_of (tree_view rule.now)))) }
+{
     let Some(group) = group_of(rule) else {
         return Ok(());
     };
@@ -300,7 +365,11 @@ fn leave_out_groups_of(
     profile: &str,
     table: &Tree,
     marks: &BTreeSet<String>,
-) -> Result<(), AllocError> {
+) -> Result<(), AllocError>
+    ensures { OnOk result (edits_view edits.new ≡ with_edits (edits_view edits.old)
+        (overrides_edits place (contains_text marks.now) profile.now 0
+        (overrides_in (tree_view table.now)))) }
+{
     let Some(overrides) = overrides_of(table) else {
         return Ok(());
     };
@@ -311,17 +380,36 @@ fn leave_out_groups_of(
 }
 
 /// Returns the marks of groups that no file defines.
-fn marks_of(
-    alloc: Global,
-    errors: &[UnknownTestGroupError],
-) -> Result<BTreeSet<String>, AllocError> {
+fn marks_of(alloc: Global, errors: &[UnknownTestGroupError]) -> Result<BTreeSet<String>, AllocError>
+    ensures { IfOk result (λ marks. (mark : List ℕ)
+        → (contains_text marks mark ≡ list_any (names_group mark) errors.now)) }
+{
     let mut marks = BTreeSet::new(alloc);
     for error in errors {
         let name = error.name.to_string(alloc)?;
         let profile = error.profile_name.as_str();
-        marks.insert(naming_mark(alloc, profile, GROUP_KEY, name.as_str())?)?;
+        let mark = naming_mark(alloc, profile, GROUP_KEY, name.as_str())?;
+        marks.insert(mark)?;
     }
     Ok(marks)
+}
+
+/// Leaves out the groups that overrides of some profiles set and that are among those with some
+/// marks.
+fn leave_out_marked(
+    alloc: Global,
+    edits: &mut Edits,
+    place: usize,
+    profiles: &BTreeMap<String, Tree>,
+    marks: &BTreeSet<String>,
+) -> Result<(), AllocError>
+    ensures { OnOk result (edits_view edits.new ≡ with_edits (edits_view edits.old)
+        (profiles_edits place (contains_text marks.now) (entries_view profiles.now.entries))) }
+{
+    for (name, table) in profiles.iter() {
+        leave_out_groups_of(alloc, edits, place, name.as_str(), table, marks)?;
+    }
+    Ok(())
 }
 
 /// Leaves out groups that overrides set and no file defines.
@@ -331,19 +419,69 @@ pub fn leave_out_groups(
     place: usize,
     tree: Option<&Tree>,
     errors: &[UnknownTestGroupError],
-) -> Result<(), AllocError> {
+) -> Result<(), AllocError>
+    ensures { OnOk result (edits_view edits.new ≡ with_edits (edits_view edits.old)
+        (unknown_groups_edits place (option_map (λ tree. tree_view tree.now) tree.entry)
+        errors.now)) }
+{
     let marks = marks_of(alloc, errors)?;
-    if let Some(profiles) = profiles_of(tree) {
-        for (name, table) in profiles.iter() {
-            leave_out_groups_of(alloc, edits, place, name.as_str(), table, &marks)?;
-        }
+    match profiles_of(tree) {
+        Some(profiles) => leave_out_marked(alloc, edits, place, profiles, &marks),
+        None => Ok(()),
+    }
+}
+
+/// Leaves out the script rules of a profile.
+fn leave_out_rules(edits: &mut Edits, place: usize, profile: &str) -> Result<(), AllocError>
+    ensures { OnOk result (edits_view edits.new
+        ≡ with_edits (edits_view edits.old) (rules_edit place profile.now ∷ [])) }
+{
+    edits.remove(place, &profile_path(profile, "scripts"))
+}
+
+/// Leaves out the script rules of the profiles that errors about unknown scripts name.
+fn leave_out_unknown(
+    edits: &mut Edits,
+    place: usize,
+    errors: &[ProfileUnknownScriptError],
+) -> Result<(), AllocError>
+    ensures { OnOk result (edits_view edits.new ≡ with_edits (edits_view edits.old)
+        (map (rules_edit place) (map (λ error. string_bytes error.profile_name) errors.now))) }
+{
+    for error in errors {
+        leave_out_rules(edits, place, error.profile_name.as_str())?;
     }
     Ok(())
 }
 
-/// Leaves out the script rules of a profile.
-fn leave_out_rules(edits: &mut Edits, place: usize, profile: &str) -> Result<(), AllocError> {
-    edits.remove(place, &profile_path(profile, "scripts"))
+/// Leaves out the script rules of the profiles that errors about kinds of scripts name.
+fn leave_out_wrong(
+    edits: &mut Edits,
+    place: usize,
+    errors: &[ProfileWrongConfigScriptTypeError],
+) -> Result<(), AllocError>
+    ensures { OnOk result (edits_view edits.new ≡ with_edits (edits_view edits.old)
+        (map (rules_edit place) (map (λ error. string_bytes error.profile_name) errors.now))) }
+{
+    for error in errors {
+        leave_out_rules(edits, place, error.profile_name.as_str())?;
+    }
+    Ok(())
+}
+
+/// Leaves out the script rules of the profiles that errors about filters of list wrappers name.
+fn leave_out_filtered(
+    edits: &mut Edits,
+    place: usize,
+    errors: &[ProfileListScriptUsesRunFiltersError],
+) -> Result<(), AllocError>
+    ensures { OnOk result (edits_view edits.new ≡ with_edits (edits_view edits.old)
+        (map (rules_edit place) (map (λ error. string_bytes error.profile_name) errors.now))) }
+{
+    for error in errors {
+        leave_out_rules(edits, place, error.profile_name.as_str())?;
+    }
+    Ok(())
 }
 
 /// Leaves out the script rules of the profiles in which a rule names a script that it may not.
@@ -351,15 +489,11 @@ pub fn leave_out_script_rules(
     edits: &mut Edits,
     place: usize,
     errors: &ProfileScriptErrors,
-) -> Result<(), AllocError> {
-    for error in &errors.unknown_scripts {
-        leave_out_rules(edits, place, error.profile_name.as_str())?;
-    }
-    for error in &errors.wrong_script_types {
-        leave_out_rules(edits, place, error.profile_name.as_str())?;
-    }
-    for error in &errors.list_scripts_using_run_filters {
-        leave_out_rules(edits, place, error.profile_name.as_str())?;
-    }
-    Ok(())
+) -> Result<(), AllocError>
+    ensures { OnOk result (edits_view edits.new
+        ≡ with_edits (edits_view edits.old) (script_rules_edits place errors.now)) }
+{
+    leave_out_unknown(edits, place, &errors.unknown_scripts)?;
+    leave_out_wrong(edits, place, &errors.wrong_script_types)?;
+    leave_out_filtered(edits, place, &errors.list_scripts_using_run_filters)
 }

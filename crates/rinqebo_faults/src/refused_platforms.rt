@@ -1,5 +1,8 @@
 //! What is wrong with platforms that are refused, in words: the part that is at fault, what is
 //! expected there, and what to do.
+ghost use Rattle.std.specs.Prelude.{◌≡◌, IfOk, option_map};
+ghost use Rattle.rinqebo_faults.specs.Platforms.{HasPairWords, first_byte, is_open, pair_words};
+
 use crate::hints::near_hint;
 use crate::worded::{Stopped, Worded};
 use crate::words::{owned, quoted};
@@ -88,7 +91,9 @@ fn count_parts(function: &str) -> usize {
 }
 
 /// The place of the first character of the part at fault, which has one byte.
-fn first_byte(stopped: Stopped<'_>) -> (usize, usize) {
+fn first_byte(stopped: Stopped<'_>) -> (usize, usize)
+    ensures { result ≡ first_byte stopped.entry.start }
+{
     (stopped.start, stopped.start.saturating_add(1))
 }
 
@@ -180,9 +185,21 @@ fn unexpected(alloc: Global, stopped: Stopped<'_>) -> Result<Option<Worded>, All
     Ok(Some(Worded::of(alloc, place, message, expected)?))
 }
 
+/// Whether a text begins an expression and does not end it.
+#[tactic(auto, using(std::proofs::lemmas::Str::Pattern::starts_text, std::proofs::lemmas::Str::Pattern::ends_text), unfolding(crate::specs::Platforms::is_open))]
+fn is_open(text: &str) -> bool
+    ensures { result ≡ is_open text.now }
+{
+    text.starts_with("cfg(") && !text.ends_with(")")
+}
+
 /// What is wrong with parentheses or quotes, and what is expected, by what a reader says.
-fn pair_words(stopped: Stopped<'_>) -> Option<(&'static str, &'static str)> {
-    if stopped.text.starts_with("cfg(") && !stopped.text.ends_with(')') {
+#[tactic(auto, unfolding(crate::specs::Platforms::pair_words))]
+fn pair_words(stopped: Stopped<'_>) -> Option<(&'static str, &'static str)>
+    ensures { option_map (λ words. (words.0.now, words.1.now)) result
+        ≡ pair_words stopped.entry.text.now stopped.entry.label.now }
+{
+    if is_open(stopped.text) {
         return Some(("`(` is not closed", "a closing `)`"));
     }
     match stopped.label {
@@ -265,7 +282,10 @@ fn platform_meant(text: &str) -> Option<&'static str> {
 
 /// What is wrong with a platform of which a reader says so, in words, where these are plainer than
 /// the reader's.
-fn plain_words(alloc: Global, stopped: Stopped<'_>) -> Result<Option<Worded>, AllocError> {
+fn plain_words(alloc: Global, stopped: Stopped<'_>) -> Result<Option<Worded>, AllocError>
+    ensures { IfOk result (λ words. HasPairWords
+        (pair_words stopped.entry.text.now stopped.entry.label.now) stopped.entry.start words) }
+{
     let place = (stopped.start, stopped.end);
     let worded = if let Some((message, expected)) = pair_words(stopped) {
         Worded::plain(alloc, first_byte(stopped), message, expected)
@@ -283,7 +303,10 @@ fn plain_words(alloc: Global, stopped: Stopped<'_>) -> Result<Option<Worded>, Al
 
 /// What is wrong with a platform of which a reader says so, in words. There are none for what the
 /// reader words well.
-pub fn platform_words(alloc: Global, stopped: Stopped<'_>) -> Result<Option<Worded>, AllocError> {
+pub fn platform_words(alloc: Global, stopped: Stopped<'_>) -> Result<Option<Worded>, AllocError>
+    ensures { IfOk result (λ words. HasPairWords
+        (pair_words stopped.entry.text.now stopped.entry.label.now) stopped.entry.start words) }
+{
     let Some(worded) = plain_words(alloc, stopped)? else {
         return Ok(None);
     };

@@ -1,10 +1,13 @@
 //! Lines of texts that are not TOML: where they are at fault, and which ones are shown.
-ghost use Rattle.std.specs.Prelude.{◌≡◌, IfOk, OnOk, option_map, slice_get, string_bytes};
+ghost use Rattle.std.specs.Prelude.{◌≡◌, IfOk, OnOk, map, option_map, slice_get, string_bytes};
 ghost use Rattle.std.specs.Str.Lines.{lines};
 ghost use Rattle.std.specs.Option.{option_copied};
+ghost use Rattle.rinqebo_faults.specs.FirstLines.{IsEarlier, first_and_fault, line_range, lines_with_first};
+ghost use Rattle.rinqebo_faults.specs.Lines.{shown_view};
+ghost use Rattle.rinqebo_faults.specs.Meant.{defined, is_second};
 ghost use Rattle.rinqebo_faults.specs.TomlLines.{first_note, from_one, line_at, on_one_line, range_from, start_of, with_line};
 
-use crate::lines::{Mark, indent_of, lines_of};
+use crate::lines::{Mark, char_count, indent_of, lines_of};
 use crate::meant::{BadLine, first_definition};
 use nextest_places::TextPosition;
 use rinqebo_report::{Position, Range, Sign, SourceLine};
@@ -79,12 +82,30 @@ pub fn start_of(position: TextPosition) -> Position
 }
 
 /// The range of a line, from 0, without the blanks around it.
-fn line_range(line: &str, place: usize) -> Range {
+fn line_range(line: &str, place: usize) -> Range
+    ensures { result ≡ line_range line.now place }
+{
     let start = Position {
         line: from_one(place),
         column: from_one(indent_of(line)),
     };
-    range_from(start, line.trim().chars().count())
+    range_from(start, char_count(line.trim()))
+}
+
+/// The marks of the line that is first, and of a fault.
+fn first_and_fault(first: Range, fault: Range) -> [Mark; 2]
+    ensures { result ≡ first_and_fault first fault }
+{
+    [
+        Mark {
+            sign: Sign::Related,
+            range: first,
+        },
+        Mark {
+            sign: Sign::Fault,
+            range: fault,
+        },
+    ]
 }
 
 /// The lines of a text that show a range and the line, from 0, that first defines what it does, if
@@ -94,22 +115,19 @@ pub fn lines_with_first(
     text: &str,
     fault: Range,
     first: Option<usize>,
-) -> Result<Vec<SourceLine>, AllocError> {
+) -> Result<Vec<SourceLine>, AllocError>
+    ensures { IfOk result (λ shown. map shown_view shown.items
+        ≡ lines_with_first text.now fault first) }
+{
     let Some(first) = first else {
         return Ok(Vec::new(alloc));
     };
     let line = line_at(Some(text), first).unwrap_or("");
-    let marks = [
-        Mark {
-            sign: Sign::Related,
-            range: line_range(line, first),
-        },
-        Mark {
-            sign: Sign::Fault,
-            range: fault,
-        },
-    ];
-    lines_of(alloc, text, &marks)
+    lines_of(
+        alloc,
+        text,
+        &first_and_fault(line_range(line, first), fault),
+    )
 }
 
 /// The note that names the line, from 0, that first defines what another one does.
@@ -126,7 +144,10 @@ pub fn first_note(alloc: Global, first: Option<usize>) -> Result<Option<String>,
 }
 
 /// The line, from 0, that first defines what the line of a text at a position defines, if one does.
-pub fn earlier_definition(text: &str, position: TextPosition, bad: BadLine<'_>) -> Option<usize> {
+pub fn earlier_definition(text: &str, position: TextPosition, bad: BadLine<'_>) -> Option<usize>
+    ensures { IsEarlier (lines text.now) position.line (is_second bad.entry.reason.now)
+        (defined bad.entry.line.now bad.entry.column) result }
+{
     if !bad.is_second() {
         return None;
     }
