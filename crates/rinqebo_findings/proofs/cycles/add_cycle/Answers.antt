@@ -16,8 +16,8 @@ returns-in-Some c =
     (adds_same source.layers.now source.position _ _ _ _ (ap (λ (fault : LaterFault). fault ∷ []) same))
     c.add_cycle_at.ensures
 
-pub returns-in-None : goal.returns-in-None
-returns-in-None c =
+pub returns : goal.returns
+returns c =
     let source = c.args.refused.now.source in
     on_ok_weaker c.add_whole.result
     (adds_same source.layers.now source.position _ _ _ _

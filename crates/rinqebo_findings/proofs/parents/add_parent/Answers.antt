@@ -29,8 +29,8 @@ returns-in-UnknownInheritance c =
     (parent_fault UnknownParent profile ∷ []) c.args.findings.now.items c.add_unknown_parent.new.findings.items))
     c.as_str-profile.ensures.value c.add_unknown_parent.ensures)
 
-pub returns-in-InheritanceCycle : goal.returns-in-InheritanceCycle
-returns-in-InheritanceCycle c =
+pub returns : goal.returns
+returns c =
     let source = c.args.refused.now.source in
     rw c.in-InheritanceCycle.is (subst
     (λ cycles. OnOk c.add_cycles.result (AddsLater source.layers.now source.position (cycle_faults cycles)

@@ -13,7 +13,7 @@ returns c =
     let keys = codes "list-wrapper" ∷ [] in
     adds_at source.layers.now source.position parts.Value ListWrapperFilter _ _ _ _
     (ap (map path_step) c.deref.ensures.value ∙ c.in_ok-path.ensures
-    ∙ ap (λ (p : List ℕ). naming_path c.args.namings.now p keys _) c.as_str-profile.ensures.value
+    ∙ ap (λ (p : List ℕ). naming_path c.args.namings.now p keys c.as_str-name.result.now) c.as_str-profile.ensures.value
     ∙ ap (λ (n : List ℕ). naming_path c.args.namings.now profile keys n)
     (c.as_str-name.ensures.value ∙ c.in_ok-id.ensures.ok))
     c.in_ok-add_value.ensures

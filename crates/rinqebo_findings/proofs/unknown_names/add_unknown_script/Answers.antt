@@ -34,6 +34,6 @@ returns c =
     (kept names name (name_fault UnknownScript c.args.namings.now profile script_uses name) is)
     (adds_at source.layers.now source.position parts.Value UnknownScript _ _ _ _
     (ap (map path_step) c.deref.ensures.value ∙ c.in_ok-path.ensures
-    ∙ ap (λ (p : List ℕ). naming_path c.args.namings.now p script_uses _) c.as_str-profile.ensures.value
+    ∙ ap (λ (p : List ℕ). naming_path c.args.namings.now p script_uses c.as_str-name.result.now) c.as_str-profile.ensures.value
     ∙ ap (λ (n : List ℕ). naming_path c.args.namings.now profile script_uses n) (c.as_str-name.ensures.value ∙ c.in_ok-id.ensures.ok))
     c.in_ok-add_unknown.ensures)

@@ -38,8 +38,8 @@ returns c =
     (kept names name (name_fault WrongScriptKind c.args.namings.now profile (key ∷ []) name) is)
     (adds_at source.layers.now source.position parts.Value WrongScriptKind _ _ _ _
     (ap (map path_step) c.deref.ensures.value ∙ c.in_ok-path.ensures
-    ∙ ap (λ (p : List ℕ). naming_path c.args.namings.now p _ _) c.as_str-profile.ensures.value
-    ∙ ap (λ (k : List ℕ). naming_path c.args.namings.now profile (k ∷ []) _)
+    ∙ ap (λ (p : List ℕ). naming_path c.args.namings.now p (c.as_str-key.result.now ∷ []) c.as_str-name.result.now) c.as_str-profile.ensures.value
+    ∙ ap (λ (k : List ℕ). naming_path c.args.namings.now profile (k ∷ []) c.as_str-name.result.now)
     (c.as_str-key.ensures.value ∙ c.in_ok-attempted.ensures.ok)
     ∙ ap (λ (n : List ℕ). naming_path c.args.namings.now profile (key ∷ []) n)
     (c.as_str-name.ensures.value ∙ c.in_ok-id.ensures.ok))
