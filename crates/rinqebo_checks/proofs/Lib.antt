@@ -1,3 +1,4 @@
+pub mod Compiling
 pub mod Joining
 pub mod Loads
 pub mod Reporting

@@ -1,4 +1,9 @@
 //! Findings of a refused configuration: one for each thing that is wrong.
+ghost use Rattle.std.specs.Prelude.{[], ◌∷◌, IfOk, OnOk};
+ghost use Rattle.rinqebo_findings.specs.Compile.{compile_fault, compile_faults, section_code, section_fault};
+ghost use Rattle.rinqebo_findings.specs.Later.{AddsLater, document_at, of_file};
+ghost use Rattle.rinqebo_checks.specs.Refusals.{AddsRefusal, outcome_faults, two_tables};
+
 use nextest_elements::{IdentifierOwner, ToolName};
 use nextest_places::Step;
 use nextest_sources::{
@@ -16,20 +21,34 @@ use rinqebo_request::{Layer, SpanPart, place_at};
 use std::alloc::{AllocError, Global};
 
 /// The result of reading a file.
-fn add_outcome(refused: &mut Refused<'_, '_>, outcome: &ReadOutcome) -> Result<(), AllocError> {
+fn add_outcome(
+    refused: &Refused<'_, '_>,
+    findings: &mut Vec<Finding>,
+    outcome: &ReadOutcome,
+) -> Result<(), AllocError>
+    ensures { OnOk result (AddsLater refused.now.source.layers.now refused.now.source.position
+        (outcome_faults outcome.now) findings.old.items findings.new.items) }
+{
     match outcome {
         ReadOutcome::Text(_) => Ok(()),
-        ReadOutcome::NotFound => refused.add_whole(Code::UnreadableFile, "no such file"),
+        ReadOutcome::NotFound => refused.add_whole(findings, Code::UnreadableFile, "no such file"),
         ReadOutcome::NotADirectory => refused.add_whole(
+            findings,
             Code::UnreadableFile,
             "a part of its path is no directory",
         ),
-        ReadOutcome::Failed(message) => refused.add_whole(Code::UnreadableFile, message.as_str()),
+        ReadOutcome::Failed(message) => refused.add_whole(
+            findings,
+            Code::UnreadableFile,
+            message.as_str(),
+        ),
     }
 }
 
 /// The code of what is wrong with a whole section.
-fn section_code(kind: &ConfigCompileErrorKind) -> Code {
+fn section_code(kind: &ConfigCompileErrorKind) -> Code
+    ensures { result ≡ section_code kind.now }
+{
     match kind {
         ConfigCompileErrorKind::ConstraintsNotSpecified { .. } => Code::RuleWithoutCondition,
         ConfigCompileErrorKind::FilterAndDefaultFilterSpecified => Code::TwoFilters,
@@ -37,42 +56,71 @@ fn section_code(kind: &ConfigCompileErrorKind) -> Code {
     }
 }
 
-/// What does not compile: each text that is refused, or else the whole section.
-fn add_compile(
-    refused: &mut Refused<'_, '_>,
+/// Adds that a whole section does not compile.
+fn add_section(
+    refused: &Refused<'_, '_>,
+    findings: &mut Vec<Finding>,
     error: &ConfigCompileError,
-) -> Result<(), AllocError> {
+) -> Result<(), AllocError>
+    ensures { OnOk result (AddsLater refused.now.source.layers.now refused.now.source.position
+        (section_fault error.now ∷ []) findings.old.items findings.new.items) }
+{
     let alloc = refused.alloc;
     let profile = error.profile_name.as_str();
-    let section = error.section;
-    let told = refused.findings.len();
-    add_refused_texts(refused, error)?;
-    if refused.findings.len() > told {
-        return Ok(());
-    }
-    let path = section_path(alloc, profile, section)?;
+    let path = section_path(alloc, profile, error.section)?;
     let wrong = error.kind.to_string(alloc)?;
     let code = section_code(&error.kind);
-    refused.add_fault(code, &path, SpanPart::Value, wrong.as_str(), None, None)
+    let part = SpanPart::Value;
+    refused.add_fault(findings, code, &path, part, wrong.as_str(), None, None)?;
+    Ok(())
+}
+
+/// What does not compile: each text that is refused, or else the whole section.
+fn add_compile(
+    refused: &Refused<'_, '_>,
+    findings: &mut Vec<Finding>,
+    error: &ConfigCompileError,
+) -> Result<(), AllocError>
+    ensures { let layers = refused.now.source.layers.now in
+        let position = refused.now.source.position in
+        OnOk result (AddsLater layers position
+        (compile_fault (document_at layers position) error.now) findings.old.items
+        findings.new.items) }
+{
+    let before = findings.len();
+    add_refused_texts(refused, findings, error)?;
+    if findings.len() > before {
+        return Ok(());
+    }
+    add_section(refused, findings, error)?;
+    Ok(())
 }
 
 /// A second file of a tool.
 fn add_second_file(
-    refused: &mut Refused<'_, '_>,
+    refused: &Refused<'_, '_>,
+    findings: &mut Vec<Finding>,
     tool: &ToolName,
     first: &ConfigPath,
-) -> Result<(), AllocError> {
+) -> Result<(), AllocError>
+    ensures { OnOk result (AddsLater refused.now.source.layers.now refused.now.source.position
+        (of_file Code.SecondToolFile ∷ []) findings.old.items findings.new.items) }
+{
     let wrong = format!(in refused.alloc; "the tool `{tool}` provides `{first}`, too")?;
-    refused.add_whole(Code::SecondToolFile, wrong.as_str())
+    refused.add_whole(findings, Code::SecondToolFile, wrong.as_str())
 }
 
 /// Scripts under the old key and under the new one.
-fn add_both_keys(refused: &mut Refused<'_, '_>) -> Result<(), AllocError> {
+fn add_both_keys(refused: &Refused<'_, '_>, findings: &mut Vec<Finding>) -> Result<(), AllocError>
+    ensures { OnOk result (AddsLater refused.now.source.layers.now refused.now.source.position
+        (two_tables ∷ []) findings.old.items findings.new.items) }
+{
     let alloc = refused.alloc;
     let help = String::from_str(alloc, "move the scripts of `script` to `scripts.setup`")?;
     let wrong = "there are `scripts` and its old form, `script`";
     let path = [Step::Key("scripts")];
     refused.add_fault(
+        findings,
         Code::TwoScriptTables,
         &path,
         SpanPart::Key,
@@ -84,11 +132,18 @@ fn add_both_keys(refused: &mut Refused<'_, '_>) -> Result<(), AllocError> {
 
 /// Filters and platforms that do not compile.
 fn add_compiles(
-    refused: &mut Refused<'_, '_>,
+    refused: &Refused<'_, '_>,
+    findings: &mut Vec<Finding>,
     errors: &[ConfigCompileError],
-) -> Result<(), AllocError> {
+) -> Result<(), AllocError>
+    ensures { let layers = refused.now.source.layers.now in
+        let position = refused.now.source.position in
+        OnOk result (AddsLater layers position
+        (compile_faults (document_at layers position) errors.now) findings.old.items
+        findings.new.items) }
+{
     for error in errors {
-        add_compile(refused, error)?;
+        add_compile(refused, findings, error)?;
     }
     Ok(())
 }
@@ -98,41 +153,52 @@ fn add_compiles(
 /// # Errors
 ///
 /// [`AllocError`] where memory runs out, now or in the load.
-fn add_kind(refused: &mut Refused<'_, '_>, kind: &ConfigParseErrorKind) -> Result<(), AllocError> {
+fn add_kind(
+    refused: &Refused<'_, '_>,
+    findings: &mut Vec<Finding>,
+    kind: &ConfigParseErrorKind,
+) -> Result<(), AllocError>
+    ensures { OnOk result (AddsRefusal refused.now.source.layers.now refused.now.source.position
+        refused.now.left_out.now kind.now findings.old.items findings.new.items) }
+{
     match kind {
         ConfigParseErrorKind::DuplicateToolConfigFile { tool, first } => {
-            add_second_file(refused, tool, first)
+            add_second_file(refused, findings, tool, first)
         }
-        ConfigParseErrorKind::ReadError(outcome) => add_outcome(refused, outcome),
-        ConfigParseErrorKind::BuildError(message) => add_no_document(refused, message.as_str()),
-        ConfigParseErrorKind::DeserializeError(fault) => add_element(refused, fault),
-        ConfigParseErrorKind::BothScriptAndScriptsDefined => add_both_keys(refused),
+        ConfigParseErrorKind::ReadError(outcome) => add_outcome(refused, findings, outcome),
+        ConfigParseErrorKind::BuildError(message) => add_no_document(
+            refused,
+            findings,
+            message.as_str(),
+        ),
+        ConfigParseErrorKind::DeserializeError(fault) => add_element(refused, findings, fault),
+        ConfigParseErrorKind::BothScriptAndScriptsDefined => add_both_keys(refused, findings),
         ConfigParseErrorKind::ExperimentalFeaturesNotEnabled { missing_features } => {
-            add_features(refused, missing_features)
+            add_features(refused, findings, missing_features)
         }
         ConfigParseErrorKind::InvalidTestGroupsDefined(groups)
         | ConfigParseErrorKind::InvalidTestGroupsDefinedByTool(groups)
         | ConfigParseErrorKind::InvalidTestGroupsDefinedByOrganisation(groups) => {
-            add_groups(refused, groups)
+            add_groups(refused, findings, groups)
         }
         ConfigParseErrorKind::DuplicateConfigScriptNames(ids) => {
-            add_scripts(refused, ids, ScriptFault::Twice)
+            add_scripts(refused, findings, ids, ScriptFault::Twice)
         }
         ConfigParseErrorKind::InvalidConfigScriptsDefined(ids)
         | ConfigParseErrorKind::InvalidConfigScriptsDefinedByTool(ids)
         | ConfigParseErrorKind::InvalidConfigScriptsDefinedByOrganisation(ids) => {
-            add_scripts(refused, ids, ScriptFault::Foreign)
+            add_scripts(refused, findings, ids, ScriptFault::Foreign)
         }
-        ConfigParseErrorKind::InheritanceErrors(errors) => add_parents(refused, errors),
-        ConfigParseErrorKind::CompileErrors(errors) => add_compiles(refused, errors),
+        ConfigParseErrorKind::InheritanceErrors(errors) => add_parents(refused, findings, errors),
+        ConfigParseErrorKind::CompileErrors(errors) => add_compiles(refused, findings, errors),
         ConfigParseErrorKind::UnknownTestGroups {
             errors,
             known_groups,
-        } => add_unknown_groups(refused, errors, known_groups),
+        } => add_unknown_groups(refused, findings, errors, known_groups),
         ConfigParseErrorKind::ProfileScriptErrors {
             errors,
             known_scripts,
-        } => add_script_errors(refused, errors, known_scripts),
+        } => add_script_errors(refused, findings, errors, known_scripts),
         ConfigParseErrorKind::Memory => Err(AllocError),
     }
 }
@@ -151,20 +217,24 @@ pub fn refused_place(layers: &[Layer], error: &ConfigParseError) -> Option<usize
     place_at(layers, refused_owner(error), error.config_file()?)
 }
 
-/// Returns the findings of a refusal of files without what is left out.
+/// Returns the findings of a refusal of files without what is left out: those of the source at a
+/// place among the layers, if it is known.
 pub fn refusal_findings(
     alloc: Global,
     session: &Session<'_>,
+    position: Option<usize>,
     error: &ConfigParseError,
     left_out: &LeftOut,
-) -> Result<Vec<Finding>, AllocError> {
-    let position = refused_place(&session.layers, error);
+) -> Result<Vec<Finding>, AllocError>
+    ensures { IfOk result (λ findings. AddsRefusal session.now.layers.items position
+        left_out.now error.now.kind [] findings.items) }
+{
     let text = match position {
         Some(position) => text_of(session.gathered, position),
         None => None,
     };
     let mut findings = Vec::new(alloc);
-    let mut refused = Refused {
+    let refused = Refused {
         alloc,
         source: SourceAt {
             layers: &session.layers,
@@ -173,8 +243,7 @@ pub fn refusal_findings(
         text,
         upstream: error.kind().name(),
         left_out,
-        findings: &mut findings,
     };
-    add_kind(&mut refused, error.kind())?;
+    add_kind(&refused, &mut findings, error.kind())?;
     Ok(findings)
 }

@@ -116,7 +116,8 @@ impl<'s, 'g> Search<'s, 'g> {
     /// Adds what a refusal says.
     fn add(&mut self, error: &ConfigParseError) -> Result<(), AllocError> {
         let left_out = &self.reading.edits.left_out;
-        let mut found = refusal_findings(self.alloc, self.session, error, left_out)?;
+        let place = refused_place(&self.session.layers, error);
+        let mut found = refusal_findings(self.alloc, self.session, place, error, left_out)?;
         self.findings.append(&mut found)?;
         Ok(())
     }

@@ -207,7 +207,6 @@ fn finding_of(
     ensures { IfOk result (IsFindingOf session.now.layers.items source fault.now) }
 {
     let left_out = LeftOut::new(alloc);
-    let mut none = Vec::new(alloc);
     let refused = Refused {
         alloc,
         source: SourceAt {
@@ -217,7 +216,6 @@ fn finding_of(
         text: text_of(session.gathered, source),
         upstream: REFUSED_VALUE,
         left_out: &left_out,
-        findings: &mut none,
     };
     fault_finding(&refused, &fault.fault.cause, &fault.fault.path, fault.stray)
 }

@@ -1,1 +1,6 @@
+pub mod Each
+pub mod InCycles
+pub mod Later
+pub mod LeftOut
 pub mod Values
+pub mod Warned

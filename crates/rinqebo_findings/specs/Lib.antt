@@ -1,3 +1,9 @@
+pub mod Compile
+pub mod Each
+pub mod Files
+pub mod Later
 pub mod Placed
 pub mod Shown
+pub mod Sources
 pub mod Subjects
+pub mod Warnings

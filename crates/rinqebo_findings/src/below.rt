@@ -1,4 +1,8 @@
 //! What a lower file makes of a table that lacks a key.
+ghost use Rattle.std.specs.Prelude.{◌≡◌};
+ghost use Rattle.std.specs.Option.{option_copied};
+ghost use Rattle.rinqebo_findings.specs.Sources.{file_at};
+
 use crate::findings::SourceAt;
 use nextest_places::Step;
 use nextest_tree::Tree;
@@ -26,7 +30,9 @@ fn lower<'l>(
 }
 
 /// The path of the file of a layer, if it is one.
-pub fn file_at<'l>(layers: &'l [Layer<'_>], place: usize) -> Option<&'l str> {
+pub fn file_at<'l>(layers: &'l [Layer<'_>], place: usize) -> Option<&'l str>
+    ensures { option_copied result ≡ file_at layers.now place }
+{
     match &layers.get(place)?.source.path {
         Some(path) => Some(path.as_str()),
         None => None,

@@ -1,8 +1,11 @@
 //! The findings of profiles that inherit in a cycle.
+ghost use Rattle.std.specs.Prelude.{◌∷◌, [], OnOk, map, string_bytes};
+ghost use Rattle.rinqebo_findings.specs.Later.{AddsLater, cycle_fault, parent_fault};
+
 use crate::below::file_at;
 use crate::refused::Refused;
 use rinqebo_faults::{Mark, lines_of, parent_path};
-use rinqebo_report::{Code, FileLines, FilePlace, Sign, SourceLine};
+use rinqebo_report::{Code, FileLines, FilePlace, Finding, Sign, SourceLine};
 use std::alloc::{AllocError, Global};
 
 /// The place at which a profile names its parent.
@@ -99,16 +102,37 @@ fn cycle_lines(
     }
 }
 
-/// Adds that profiles inherit in a cycle: at the parent of the first one.
-pub fn add_cycle(refused: &mut Refused<'_, '_>, cycle: &[String]) -> Result<(), AllocError> {
-    let alloc = refused.alloc;
-    let words = cycle_words(alloc, refused, cycle)?;
-    let Some(first) = cycle.first() else {
-        return refused.add_whole(Code::InheritanceCycle, words.as_str());
-    };
-    let path = parent_path(first.as_str());
+/// Adds that profiles inherit in a cycle, in words: at the parent of the first one.
+fn add_cycle_at(
+    refused: &Refused<'_, '_>,
+    findings: &mut Vec<Finding>,
+    first: &str,
+    cycle: &[String],
+    words: &str,
+) -> Result<(), AllocError>
+    ensures { OnOk result (AddsLater refused.now.source.layers.now refused.now.source.position
+        (parent_fault Code.InheritanceCycle first.now ∷ []) findings.old.items findings.new.items) }
+{
+    let path = parent_path(first);
     let lines = cycle_lines(refused, refused.place_at(&path), cycle)?;
-    let mut found = refused.at(Code::InheritanceCycle, &path, words.as_str())?;
+    let mut found = refused.at(Code::InheritanceCycle, &path, words)?;
     found.lines = lines;
-    refused.add_finding(found)
+    refused.add_finding(findings, found)?;
+    Ok(())
+}
+
+/// Adds that profiles inherit in a cycle.
+pub fn add_cycle(
+    refused: &Refused<'_, '_>,
+    findings: &mut Vec<Finding>,
+    cycle: &[String],
+) -> Result<(), AllocError>
+    ensures { OnOk result (AddsLater refused.now.source.layers.now refused.now.source.position
+        (cycle_fault (map string_bytes cycle.now) ∷ []) findings.old.items findings.new.items) }
+{
+    let words = cycle_words(refused.alloc, refused, cycle)?;
+    match cycle.first() {
+        Some(first) => { add_cycle_at(refused, findings, first.as_str(), cycle, words.as_str()) }
+        None => refused.add_whole(findings, Code::InheritanceCycle, words.as_str()),
+    }
 }

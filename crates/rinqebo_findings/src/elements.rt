@@ -1,6 +1,8 @@
 //! Findings of values that a file may not have where it writes them.
-ghost use Rattle.std.specs.Prelude.{◌≡◌, IfOk, None};
+ghost use Rattle.std.specs.Prelude.{◌≡◌, ℕ, List, Option, IfOk, OnOk, None};
 ghost use Rattle.rinqebo_findings.specs.Subjects.{IsElementFinding, IsErrorAt, code_of, lack_part, lack_path, part_of};
+ghost use Rattle.rinqebo_findings.specs.Later.{AddsElement};
+ghost use Rattle.std.specs.Borrow.{Bor};
 
 use crate::below::below_notes;
 use crate::delays::delays_finding;
@@ -189,19 +191,45 @@ fn missing_in_source<'s>(
     source: SourceAt<'s, '_>,
     key: &str,
     table: &[Step<'s>],
-) -> Result<Finding, AllocError> {
+) -> Result<Finding, AllocError>
+    ensures { IfOk result (λ found. (stray : Option (Bor (List ℕ)))
+        × IsErrorAt refused.now.source.layers.now refused.now.source.position Code.MissingKey
+        (lack_part stray) (lack_path table.now stray) found) }
+{
     let stray = stray_at(refused.alloc, source, key, table)?;
-    missing_finding(refused, key, table, stray)
+    Ok(missing_finding(refused, key, table, stray)?)
+}
+
+/// The finding of a fault of the value at a path of a source.
+fn finding_in_source<'s>(
+    refused: &Refused<'_, '_>,
+    source: SourceAt<'s, '_>,
+    cause: &ElementCause,
+    path: &[Step<'s>],
+) -> Result<Finding, AllocError>
+    ensures { IfOk result (λ found. (stray : Option (Bor (List ℕ)))
+        × IsElementFinding refused.now.source.layers.now refused.now.source.position cause.now
+        path.now stray found) }
+{
+    match cause {
+        ElementCause::Missing(key) => Ok(missing_in_source(refused, source, key.as_str(), path)?),
+        cause => Ok(element_finding(refused, cause, path)?),
+    }
 }
 
 /// Adds that a value is refused.
-pub fn add_element(refused: &mut Refused<'_, '_>, fault: &ElementFault) -> Result<(), AllocError> {
+pub fn add_element(
+    refused: &Refused<'_, '_>,
+    findings: &mut Vec<Finding>,
+    fault: &ElementFault,
+) -> Result<(), AllocError>
+    ensures { OnOk result (AddsElement refused.now.source.layers.now refused.now.source.position
+        fault.now.cause findings.old.items findings.new.items) }
+{
     let about = Fault::Value(&fault.cause);
     let source = refused.source;
     let path = spelled_path(refused.alloc, source, fault.path.as_str(), about)?;
-    let found = match &fault.cause {
-        ElementCause::Missing(key) => missing_in_source(refused, source, key.as_str(), &path)?,
-        cause => element_finding(refused, cause, &path)?,
-    };
-    refused.add_finding(found)
+    let found = finding_in_source(refused, source, &fault.cause, &path)?;
+    refused.add_finding(findings, found)?;
+    Ok(())
 }

@@ -1,5 +1,7 @@
 //! The lines of files that show findings.
-ghost use Rattle.std.specs.Prelude.{◌≡◌, IfOk, map};
+ghost use Rattle.std.specs.Prelude.{◌≡◌, IfOk, map, option_map};
+ghost use Rattle.std.specs.Option.{option_copied};
+ghost use Rattle.rinqebo_findings.specs.Files.{file_in, text_in};
 ghost use Rattle.rinqebo_findings.specs.Shown.{facts};
 
 use nextest_sources::{FileInput, ReadOutcome};
@@ -14,7 +16,9 @@ const WITH_LINES: usize = 100;
 /// Returns the file of a run that is the layer at a position: first come the defaults, which are no
 /// file, then the tools' files, the first tool last, then the organisation's, if there is one, and
 /// the repository's.
-fn file_of(gathered: &Gathered, position: usize) -> Option<&FileInput> {
+fn file_of(gathered: &Gathered, position: usize) -> Option<&FileInput>
+    ensures { option_map (λ file. file.now) result ≡ file_in gathered.now position }
+{
     let tools = gathered.tools.len();
     if position == 0 {
         return None;
@@ -35,7 +39,9 @@ fn file_of(gathered: &Gathered, position: usize) -> Option<&FileInput> {
 }
 
 /// Returns the text of the layer at a position, if it is a file that has one.
-pub fn text_of(gathered: &Gathered, position: usize) -> Option<&str> {
+pub fn text_of(gathered: &Gathered, position: usize) -> Option<&str>
+    ensures { option_copied result ≡ text_in gathered.now position }
+{
     match &file_of(gathered, position)?.outcome {
         ReadOutcome::Text(text) => Some(text.as_str()),
         ReadOutcome::NotFound | ReadOutcome::NotADirectory | ReadOutcome::Failed(_) => None,

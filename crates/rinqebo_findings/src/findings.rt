@@ -1,21 +1,21 @@
-//! Findings: how they are made, and those of warnings.
-ghost use Rattle.std.specs.Prelude.{◌≡◌, IfOk, Some, None, map};
+//! Findings: how they are made.
+ghost use Rattle.std.specs.Prelude.{◌≡◌, IfOk, Some, None, map, option_map};
+ghost use Rattle.std.specs.Option.{option_and_then, option_copied};
 ghost use Rattle.rinqebo_report.specs.Codes.Codes.{code_word};
-ghost use Rattle.rinqebo_faults.specs.Paths.{shown_path};
-ghost use Rattle.rinqebo_findings.specs.Placed.{IsPlaceIn};
 ghost use Rattle.nextest_places.specs.Spans.Paths.{path_step};
+ghost use Rattle.nextest_tree.specs.View.{tree_view};
+ghost use Rattle.rinqebo_faults.specs.Paths.{shown_path};
+ghost use Rattle.rinqebo_findings.specs.Later.{document_at, whole_place};
+ghost use Rattle.rinqebo_findings.specs.Placed.{IsPlaceIn};
+ghost use Rattle.rinqebo_findings.specs.Sources.{layer_at};
 ghost use Rattle.rinqebo_findings.specs.Subjects.{step_view, subject};
+ghost use Rattle.rinqebo_findings.specs.Warnings.{WarnsAt};
 
-use crate::given::value_at;
-use crate::paths::spelled_path;
 use nextest_places::{PathSpans, Step};
-use nextest_sources::{ConfigSource, ConfigWarning, DefaultConfigWarnings};
 use nextest_tree::Tree;
-use rinqebo_faults::{
-    Fault, header_text, keys_note, path_text, profile_path, unknown_key_help, unknown_key_text,
-};
+use rinqebo_faults::{keys_note, owned, path_text, unknown_key_help, unknown_key_text};
 use rinqebo_report::{Code, FilePlace, Finding, FindingStep, Level};
-use rinqebo_request::{Layer, NoDocument, SpanPart, part_place, place_of};
+use rinqebo_request::{Layer, NoDocument, SpanPart, part_place};
 use std::alloc::{AllocError, Global};
 
 /// A source of a run, by its position among the layers, if it is known.
@@ -29,12 +29,18 @@ pub struct SourceAt<'l, 't> {
 
 impl<'l, 't> SourceAt<'l, 't> {
     /// The tree of the source, if its text is a document.
-    pub fn tree(self) -> Option<&'l Tree> {
+    pub fn tree(self) -> Option<&'l Tree>
+        ensures { option_map (λ tree. tree_view tree.now) result
+            ≡ document_at self.entry.layers.now self.entry.position }
+    {
         self.layers.get(self.position?)?.tree()
     }
 
     /// Where the values of the source are written in its text, if it has one.
-    pub fn spans(self) -> Option<&'l PathSpans<'t>> {
+    pub fn spans(self) -> Option<&'l PathSpans<'t>>
+        ensures { option_copied result ≡ option_and_then (λ layer. layer.places)
+            (layer_at self.entry.layers.now self.entry.position) }
+    {
         let layer = self.layers.get(self.position?)?;
         match &layer.places {
             Some(document) => Some(document.spans()),
@@ -43,12 +49,17 @@ impl<'l, 't> SourceAt<'l, 't> {
     }
 
     /// Why the text of the source is not a document, if it is not one.
-    pub fn fault(self) -> Option<&'l NoDocument> {
+    pub fn fault(self) -> Option<&'l NoDocument>
+        ensures { option_copied result ≡ option_and_then (λ layer. layer.fault)
+            (layer_at self.entry.layers.now self.entry.position) }
+    {
         self.layers.get(self.position?)?.fault.as_ref()
     }
 
     /// The place of the whole source.
-    fn place(self) -> Option<FilePlace> {
+    fn place(self) -> Option<FilePlace>
+        ensures { result ≡ option_map whole_place self.entry.position }
+    {
         Some(FilePlace::in_source(self.position?))
     }
 
@@ -74,7 +85,9 @@ pub struct Label {
 
 impl Label {
     /// Returns a code without a name of nextest-runner.
-    pub fn own(code: Code) -> Label {
+    pub fn own(code: Code) -> Label
+        ensures { result ≡ record { code = code; upstream = None } }
+    {
         Label {
             code,
             upstream: None,
@@ -88,32 +101,6 @@ pub const UNKNOWN_KEY: Label = Label {
     upstream: Some("UnknownConfigKeys"),
 };
 
-/// What the findings of reserved names of profiles are called.
-const RESERVED_PROFILE: Label = Label {
-    code: Code::ReservedProfile,
-    upstream: Some("UnknownReservedProfiles"),
-};
-
-/// What the findings of the old table of scripts are called.
-const OLD_SCRIPT_TABLE: Label = Label {
-    code: Code::OldScriptTable,
-    upstream: Some("DeprecatedScriptConfig"),
-};
-
-/// What the findings of rules that name no script are called.
-const EMPTY_SCRIPT_RULE: Label = Label {
-    code: Code::EmptyScriptRule,
-    upstream: Some("EmptyScriptSections"),
-};
-
-/// A copy of a text, if there is one.
-fn copied(alloc: Global, text: Option<&str>) -> Result<Option<String>, AllocError> {
-    match text {
-        Some(text) => Ok(Some(String::from_str(alloc, text)?)),
-        None => Ok(None),
-    }
-}
-
 /// A finding of a source, with a message alone.
 pub fn finding(
     alloc: Global,
@@ -122,10 +109,12 @@ pub fn finding(
     source: SourceAt<'_, '_>,
     message: String,
 ) -> Result<Finding, AllocError>
-    ensures { IfOk result (λ found. subject found
+    ensures about { IfOk result (λ found. subject found
         ≡ record { level = level; code = code_word label.code; path = None }) }
+    ensures place { IfOk result (λ found. found.place
+        ≡ option_map whole_place source.entry.position) }
 {
-    let upstream = copied(alloc, label.upstream)?;
+    let upstream = owned(alloc, label.upstream)?;
     let code = String::from_str(alloc, label.code.word())?;
     let mut found = Finding::new(alloc, level, code, message);
     found.upstream = upstream;
@@ -206,13 +195,8 @@ pub fn key_warning(
     path: &[Step<'_>],
     message: String,
 ) -> Result<Finding, AllocError>
-    ensures about { IfOk result (λ found. subject found ≡ record {
-      level = Level.Warning;
-      code = code_word label.code;
-      path = Some (shown_path path.now);
-    }) }
-    ensures place { IfOk result (λ found. IsPlaceIn SpanPart.Key source.entry.layers.now
-        source.entry.position path.now found.place) }
+    ensures { IfOk result
+        (WarnsAt source.entry.layers.now source.entry.position label.code path.now) }
 {
     let level = Level::Warning;
     Ok(finding_at(alloc, level, label, source, path, SpanPart::Key, message)?)
@@ -247,160 +231,4 @@ pub fn unknown_key_at(
     found.help = help;
     found.help_place = help_place;
     Ok(with_note(found, note)?)
-}
-
-/// Warns of a key without effect, whose path a text spells.
-fn unknown_key(alloc: Global, source: SourceAt<'_, '_>, path: &str) -> Result<Finding, AllocError> {
-    let at = spelled_path(alloc, source, path, Fault::UnknownKey)?;
-    unknown_key_at(alloc, source, &at)
-}
-
-/// Warns of a profile whose name is reserved.
-fn reserved_profile(
-    alloc: Global,
-    source: SourceAt<'_, '_>,
-    name: &str,
-) -> Result<Finding, AllocError> {
-    let expected = copied(alloc, Some("a name that does not begin with `default-`"))?;
-    let message = format!(in alloc;
-        "`{name}`: names of profiles that begin with `default-` are nextest's own"
-    )?;
-    let mut found = key_warning(
-        alloc,
-        RESERVED_PROFILE,
-        source,
-        &[Step::Key("profile"), Step::Key(name)],
-        message,
-    )?;
-    found.expected = expected;
-    Ok(found)
-}
-
-/// The header of the table that takes the place of the old table of scripts.
-fn scripts_header(alloc: Global, source: SourceAt<'_, '_>) -> Result<String, AllocError> {
-    if let Some(Tree::Table(scripts)) = value_at(source, &[Step::Key("script")]) {
-        for name in scripts.keys() {
-            let path = [
-                Step::Key("scripts"),
-                Step::Key("setup"),
-                Step::Key(name.as_str()),
-            ];
-            return header_text(alloc, &path);
-        }
-    }
-    String::from_str(alloc, "scripts.setup")
-}
-
-/// Warns of scripts under the old key.
-fn old_scripts(alloc: Global, source: SourceAt<'_, '_>) -> Result<Finding, AllocError> {
-    let header = scripts_header(alloc, source)?;
-    let help = format!(in alloc; "write `[{header}]`")?;
-    let message = String::from_str(
-        alloc,
-        "the table `script` is the old place of setup scripts",
-    )?;
-    let mut found = key_warning(
-        alloc,
-        OLD_SCRIPT_TABLE,
-        source,
-        &[Step::Key("script")],
-        message,
-    )?;
-    found.help = Some(help);
-    Ok(found)
-}
-
-/// Warns of script rules that name no script.
-fn empty_rules(
-    alloc: Global,
-    source: SourceAt<'_, '_>,
-    profile: &str,
-    count: usize,
-) -> Result<Finding, AllocError> {
-    let expected = copied(alloc, Some("`setup`, `list-wrapper` or `run-wrapper`"))?;
-    let message = format!(in alloc; "rules that name no script: {count}")?;
-    let mut found = key_warning(
-        alloc,
-        EMPTY_SCRIPT_RULE,
-        source,
-        &profile_path(profile, "scripts"),
-        message,
-    )?;
-    found.expected = expected;
-    Ok(found)
-}
-
-/// The source that a warning is about.
-fn source_of(warning: &ConfigWarning) -> &ConfigSource {
-    match warning {
-        ConfigWarning::UnknownConfigKeys { source, .. }
-        | ConfigWarning::UnknownReservedProfiles { source, .. }
-        | ConfigWarning::DeprecatedScriptConfig { source }
-        | ConfigWarning::EmptyScriptSections { source, .. } => source,
-    }
-}
-
-/// Adds the findings of a warning.
-fn add_warning(
-    alloc: Global,
-    layers: &[Layer],
-    warning: &ConfigWarning,
-    findings: &mut Vec<Finding>,
-) -> Result<(), AllocError> {
-    let source = SourceAt {
-        layers,
-        position: place_of(layers, source_of(warning)),
-    };
-    match warning {
-        ConfigWarning::UnknownConfigKeys { paths, .. } => {
-            for path in paths {
-                findings.push(unknown_key(alloc, source, path.as_str())?)?;
-            }
-        }
-        ConfigWarning::UnknownReservedProfiles { names, .. } => {
-            for name in names {
-                findings.push(reserved_profile(alloc, source, name.as_str())?)?;
-            }
-        }
-        ConfigWarning::DeprecatedScriptConfig { .. } => {
-            findings.push(old_scripts(alloc, source)?)?;
-        }
-        ConfigWarning::EmptyScriptSections { profile, count, .. } => {
-            findings.push(empty_rules(alloc, source, profile.as_str(), *count)?)?;
-        }
-    }
-    Ok(())
-}
-
-/// Whether a warning is about unknown keys.
-fn is_of_keys(warning: &ConfigWarning) -> bool {
-    matches!(warning, ConfigWarning::UnknownConfigKeys { .. })
-}
-
-/// The findings of warnings other than those of unknown keys, in their order.
-pub fn other_warning_findings(
-    alloc: Global,
-    layers: &[Layer],
-    warnings: &DefaultConfigWarnings,
-) -> Result<Vec<Finding>, AllocError> {
-    let mut findings = Vec::new(alloc);
-    for warning in warnings.warnings() {
-        if !is_of_keys(warning) {
-            add_warning(alloc, layers, warning, &mut findings)?;
-        }
-    }
-    Ok(findings)
-}
-
-/// The findings of warnings, in their order.
-pub fn warning_findings(
-    alloc: Global,
-    layers: &[Layer],
-    warnings: &DefaultConfigWarnings,
-) -> Result<Vec<Finding>, AllocError> {
-    let mut findings = Vec::new(alloc);
-    for warning in warnings.warnings() {
-        add_warning(alloc, layers, warning, &mut findings)?;
-    }
-    Ok(findings)
 }

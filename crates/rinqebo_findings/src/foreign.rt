@@ -1,10 +1,15 @@
 //! Findings of groups and scripts that a file may not define.
+ghost use Rattle.std.specs.Prelude.{◌∷◌, [], OnOk, map};
+ghost use Rattle.nextest_places.specs.Spans.Paths.{path_step};
+ghost use Rattle.rinqebo_request.specs.declared.files.places.SpanPart.TheVariants as parts;
+ghost use Rattle.rinqebo_findings.specs.Later.{AddsLater, at, document_at, group_fault, group_faults, script_code, script_fault, script_faults};
+
 use crate::refused::Refused;
 use nextest_elements::CustomTestGroup;
 use nextest_places::Step;
 use nextest_scripts::ScriptId;
 use rinqebo_faults::script_path;
-use rinqebo_report::{Code, SourceKind};
+use rinqebo_report::{Code, Finding, SourceKind};
 use std::alloc::{AllocError, Global};
 use std::collections::BTreeSet;
 
@@ -27,12 +32,17 @@ fn own_prefix(refused: &Refused<'_, '_>) -> Result<Option<String>, AllocError> {
 /// Adds that the name at the end of a path is that of a group or a script of another owner, as a
 /// word says, in a source whose names begin with nothing.
 fn add_owned(
-    refused: &mut Refused<'_, '_>,
+    refused: &Refused<'_, '_>,
+    findings: &mut Vec<Finding>,
     code: Code,
     path: &[Step<'_>],
     what: &str,
     name: &str,
-) -> Result<(), AllocError> {
+) -> Result<(), AllocError>
+    ensures { OnOk result (AddsLater refused.now.source.layers.now refused.now.source.position
+        (at parts.Key code (map path_step path.now) ∷ []) findings.old.items
+        findings.new.items) }
+{
     let owner = if name.starts_with("@org:") {
         "the organisation"
     } else {
@@ -40,7 +50,7 @@ fn add_owned(
     };
     let wrong = format!(in refused.alloc; "`{name}` is a {what} of {owner}")?;
     let expected = "a name that begins neither with `@tool:` nor with `@org:`";
-    refused.add_key(code, path, wrong.as_str(), expected, None)
+    refused.add_key(findings, code, path, wrong.as_str(), expected, None)
 }
 
 /// What to do about a name that does not begin as those of its source do.
@@ -54,46 +64,77 @@ fn prefix_help(alloc: Global, prefix: &str, name: &str) -> Result<Option<String>
 /// Adds that a group or a script, as a word says, may not be defined at the key at the end of a
 /// path: a name has to begin as those of its source do.
 fn add_foreign(
-    refused: &mut Refused<'_, '_>,
+    refused: &Refused<'_, '_>,
+    findings: &mut Vec<Finding>,
     code: Code,
     path: &[Step<'_>],
     what: &str,
     name: &str,
-) -> Result<(), AllocError> {
+) -> Result<(), AllocError>
+    ensures { OnOk result (AddsLater refused.now.source.layers.now refused.now.source.position
+        (at parts.Key code (map path_step path.now) ∷ []) findings.old.items
+        findings.new.items) }
+{
     let alloc = refused.alloc;
     let Some(prefix) = own_prefix(refused)? else {
-        return add_owned(refused, code, path, what, name);
+        return add_owned(refused, findings, code, path, what, name);
     };
     let wrong = format!(in alloc; "`{name}` is not a {what} of this file's own")?;
     let expected = format!(in alloc; "a name that begins with `{prefix}`")?;
     let help = prefix_help(alloc, prefix.as_str(), name)?;
-    refused.add_key(code, path, wrong.as_str(), expected.as_str(), help)
+    refused.add_key(
+        findings,
+        code,
+        path,
+        wrong.as_str(),
+        expected.as_str(),
+        help,
+    )
+}
+
+/// Adds that a source may not define the group of a name.
+fn add_group(
+    refused: &Refused<'_, '_>,
+    findings: &mut Vec<Finding>,
+    name: &str,
+) -> Result<(), AllocError>
+    ensures { OnOk result (AddsLater refused.now.source.layers.now refused.now.source.position
+        (group_fault name.now ∷ []) findings.old.items findings.new.items) }
+{
+    let path = [Step::Key("test-groups"), Step::Key(name)];
+    add_foreign(refused, findings, Code::ForeignGroup, &path, "group", name)
 }
 
 /// Adds the groups that a source may not define.
 pub fn add_groups(
-    refused: &mut Refused<'_, '_>,
+    refused: &Refused<'_, '_>,
+    findings: &mut Vec<Finding>,
     groups: &BTreeSet<CustomTestGroup>,
-) -> Result<(), AllocError> {
+) -> Result<(), AllocError>
+    ensures { OnOk result (AddsLater refused.now.source.layers.now refused.now.source.position
+        (group_faults groups.now.keys) findings.old.items findings.new.items) }
+{
     for group in groups.iter() {
-        let name = group.to_string(refused.alloc)?;
-        let name = name.as_str();
-        let path = [Step::Key("test-groups"), Step::Key(name)];
-        add_foreign(refused, Code::ForeignGroup, &path, "group", name)?;
+        add_group(refused, findings, group.as_str())?;
     }
     Ok(())
 }
 
 /// Adds that scripts of both kinds have one name.
 fn add_twice(
-    refused: &mut Refused<'_, '_>,
+    refused: &Refused<'_, '_>,
+    findings: &mut Vec<Finding>,
     path: &[Step<'_>],
     name: &str,
-) -> Result<(), AllocError> {
+) -> Result<(), AllocError>
+    ensures { OnOk result (AddsLater refused.now.source.layers.now refused.now.source.position
+        (at parts.Key Code.DuplicateScript (map path_step path.now) ∷ []) findings.old.items
+        findings.new.items) }
+{
     let wrong = format!(in refused.alloc; "`{name}` is a setup script and a wrapper script")?;
     let expected = "a name of its own for each script";
     let code = Code::DuplicateScript;
-    refused.add_key(code, path, wrong.as_str(), expected, None)
+    refused.add_key(findings, code, path, wrong.as_str(), expected, None)
 }
 
 /// Why a source may not define scripts.
@@ -105,29 +146,61 @@ pub enum ScriptFault {
     Twice,
 }
 
-/// Adds that a source may not define the script of a name.
-fn add_script(
-    refused: &mut Refused<'_, '_>,
+/// Adds that a source may not define the script of a name, at its path.
+fn add_script_at(
+    refused: &Refused<'_, '_>,
+    findings: &mut Vec<Finding>,
+    path: &[Step<'_>],
     name: &str,
     fault: ScriptFault,
-) -> Result<(), AllocError> {
-    let path = script_path(refused.alloc, refused.source.tree(), name)?;
+) -> Result<(), AllocError>
+    ensures { OnOk result (AddsLater refused.now.source.layers.now refused.now.source.position
+        (at parts.Key (script_code fault) (map path_step path.now) ∷ []) findings.old.items
+        findings.new.items) }
+{
     match fault {
-        ScriptFault::Foreign => add_foreign(refused, Code::ForeignScript, &path, "script", name),
-        ScriptFault::Twice => add_twice(refused, &path, name),
+        ScriptFault::Foreign => {
+            add_foreign(refused, findings, Code::ForeignScript, path, "script", name)
+        }
+        ScriptFault::Twice => add_twice(refused, findings, path, name),
     }
+}
+
+/// Adds that a source may not define the script of a name.
+fn add_script(
+    refused: &Refused<'_, '_>,
+    findings: &mut Vec<Finding>,
+    name: &str,
+    fault: ScriptFault,
+) -> Result<(), AllocError>
+    ensures { let layers = refused.now.source.layers.now in
+        let position = refused.now.source.position in
+        OnOk result (AddsLater layers position
+        (script_fault (document_at layers position) fault name.now ∷ []) findings.old.items
+        findings.new.items) }
+{
+    let path = script_path(refused.alloc, refused.source.tree(), name)?;
+    add_script_at(refused, findings, &path, name, fault)?;
+    Ok(())
 }
 
 /// Adds the scripts that a source may not define.
 pub fn add_scripts(
-    refused: &mut Refused<'_, '_>,
+    refused: &Refused<'_, '_>,
+    findings: &mut Vec<Finding>,
     scripts: &BTreeSet<ScriptId>,
     fault: ScriptFault,
-) -> Result<(), AllocError> {
+) -> Result<(), AllocError>
+    ensures { let layers = refused.now.source.layers.now in
+        let position = refused.now.source.position in
+        OnOk result (AddsLater layers position
+        (script_faults (document_at layers position) fault scripts.now.keys) findings.old.items
+        findings.new.items) }
+{
     let alloc = refused.alloc;
     for script in scripts.iter() {
         let name = script.to_string(alloc)?;
-        add_script(refused, name.as_str(), fault)?;
+        add_script(refused, findings, name.as_str(), fault)?;
     }
     Ok(())
 }

@@ -12,6 +12,8 @@ mod features;
 mod findings;
 mod foreign;
 mod given;
+mod load_warnings;
+mod nextest_features;
 mod nextest_forms;
 mod not_toml;
 mod parents;
@@ -23,10 +25,9 @@ pub use elements::{add_element, fault_finding};
 pub use excerpts::{text_of, with_lines};
 pub use expressions::add_refused_texts;
 pub use features::add_features;
-pub use findings::{
-    Label, SourceAt, finding_at, other_warning_findings, unknown_key_at, warning_findings,
-};
+pub use findings::{Label, SourceAt, finding_at, unknown_key_at};
 pub use foreign::{ScriptFault, add_groups, add_scripts};
+pub use load_warnings::{other_warning_findings, warning_findings};
 pub use nextest_forms::nextest_findings;
 pub use not_toml::add_no_document;
 pub use parents::add_parents;

@@ -1,6 +1,7 @@
 //! What nextest refuses and a load does not look at: the version that a file needs, the features
 //! that it switches on, archives, and how running tests are ended.
 use crate::findings::{SourceAt, UNKNOWN_KEY, key_warning};
+use crate::nextest_features::add_features;
 use crate::refused::Refused;
 use nextest_places::Step;
 use nextest_tree::Tree;
@@ -9,24 +10,18 @@ use rinqebo_faults::{
     profile_path, quoted,
 };
 use rinqebo_report::{Code, Finding, HelpPlace};
-use rinqebo_request::{Layer, SpanPart};
+use rinqebo_request::Layer;
 use std::alloc::{AllocError, Global};
 use std::collections::BTreeMap;
 
 /// The name that nextest-runner has for a value that is refused.
 const REFUSED_VALUE: &str = "DeserializeError";
 
-/// The name that nextest-runner has for features that it does not know.
-const UNKNOWN_FEATURES: &str = "UnknownExperimentalFeatures";
-
 /// A version, in words.
 const VERSION: &str = "a string of two or three numbers, such as `0.9.100`";
 
 /// A version or a table, in words.
 const VERSION_OR_TABLE: &str = "a string of two or three numbers, such as `0.9.100`, or a table";
-
-/// The features that nextest knows.
-const FEATURES: [&str; 3] = ["setup-scripts", "wrapper-scripts", "benchmarks"];
 
 /// What an archive does about a path that is missing.
 const ON_MISSING: [&str; 3] = ["ignore", "warn", "error"];
@@ -41,8 +36,9 @@ const INCLUDE_KEYS: [&str; 4] = ["path", "relative-to", "depth", "on-missing"];
 const NEEDED_KEYS: [&str; 2] = ["path", "relative-to"];
 
 /// Adds that a value is of a wrong kind.
-fn add_kind(
-    refused: &mut Refused<'_, '_>,
+pub fn add_kind(
+    refused: &Refused<'_, '_>,
+    findings: &mut Vec<Finding>,
     path: &[Step<'_>],
     given: &Tree,
     expected: &str,
@@ -51,12 +47,20 @@ fn add_kind(
     let name = called(alloc, path)?;
     let kind = kind_words(given);
     let wrong = format!(in alloc; "{name} is {kind}")?;
-    refused.add_value(Code::WrongKind, path, wrong.as_str(), expected, None)
+    refused.add_value(
+        findings,
+        Code::WrongKind,
+        path,
+        wrong.as_str(),
+        expected,
+        None,
+    )
 }
 
 /// Adds that a string is none that a path may have.
 fn add_text(
-    refused: &mut Refused<'_, '_>,
+    refused: &Refused<'_, '_>,
+    findings: &mut Vec<Finding>,
     path: &[Step<'_>],
     given: &str,
     expected: &str,
@@ -65,12 +69,20 @@ fn add_text(
     let alloc = refused.alloc;
     let name = called(alloc, path)?;
     let wrong = format!(in alloc; "{name} is `{given}`")?;
-    refused.add_value(Code::InvalidValue, path, wrong.as_str(), expected, help)
+    refused.add_value(
+        findings,
+        Code::InvalidValue,
+        path,
+        wrong.as_str(),
+        expected,
+        help,
+    )
 }
 
 /// Adds what is wrong with a value that is one of some words.
 fn add_word(
-    refused: &mut Refused<'_, '_>,
+    refused: &Refused<'_, '_>,
+    findings: &mut Vec<Finding>,
     path: &[Step<'_>],
     given: &Tree,
     words: &[&str],
@@ -81,15 +93,16 @@ fn add_word(
         Some(text) if is_among(words, text) => Ok(()),
         Some(text) => {
             let help = near_hint(alloc, text, words)?;
-            add_text(refused, path, text, expected.as_str(), help)
+            add_text(refused, findings, path, text, expected.as_str(), help)
         }
-        None => add_kind(refused, path, given, expected.as_str()),
+        None => add_kind(refused, findings, path, given, expected.as_str()),
     }
 }
 
 /// Warns of a key of a table that is none of some.
 fn warn_of_other<'x>(
-    refused: &mut Refused<'_, '_>,
+    refused: &Refused<'_, '_>,
+    findings: &mut Vec<Finding>,
     path: &[Step<'x>],
     key: &'x str,
     known: &[&str],
@@ -103,19 +116,20 @@ fn warn_of_other<'x>(
     let mut found = key_warning(alloc, UNKNOWN_KEY, refused.source, &at, message)?;
     found.help = help;
     found.help_place = HelpPlace::Beside;
-    refused.add_noted(found, note)
+    refused.add_noted(findings, found, note)
 }
 
 /// Warns of the keys of a table that are none of some.
 fn warn_of_others<'x>(
-    refused: &mut Refused<'_, '_>,
+    refused: &Refused<'_, '_>,
+    findings: &mut Vec<Finding>,
     path: &[Step<'x>],
     members: &'x BTreeMap<String, Tree>,
     known: &[&str],
 ) -> Result<(), AllocError> {
     for key in members.keys() {
         if !is_among(known, key.as_str()) {
-            warn_of_other(refused, path, key.as_str(), known)?;
+            warn_of_other(refused, findings, path, key.as_str(), known)?;
         }
     }
     Ok(())
@@ -140,150 +154,57 @@ fn is_version(text: &str) -> bool {
 
 /// Adds what is wrong with a version.
 fn add_version(
-    refused: &mut Refused<'_, '_>,
+    refused: &Refused<'_, '_>,
+    findings: &mut Vec<Finding>,
     path: &[Step<'_>],
     given: &Tree,
     expected: &str,
 ) -> Result<(), AllocError> {
     match given.as_str() {
         Some(text) if is_version(text) => Ok(()),
-        Some(text) => add_text(refused, path, text, expected, None),
-        None => add_kind(refused, path, given, expected),
+        Some(text) => add_text(refused, findings, path, text, expected, None),
+        None => add_kind(refused, findings, path, given, expected),
     }
 }
 
 /// Adds what is wrong with the version at a key of the version that a file needs, if there is one.
 fn add_version_at(
-    refused: &mut Refused<'_, '_>,
+    refused: &Refused<'_, '_>,
+    findings: &mut Vec<Finding>,
     versions: &Tree,
     key: &'static str,
 ) -> Result<(), AllocError> {
     match versions.get(key) {
         Some(version) => {
             let path = [Step::Key("nextest-version"), Step::Key(key)];
-            add_version(refused, &path, version, VERSION)
+            add_version(refused, findings, &path, version, VERSION)
         }
         None => Ok(()),
     }
 }
 
 /// Adds what is wrong with the version that a file needs.
-fn add_versions(refused: &mut Refused<'_, '_>, tree: &Tree) -> Result<(), AllocError> {
+fn add_versions(
+    refused: &Refused<'_, '_>,
+    findings: &mut Vec<Finding>,
+    tree: &Tree,
+) -> Result<(), AllocError> {
     let path = [Step::Key("nextest-version")];
     let Some(given) = tree.get("nextest-version") else {
         return Ok(());
     };
     let Some(members) = given.as_table() else {
-        return add_version(refused, &path, given, VERSION_OR_TABLE);
+        return add_version(refused, findings, &path, given, VERSION_OR_TABLE);
     };
-    warn_of_others(refused, &path, members, &["required", "recommended"])?;
-    add_version_at(refused, given, "required")?;
-    add_version_at(refused, given, "recommended")
-}
-
-/// Whether nextest has a feature of a name.
-fn is_feature(name: &str) -> bool {
-    is_among(&FEATURES, name)
-}
-
-/// Adds that nextest has no feature of the name at a path.
-fn add_unknown_feature(
-    refused: &mut Refused<'_, '_>,
-    path: &[Step<'_>],
-    name: &str,
-) -> Result<(), AllocError> {
-    let alloc = refused.alloc;
-    let help = near_hint(alloc, name, &FEATURES)?;
-    let expected = quoted(alloc, &FEATURES, " or ")?;
-    let upstream = String::from_str(alloc, UNKNOWN_FEATURES)?;
-    let wrong = format!(in alloc; "`{name}` is not a feature")?;
-    let code = Code::InvalidValue;
-    let mut found = refused.part_at(code, path, SpanPart::Key, wrong.as_str())?;
-    found.upstream = Some(upstream);
-    found.expected = Some(expected);
-    found.help = help;
-    refused.add_finding(found)
-}
-
-/// Adds that an item of the features is not a string.
-fn add_item_kind(
-    refused: &mut Refused<'_, '_>,
-    path: &[Step<'_>],
-    item: &Tree,
-) -> Result<(), AllocError> {
-    let alloc = refused.alloc;
-    let kind = kind_words(item);
-    let wrong = format!(in alloc; "an item of `experimental` is {kind}")?;
-    refused.add_value(Code::WrongKind, path, wrong.as_str(), "a string", None)
-}
-
-/// Reports the item at a position of an array of features, unless it names one.
-fn add_listed_feature(
-    refused: &mut Refused<'_, '_>,
-    position: usize,
-    item: &Tree,
-) -> Result<(), AllocError> {
-    let path = [Step::Key("experimental"), Step::Position(position)];
-    match item.as_str() {
-        Some(name) if is_feature(name) => Ok(()),
-        Some(name) => add_unknown_feature(refused, &path, name),
-        None => add_item_kind(refused, &path, item),
-    }
-}
-
-/// Adds the items of an array of features that name none.
-fn add_listed_features(refused: &mut Refused<'_, '_>, items: &[Tree]) -> Result<(), AllocError> {
-    for (position, item) in items.iter().enumerate() {
-        add_listed_feature(refused, position, item)?;
-    }
-    Ok(())
-}
-
-/// Reports a key of a table of features, unless it is the name of one and has a boolean.
-fn add_switch(refused: &mut Refused<'_, '_>, name: &str, given: &Tree) -> Result<(), AllocError> {
-    let path = [Step::Key("experimental"), Step::Key(name)];
-    match given {
-        _ if !is_feature(name) => add_unknown_feature(refused, &path, name),
-        Tree::Bool(_) => Ok(()),
-        other => add_kind(refused, &path, other, "a boolean"),
-    }
-}
-
-/// Reports the keys of a table that are no names of features, and the values that are not booleans.
-fn add_switched_features(
-    refused: &mut Refused<'_, '_>,
-    members: &BTreeMap<String, Tree>,
-) -> Result<(), AllocError> {
-    for (name, given) in members.iter() {
-        add_switch(refused, name.as_str(), given)?;
-    }
-    Ok(())
-}
-
-/// Adds that the features of a file are neither an array nor a table.
-fn add_features_kind(refused: &mut Refused<'_, '_>, given: &Tree) -> Result<(), AllocError> {
-    let alloc = refused.alloc;
-    let help = match given.as_str() {
-        Some(name) => Some(format!(in alloc; "write `[\"{name}\"]`")?),
-        None => None,
-    };
-    let kind = kind_words(given);
-    let wrong = format!(in alloc; "`experimental` is {kind}")?;
-    let expected = "an array of strings, or a table";
-    let path = [Step::Key("experimental")];
-    refused.add_value(Code::WrongKind, &path, wrong.as_str(), expected, help)
-}
-
-/// Adds what is wrong with the features that a file switches on.
-fn add_features(refused: &mut Refused<'_, '_>, tree: &Tree) -> Result<(), AllocError> {
-    let Some(given) = tree.get("experimental") else {
-        return Ok(());
-    };
-    match given {
-        Tree::Array(items) => add_listed_features(refused, items),
-        Tree::Table(members) => add_switched_features(refused, members),
-        other => add_features_kind(refused, other),
-    }
+    warn_of_others(
+        refused,
+        findings,
+        &path,
+        members,
+        &["required", "recommended"],
+    )?;
+    add_version_at(refused, findings, given, "required")?;
+    add_version_at(refused, findings, given, "recommended")
 }
 
 /// A depth of an entry of what an archive includes, in words.
@@ -291,34 +212,44 @@ const DEPTH: &str = "an integer of at least 0, or `infinite`";
 
 /// Adds that the depth of an entry of what an archive includes is below 0.
 fn add_negative_depth(
-    refused: &mut Refused<'_, '_>,
+    refused: &Refused<'_, '_>,
+    findings: &mut Vec<Finding>,
     path: &[Step<'_>],
     number: i64,
 ) -> Result<(), AllocError> {
     let wrong = format!(in refused.alloc; "`depth` is {number}")?;
-    refused.add_value(Code::OutOfRange, path, wrong.as_str(), DEPTH, None)
+    refused.add_value(
+        findings,
+        Code::OutOfRange,
+        path,
+        wrong.as_str(),
+        DEPTH,
+        None,
+    )
 }
 
 /// Adds what is wrong with the depth of an entry of what an archive includes.
 fn add_depth(
-    refused: &mut Refused<'_, '_>,
+    refused: &Refused<'_, '_>,
+    findings: &mut Vec<Finding>,
     path: &[Step<'_>],
     given: &Tree,
 ) -> Result<(), AllocError> {
     match given {
         Tree::Int(number) if *number >= 0 => Ok(()),
-        Tree::Int(number) => add_negative_depth(refused, path, *number),
+        Tree::Int(number) => add_negative_depth(refused, findings, path, *number),
         Tree::Text(text) if text.as_str() == "infinite" => Ok(()),
-        Tree::Text(text) => add_text(refused, path, text.as_str(), DEPTH, None),
+        Tree::Text(text) => add_text(refused, findings, path, text.as_str(), DEPTH, None),
         Tree::Table(_) | Tree::Array(_) | Tree::Bool(_) | Tree::Opaque => {
-            add_kind(refused, path, given, DEPTH)
+            add_kind(refused, findings, path, given, DEPTH)
         }
     }
 }
 
 /// Adds that an entry of what an archive includes lacks a key.
 fn add_missing(
-    refused: &mut Refused<'_, '_>,
+    refused: &Refused<'_, '_>,
+    findings: &mut Vec<Finding>,
     path: &[Step<'_>],
     key: &str,
 ) -> Result<(), AllocError> {
@@ -326,28 +257,30 @@ fn add_missing(
     let note = known_note(alloc, "an item of `include`", &INCLUDE_KEYS)?;
     let wrong = format!(in alloc; "an item of `include` needs `{key}`")?;
     let found = refused.at(Code::MissingKey, path, wrong.as_str())?;
-    refused.add_noted(found, note)
+    refused.add_noted(findings, found, note)
 }
 
 /// Adds what is wrong with the value at a key of an entry of what an archive includes.
 fn add_included(
-    refused: &mut Refused<'_, '_>,
+    refused: &Refused<'_, '_>,
+    findings: &mut Vec<Finding>,
     path: &[Step<'_>],
     key: &str,
     given: &Tree,
 ) -> Result<(), AllocError> {
     match (key, given) {
         ("path", Tree::Text(_)) => Ok(()),
-        ("path", _) => add_kind(refused, path, given, "a string"),
-        ("relative-to", _) => add_word(refused, path, given, &["target"]),
-        ("depth", _) => add_depth(refused, path, given),
-        _ => add_word(refused, path, given, &ON_MISSING),
+        ("path", _) => add_kind(refused, findings, path, given, "a string"),
+        ("relative-to", _) => add_word(refused, findings, path, given, &["target"]),
+        ("depth", _) => add_depth(refused, findings, path, given),
+        _ => add_word(refused, findings, path, given, &ON_MISSING),
     }
 }
 
 /// Adds what is wrong with a key of an entry of what an archive includes. It may have to have it.
 fn add_include_key(
-    refused: &mut Refused<'_, '_>,
+    refused: &Refused<'_, '_>,
+    findings: &mut Vec<Finding>,
     path: &[Step<'_>],
     key: &'static str,
     entry: &Tree,
@@ -355,32 +288,34 @@ fn add_include_key(
     match entry.get(key) {
         Some(given) => {
             let path = path_with(refused.alloc, path, key)?;
-            add_included(refused, &path, key, given)
+            add_included(refused, findings, &path, key, given)
         }
-        None if is_among(&NEEDED_KEYS, key) => add_missing(refused, path, key),
+        None if is_among(&NEEDED_KEYS, key) => add_missing(refused, findings, path, key),
         None => Ok(()),
     }
 }
 
 /// Adds what is wrong with an entry of what an archive includes.
 fn add_entry<'x>(
-    refused: &mut Refused<'_, '_>,
+    refused: &Refused<'_, '_>,
+    findings: &mut Vec<Finding>,
     path: &[Step<'x>],
     entry: &'x Tree,
 ) -> Result<(), AllocError> {
     let Some(members) = entry.as_table() else {
-        return add_kind(refused, path, entry, "a table");
+        return add_kind(refused, findings, path, entry, "a table");
     };
-    warn_of_others(refused, path, members, &INCLUDE_KEYS)?;
+    warn_of_others(refused, findings, path, members, &INCLUDE_KEYS)?;
     for key in &INCLUDE_KEYS {
-        add_include_key(refused, path, *key, entry)?;
+        add_include_key(refused, findings, path, *key, entry)?;
     }
     Ok(())
 }
 
 /// Adds what is wrong with what the archive of a profile includes.
 fn add_include<'x>(
-    refused: &mut Refused<'_, '_>,
+    refused: &Refused<'_, '_>,
+    findings: &mut Vec<Finding>,
     profile: &'x str,
     include: &'x Tree,
 ) -> Result<(), AllocError> {
@@ -391,7 +326,7 @@ fn add_include<'x>(
         Step::Key("include"),
     ];
     let Some(entries) = include.as_array() else {
-        return add_kind(refused, &path, include, "an array of tables");
+        return add_kind(refused, findings, &path, include, "an array of tables");
     };
     for (position, entry) in entries.iter().enumerate() {
         let path = [
@@ -401,14 +336,15 @@ fn add_include<'x>(
             Step::Key("include"),
             Step::Position(position),
         ];
-        add_entry(refused, &path, entry)?;
+        add_entry(refused, findings, &path, entry)?;
     }
     Ok(())
 }
 
 /// Adds what is wrong with the archive of a profile.
 fn add_archive<'x>(
-    refused: &mut Refused<'_, '_>,
+    refused: &Refused<'_, '_>,
+    findings: &mut Vec<Finding>,
     profile: &'x str,
     table: &'x Tree,
 ) -> Result<(), AllocError> {
@@ -417,18 +353,19 @@ fn add_archive<'x>(
     };
     let path = profile_path(profile, "archive");
     let Some(members) = archive.as_table() else {
-        return add_kind(refused, &path, archive, "a table");
+        return add_kind(refused, findings, &path, archive, "a table");
     };
-    warn_of_others(refused, &path, members, &["include"])?;
+    warn_of_others(refused, findings, &path, members, &["include"])?;
     let Some(include) = archive.get("include") else {
         return Ok(());
     };
-    add_include(refused, profile, include)
+    add_include(refused, findings, profile, include)
 }
 
 /// Adds what is wrong with how a profile ends running tests.
 fn add_terminate(
-    refused: &mut Refused<'_, '_>,
+    refused: &Refused<'_, '_>,
+    findings: &mut Vec<Finding>,
     profile: &str,
     table: &Tree,
 ) -> Result<(), AllocError> {
@@ -444,13 +381,17 @@ fn add_terminate(
         Step::Key("fail-fast"),
         Step::Key("terminate"),
     ];
-    add_word(refused, &path, given, &TERMINATE)
+    add_word(refused, findings, &path, given, &TERMINATE)
 }
 
 /// Adds what nextest refuses in a file.
-fn add_forms(refused: &mut Refused<'_, '_>, tree: &Tree) -> Result<(), AllocError> {
-    add_versions(refused, tree)?;
-    add_features(refused, tree)?;
+fn add_forms(
+    refused: &Refused<'_, '_>,
+    findings: &mut Vec<Finding>,
+    tree: &Tree,
+) -> Result<(), AllocError> {
+    add_versions(refused, findings, tree)?;
+    add_features(refused, findings, tree)?;
     let Some(profiles) = tree.get("profile") else {
         return Ok(());
     };
@@ -458,8 +399,8 @@ fn add_forms(refused: &mut Refused<'_, '_>, tree: &Tree) -> Result<(), AllocErro
         return Ok(());
     };
     for (name, profile) in profiles.iter() {
-        add_archive(refused, name.as_str(), profile)?;
-        add_terminate(refused, name.as_str(), profile)?;
+        add_archive(refused, findings, name.as_str(), profile)?;
+        add_terminate(refused, findings, name.as_str(), profile)?;
     }
     Ok(())
 }
@@ -472,7 +413,7 @@ pub fn nextest_findings(alloc: Global, layers: &[Layer<'_>]) -> Result<Vec<Findi
         let Some(tree) = layer.tree() else {
             continue;
         };
-        let mut refused = Refused {
+        let refused = Refused {
             alloc,
             source: SourceAt {
                 layers,
@@ -481,9 +422,8 @@ pub fn nextest_findings(alloc: Global, layers: &[Layer<'_>]) -> Result<Vec<Findi
             text: None,
             upstream: REFUSED_VALUE,
             left_out: &left_out,
-            findings: &mut findings,
         };
-        add_forms(&mut refused, tree)?;
+        add_forms(&refused, &mut findings, tree)?;
     }
     Ok(findings)
 }

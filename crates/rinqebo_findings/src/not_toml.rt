@@ -1,4 +1,8 @@
 //! Findings of texts that are not TOML.
+ghost use Rattle.std.specs.Prelude.{◌≡◌, ◌∷◌, [], OnOk, option_map};
+ghost use Rattle.rinqebo_findings.specs.Later.{AddsLater, of_file};
+ghost use Rattle.rinqebo_findings.specs.Subjects.{subject};
+
 use crate::findings::with_note;
 use crate::refused::Refused;
 use nextest_places::TextPosition;
@@ -6,30 +10,54 @@ use rinqebo_faults::{
     BadLine, LineWords, earlier_definition, first_note, line_at, line_words, lines_with_first,
     on_one_line, range_from, start_of,
 };
-use rinqebo_report::{Code, FileLines, Finding, Position};
+use rinqebo_report::{Code, FileLines, FilePlace, Finding, Position};
 use std::alloc::AllocError;
 
 /// Returns a finding about some characters from a position on, with their line, range and column.
-fn placed(found: Finding, start: Position, len: usize) -> Finding {
-    let mut found = found;
-    if let Some(place) = &mut found.place {
-        place.lines = Some(FileLines {
+fn placed(found: Finding, start: Position, len: usize) -> Finding
+    ensures about { subject result ≡ subject found }
+    ensures place { option_map (λ place. place.source) result.place
+        ≡ option_map (λ place. place.source) found.place }
+{
+    let Some(FilePlace { source, .. }) = found.place else {
+        return found;
+    };
+    let mut placed = found;
+    placed.place = Some(FilePlace {
+        source,
+        lines: Some(FileLines {
             first: start.line,
             last: start.line,
-        });
-        place.range = Some(range_from(start, len));
-        found.column = Some(start.column);
+        }),
+        range: Some(range_from(start, len)),
+    });
+    placed.column = Some(start.column);
+    placed
+}
+
+/// Returns a finding about the character at a position, if that is known.
+fn placed_at(found: Finding, position: Option<TextPosition>) -> Finding
+    ensures about { subject result ≡ subject found }
+    ensures place { option_map (λ place. place.source) result.place
+        ≡ option_map (λ place. place.source) found.place }
+{
+    match position {
+        Some(position) => placed(found, start_of(position), 1),
+        None => found,
     }
-    found
 }
 
 /// Adds that a line of a text is not TOML, with what is wrong there, in words.
 fn add_bad_line(
-    refused: &mut Refused<'_, '_>,
+    refused: &Refused<'_, '_>,
+    findings: &mut Vec<Finding>,
     text: &str,
     position: TextPosition,
     bad: BadLine<'_>,
-) -> Result<(), AllocError> {
+) -> Result<(), AllocError>
+    ensures { OnOk result (AddsLater refused.now.source.layers.now refused.now.source.position
+        (of_file Code.NotToml ∷ []) findings.old.items findings.new.items) }
+{
     let alloc = refused.alloc;
     let LineWords {
         len,
@@ -42,52 +70,68 @@ fn add_bad_line(
     let first = earlier_definition(text, position, bad);
     let note = first_note(alloc, first)?;
     let lines = lines_with_first(alloc, text, range_from(start, len), first)?;
-    let mut found = placed(refused.finding(Code::NotToml, message)?, start, len);
-    found.expected = expected;
-    found.help = help;
-    found.lines = lines;
-    let found = with_note(found, note)?;
-    refused.add_finding(found)
+    let plain = refused.finding(Code::NotToml, message)?;
+    let mut shown = placed(plain, start, len);
+    shown.expected = expected;
+    shown.help = help;
+    shown.lines = lines;
+    let noted = with_note(shown, note)?;
+    refused.add_finding(findings, noted)?;
+    Ok(())
 }
 
 /// Adds that a text is not TOML, for a reason, and where, if that is known.
 fn add_reason(
-    refused: &mut Refused<'_, '_>,
+    refused: &Refused<'_, '_>,
+    findings: &mut Vec<Finding>,
     position: Option<TextPosition>,
     reason: &str,
-) -> Result<(), AllocError> {
+) -> Result<(), AllocError>
+    ensures { OnOk result (AddsLater refused.now.source.layers.now refused.now.source.position
+        (of_file Code.NotToml ∷ []) findings.old.items findings.new.items) }
+{
     let message = on_one_line(refused.alloc, reason)?;
-    let found = refused.finding(Code::NotToml, message)?;
-    match position {
-        Some(position) => refused.add_finding(placed(found, start_of(position), 1)),
-        None => refused.add_finding(found),
-    }
+    let plain = refused.finding(Code::NotToml, message)?;
+    let shown = placed_at(plain, position);
+    refused.add_finding(findings, shown)?;
+    Ok(())
 }
 
 /// Adds that a text is not TOML, for a reason, with what is wrong in its line, if that is known.
 fn add_at(
-    refused: &mut Refused<'_, '_>,
+    refused: &Refused<'_, '_>,
+    findings: &mut Vec<Finding>,
     position: Option<TextPosition>,
     reason: &str,
-) -> Result<(), AllocError> {
+) -> Result<(), AllocError>
+    ensures { OnOk result (AddsLater refused.now.source.layers.now refused.now.source.position
+        (of_file Code.NotToml ∷ []) findings.old.items findings.new.items) }
+{
     let (Some(text), Some(place)) = (refused.text, position) else {
-        return add_reason(refused, position, reason);
+        return add_reason(refused, findings, position, reason);
     };
     let Some(line) = line_at(Some(text), place.line) else {
-        return add_reason(refused, position, reason);
+        return add_reason(refused, findings, position, reason);
     };
     let bad = BadLine {
         line,
         column: place.column,
         reason,
     };
-    add_bad_line(refused, text, place, bad)
+    add_bad_line(refused, findings, text, place, bad)
 }
 
 /// Adds that a text is not a document: where it is at fault, and why.
-pub fn add_no_document(refused: &mut Refused<'_, '_>, message: &str) -> Result<(), AllocError> {
+pub fn add_no_document(
+    refused: &Refused<'_, '_>,
+    findings: &mut Vec<Finding>,
+    message: &str,
+) -> Result<(), AllocError>
+    ensures { OnOk result (AddsLater refused.now.source.layers.now refused.now.source.position
+        (of_file Code.NotToml ∷ []) findings.old.items findings.new.items) }
+{
     match refused.source.fault() {
-        Some(fault) => add_at(refused, fault.position, fault.reason.as_str()),
-        None => add_reason(refused, None, message),
+        Some(fault) => add_at(refused, findings, fault.position, fault.reason.as_str()),
+        None => add_reason(refused, findings, None, message),
     }
 }

@@ -1,8 +1,12 @@
 //! The findings of a refused source.
-ghost use Rattle.std.specs.Prelude.{◌≡◌, ℕ, IfOk, IfSome, Option};
+ghost use Rattle.std.specs.Prelude.{◌≡◌, ℕ, IfOk, IfSome, Option, OnOk, None, ◌++◌, ◌∷◌, [], map, option_map};
 ghost use Rattle.rinqebo_request.specs.Files.Origins.{IsPartPlace};
 ghost use Rattle.rinqebo_findings.specs.Placed.{IsPlaceIn, IsPlacedAt};
 ghost use Rattle.rinqebo_findings.specs.Subjects.{error_at, subject};
+ghost use Rattle.rinqebo_report.specs.Codes.Codes.{code_word};
+ghost use Rattle.rinqebo_report.specs.declared.finding.Finding.{Finding};
+ghost use Rattle.nextest_places.specs.Spans.Paths.{path_step};
+ghost use Rattle.rinqebo_findings.specs.Later.{AddsLater, at, of_file, whole_place};
 
 use crate::findings::{Label, SourceAt, finding, finding_at, with_note};
 use nextest_places::Step;
@@ -11,8 +15,8 @@ use rinqebo_report::{Code, FilePlace, Finding, Level};
 use rinqebo_request::{Layer, SpanPart, part_place};
 use std::alloc::{AllocError, Global};
 
-/// What is refused: the source, and the name of the refusal. Findings go behind the others.
-#[derive(Drop)]
+/// What is refused: the source, and the name of the refusal.
+#[derive(Clone, Copy)]
 pub struct Refused<'r, 't> {
     pub alloc: Global,
     /// The source that is refused.
@@ -23,8 +27,6 @@ pub struct Refused<'r, 't> {
     pub upstream: &'static str,
     /// The names whose definitions are left out.
     pub left_out: &'r LeftOut,
-    /// The findings so far.
-    pub findings: &'r mut Vec<Finding>,
 }
 
 impl Refused<'_, '_> {
@@ -39,8 +41,10 @@ impl Refused<'_, '_> {
     }
 
     /// Adds a finding with more than a message.
-    pub fn add_finding(&mut self, found: Finding) -> Result<(), AllocError> {
-        self.findings.push(found)?;
+    pub fn add_finding(&self, findings: &mut Vec<Finding>, found: Finding) -> Result<(), AllocError>
+        ensures { OnOk result (findings.new.items ≡ findings.old.items ++ found ∷ []) }
+    {
+        findings.push(found)?;
         Ok(())
     }
 
@@ -77,61 +81,110 @@ impl Refused<'_, '_> {
     }
 
     /// A finding with a message alone.
-    pub fn finding(&self, code: Code, message: String) -> Result<Finding, AllocError> {
+    pub fn finding(&self, code: Code, message: String) -> Result<Finding, AllocError>
+        ensures about { IfOk result (λ found. subject found
+            ≡ record { level = Level.Error; code = code_word code; path = None }) }
+        ensures place { IfOk result (λ found. found.place
+            ≡ option_map whole_place self.now.source.position) }
+    {
         let label = self.label(code);
-        finding(self.alloc, Level::Error, label, self.source, message)
+        Ok(finding(self.alloc, Level::Error, label, self.source, message)?)
     }
 
     /// Adds what is wrong with the value at a path or with its key, what is expected there, if that
     /// is known, and what to do.
     pub fn add_fault(
-        &mut self,
+        &self,
+        findings: &mut Vec<Finding>,
         code: Code,
         path: &[Step<'_>],
         part: SpanPart,
         wrong: &str,
         expected: Option<&str>,
         help: Option<String>,
-    ) -> Result<(), AllocError> {
+    ) -> Result<(), AllocError>
+        ensures { OnOk result (AddsLater self.now.source.layers.now self.now.source.position
+            (at part code (map path_step path.now) ∷ []) findings.old.items findings.new.items) }
+    {
         let expected = owned(self.alloc, expected)?;
         let mut found = self.part_at(code, path, part, wrong)?;
         found.expected = expected;
         found.help = help;
-        self.add_finding(found)
+        self.add_finding(findings, found)?;
+        Ok(())
     }
 
     /// Adds what is wrong with the value at a path, what is expected there, and what to do.
     pub fn add_value(
-        &mut self,
+        &self,
+        findings: &mut Vec<Finding>,
         code: Code,
         path: &[Step<'_>],
         wrong: &str,
         expected: &str,
         help: Option<String>,
-    ) -> Result<(), AllocError> {
-        self.add_fault(code, path, SpanPart::Value, wrong, Some(expected), help)
+    ) -> Result<(), AllocError>
+        ensures { OnOk result (AddsLater self.now.source.layers.now self.now.source.position
+            (at SpanPart.Value code (map path_step path.now) ∷ []) findings.old.items
+            findings.new.items) }
+    {
+        self.add_fault(
+            findings,
+            code,
+            path,
+            SpanPart::Value,
+            wrong,
+            Some(expected),
+            help,
+        )
     }
 
     /// Adds what is wrong with the key at the end of a path, what is expected there, and what to do.
     pub fn add_key(
-        &mut self,
+        &self,
+        findings: &mut Vec<Finding>,
         code: Code,
         path: &[Step<'_>],
         wrong: &str,
         expected: &str,
         help: Option<String>,
-    ) -> Result<(), AllocError> {
-        self.add_fault(code, path, SpanPart::Key, wrong, Some(expected), help)
+    ) -> Result<(), AllocError>
+        ensures { OnOk result (AddsLater self.now.source.layers.now self.now.source.position
+            (at SpanPart.Key code (map path_step path.now) ∷ []) findings.old.items
+            findings.new.items) }
+    {
+        self.add_fault(
+            findings,
+            code,
+            path,
+            SpanPart::Key,
+            wrong,
+            Some(expected),
+            help,
+        )
     }
 
     /// Adds a finding with one more note.
-    pub fn add_noted(&mut self, found: Finding, note: String) -> Result<(), AllocError> {
+    pub fn add_noted(
+        &self,
+        findings: &mut Vec<Finding>,
+        found: Finding,
+        note: String,
+    ) -> Result<(), AllocError>
+        ensures { OnOk result ((noted : Finding)
+            × (findings.new.items ≡ findings.old.items ++ noted ∷ [])
+            × (subject noted ≡ subject found) × (noted.place ≡ found.place)) }
+    {
         let noted = with_note(found, Some(note))?;
-        self.add_finding(noted)
+        self.add_finding(findings, noted)?;
+        Ok(())
     }
 
     /// The place of the value at a path, as its findings have it.
-    pub fn place_at(&self, path: &[Step<'_>]) -> Option<FilePlace> {
+    pub fn place_at(&self, path: &[Step<'_>]) -> Option<FilePlace>
+        ensures { IsPlacedAt SpanPart.Value self.now.source.layers.now
+            self.now.source.position path.now result }
+    {
         let part = SpanPart::Value;
         written_place(
             self.source.layers,
@@ -142,9 +195,18 @@ impl Refused<'_, '_> {
     }
 
     /// Adds what is wrong with the whole source.
-    pub fn add_whole(&mut self, code: Code, wrong: &str) -> Result<(), AllocError> {
+    pub fn add_whole(
+        &self,
+        findings: &mut Vec<Finding>,
+        code: Code,
+        wrong: &str,
+    ) -> Result<(), AllocError>
+        ensures { OnOk result (AddsLater self.now.source.layers.now self.now.source.position
+            (of_file code ∷ []) findings.old.items findings.new.items) }
+    {
         let found = self.finding(code, String::from_str(self.alloc, wrong)?)?;
-        self.add_finding(found)
+        self.add_finding(findings, found)?;
+        Ok(())
     }
 }
 

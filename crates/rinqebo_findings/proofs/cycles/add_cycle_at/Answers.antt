@@ -1,0 +1,11 @@
+use Rattle.rinqebo_report.specs.declared.codes.code.Code.TheVariants.{InheritanceCycle}
+use Rattle.rinqebo_request.specs.declared.files.places.SpanPart.TheVariants as parts
+use Rattle.rinqebo_findings.proofs.Later.{adds_at, adds_part}
+use Rattle.rinqebo_findings.proofs.cycles.add_cycle_at.Goals as goal
+
+pub returns : goal.returns
+returns c =
+    let source = c.args.refused.now.source in
+    adds_at source.layers.now source.position parts.Value InheritanceCycle _ _ _ _ c.parent_path-path.ensures
+    (adds_part source.layers.now source.position parts.Value InheritanceCycle c.parent_path-path.result _ _ _
+    c.in_ok-found.ensures.about c.in_ok-found.ensures.place c.in_ok-add_finding.ensures)

@@ -1,0 +1,15 @@
+use Rattle.std.proofs.Common.{◌∙◌, ap, option_map}
+use Rattle.rinqebo_report.specs.declared.codes.code.Code.TheVariants.{NotToml}
+use Rattle.rinqebo_report.specs.declared.origin.FilePlace.{FilePlace}
+use Rattle.rinqebo_findings.proofs.Later.{adds_file, whole_source}
+use Rattle.rinqebo_findings.proofs.not_toml.add_bad_line.Goals as goal
+
+pub returns : goal.returns
+returns c =
+    let source = c.args.refused.now.source in
+    let file = λ (place : FilePlace). place.source in
+    adds_file source.layers.now source.position NotToml _ _ _
+    (c.in_ok-noted.ensures.about ∙ c.placed-shown.ensures.about ∙ c.in_ok-plain.ensures.about)
+    (ap (option_map file) c.in_ok-noted.ensures.place ∙ c.placed-shown.ensures.place
+    ∙ ap (option_map file) c.in_ok-plain.ensures.place ∙ whole_source source.position)
+    c.in_ok-add_finding.ensures

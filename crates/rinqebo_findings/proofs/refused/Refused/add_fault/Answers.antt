@@ -1,0 +1,8 @@
+use Rattle.rinqebo_findings.proofs.Later.{adds_part}
+use Rattle.rinqebo_findings.proofs.refused.Refused.add_fault.Goals as goal
+
+pub returns : goal.returns
+returns c =
+    let source = c.args.self.now.source in
+    adds_part source.layers.now source.position c.args.part c.args.code c.args.path.now _ _ _
+    c.in_ok-found.ensures.about c.in_ok-found.ensures.place c.in_ok-add_finding.ensures

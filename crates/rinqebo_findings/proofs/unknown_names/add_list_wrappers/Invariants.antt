@@ -1,0 +1,10 @@
+use Rattle.std.proofs.Common.{take}
+use Rattle.std.specs.Prelude.{flat_map}
+use Rattle.rinqebo_findings.specs.Later.{AddsLater, list_wrapper_faults}
+use Rattle.rinqebo_findings.proofs.unknown_names.add_list_wrappers.Given as goal
+
+-- the findings of the errors so far are added
+abbrev pub invariant-loop-error : goal.invariant-loop-error
+invariant-loop-error l =
+    AddsLater l.refused.source.layers.now l.refused.source.position
+    (flat_map (list_wrapper_faults l.namings) (take l.error-index l.errors)) l.initial.findings.items l.findings.items

@@ -1,0 +1,17 @@
+-- Sources, and what is known of their files.
+use Rattle.std.specs.Prelude.{ℕ, List, Option, None, Some, option_map, slice_get, string_bytes}
+use Rattle.std.specs.Option.{option_and_then}
+use Rattle.rinqebo_request.specs.declared.files.layers.Layer.{Layer}
+
+-- the layer at a position, if it is known
+abbrev pub layer_at : List Layer → Option ℕ → Option Layer
+layer_at layers None = None
+layer_at layers (Some position) = slice_get layers position
+
+-- the path of the file of a layer, if it is one
+abbrev pub path_of : Layer → Option (List ℕ)
+path_of layer = option_map string_bytes layer.source.path
+
+-- the path of the file of the layer at a position
+abbrev pub file_at : List Layer → ℕ → Option (List ℕ)
+file_at layers place = option_and_then path_of (slice_get layers place)
