@@ -11,3 +11,4 @@ pub mod Documents
 pub mod Received
 pub mod LookedUp
 pub mod Errors
+pub mod Warned

@@ -21,6 +21,7 @@ use Rattle.rinqebo_request.specs.declared.request.Question.{Question}
 use Rattle.rinqebo_request.specs.declared.request.Question.TheVariants as questions
 use Rattle.rinqebo_request.specs.declared.request.Request.{Request}
 use Rattle.rinqebo_load.specs.declared.session.Session.{Session}
+use Rattle.rinqebo_results.specs.Warned.{ShowsWarningsIn}
 
 -- a result is not a refusal of memory
 no_five : (q : Question) → IsAnswerStatus q 5 → ⊥
@@ -188,15 +189,17 @@ pub is_answered : (request : Request) (gathered : Gathered) (session : Session) 
     → IsSessionOf request gathered session
     → IfOk answer (λ a. AnswersQuestion request.question session a.report a.status)
     → IfOk answer (λ a. IsReportOf session a.report)
+    → IfOk answer (λ a. ShowsWarningsIn session a.report a.status)
     → IfOk answer (λ _. AreLookedUp session request.question)
     → IfOk answer (λ a. HasObjectsFor session request.question a.report.content)
     → IfOk answer (λ a. IsAnswer request gathered a.report a.status)
-is_answered request gathered session (Ok answer) begun answers about looked_up objects = record {
+is_answered request gathered session (Ok answer) begun answers about warned looked_up objects = record {
   session = session;
   begun = begun;
   about = about;
+  warned = warned;
   answers = answers;
   looked_up = looked_up;
   objects = λ _. objects;
 }
-is_answered request gathered session (Err failure) begun answers about looked_up objects = tt
+is_answered request gathered session (Err failure) begun answers about warned looked_up objects = tt

@@ -16,6 +16,7 @@ use Rattle.rinqebo_load.specs.SessionOf.{IsSessionOf}
 use Rattle.rinqebo_results.specs.RunsReasons.{ReportsRunsReasons}
 use Rattle.rinqebo_results.specs.ShownConfig.{ShowsConfig}
 use Rattle.rinqebo_results.specs.ReportsReasons.{ReportsReasons}
+use Rattle.rinqebo_results.specs.Warned.{ShowsWarningsIn}
 use Rattle.rinqebo_request.specs.declared.files.gathering.Gathered.{Gathered}
 use Rattle.rinqebo_request.specs.declared.request.Question.{Question}
 use Rattle.rinqebo_request.specs.declared.request.Question.TheVariants as questions
@@ -62,12 +63,14 @@ HasObjectsFor session (questions.Check deny_warnings) content = Unit {0}
 
 -- A report and a status are the result of a request over the files that were read: the report is
 -- one of a session of the request, and the two are the result of the request in it. Each filter
--- that the program evaluates for it was looked up. In JSON the result of a list has objects.
+-- that the program evaluates for it was looked up. The report shows a finding for each warning of
+-- the load, unless a check refuses the files. In JSON the result of a list has objects.
 pub record IsAnswer (request : Request) (gathered : Gathered) (report : Report) (status : ℕ)
     : Type 0 where
   pub session : Session
   pub begun : IsSessionOf request gathered session
   pub about : IsReportOf session report
+  pub warned : ShowsWarningsIn session report status
   pub answers : AnswersQuestion request.question session report status
   pub looked_up : AreLookedUp session request.question
   pub objects : request.format ≡ formats.Json

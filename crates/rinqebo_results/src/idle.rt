@@ -1,4 +1,8 @@
 //! Warnings of settings of the JUnit report that files write and that have no effect.
+ghost use Rattle.std.specs.Prelude.{IfOk};
+ghost use Rattle.nextest_sources.specs.WarningsView.{warnings_view};
+ghost use Rattle.rinqebo_results.specs.Warned.{BeginWithWarnings};
+
 use nextest_config::{DefaultConfigWarnings, NextestRunMode, Setting};
 use rinqebo_findings::warning_findings;
 use rinqebo_keys::SettingKey;
@@ -100,15 +104,13 @@ fn add_idle(
     Ok(())
 }
 
-/// The findings of a report about a profile: those for the warnings of the load, and for settings
-/// of the JUnit report that the report shows and that have no effect.
-pub fn findings_on(
+/// The findings for settings of the JUnit report that a report shows and that have no effect.
+fn idle_findings(
     alloc: Global,
     session: &Session<'_>,
-    warnings: &DefaultConfigWarnings,
     content: &Content,
 ) -> Result<Vec<Finding>, AllocError> {
-    let mut findings = warning_findings(alloc, &session.layers, warnings)?;
+    let mut findings = Vec::new(alloc);
     let Some(asked) = asked_in(content) else {
         return Ok(findings);
     };
@@ -117,5 +119,22 @@ pub fn findings_on(
         let key = SettingKey::of(*setting, NextestRunMode::Test);
         add_idle(alloc, &session.layers, &chain, key, content, &mut findings)?;
     }
+    Ok(findings)
+}
+
+/// The findings of a report about a profile: those for the warnings of the load, and then those for
+/// settings of the JUnit report that the report shows and that have no effect.
+pub fn findings_on(
+    alloc: Global,
+    session: &Session<'_>,
+    warnings: &DefaultConfigWarnings,
+    content: &Content,
+) -> Result<Vec<Finding>, AllocError>
+    ensures { IfOk result (λ findings. BeginWithWarnings session.now.layers.items
+        (warnings_view warnings.now) findings.items) }
+{
+    let mut findings = warning_findings(alloc, &session.layers, warnings)?;
+    let mut idle = idle_findings(alloc, session, content)?;
+    findings.append(&mut idle)?;
     Ok(findings)
 }

@@ -12,6 +12,7 @@ ghost use Rattle.rinqebo_checks.specs.Reports.{IsReportOf};
 ghost use Rattle.platform_language.specs.Expressions.{spec_view};
 ghost use Rattle.rinqebo_origins.specs.RulePlaces.{place_view};
 ghost use Rattle.rinqebo_results.specs.ListedBy.{read_by};
+ghost use Rattle.rinqebo_results.specs.Warned.{ShowsWarningsOf};
 ghost use Rattle.rinqebo_results.specs.ShownConfig.{ReportsLeaf, TellLeaves, AreShown, AreShownOf, IsShownBy, shown_status, ShowsConfig};
 
 use crate::answer::Answer;
@@ -144,6 +145,7 @@ pub fn show(
     ensures ok { IfOk result (λ answer. ShowsConfig session.now profile.now (keys_view keys.now)
         with_hidden answer.report answer.status) }
     ensures about { IfOk result (λ answer. IsReportOf session.now answer.report) }
+    ensures warned { IfOk result (λ answer. ShowsWarningsOf session.now answer.report) }
     ensures err { IfErr result (IsFailureAbout session.now profile.now) }
 {
     let mut warnings = DefaultConfigWarnings::new(alloc);

@@ -22,6 +22,7 @@ ghost use Rattle.rinqebo_results.specs.Listed.{HasObjects, IfListed, IsProfileOn
 ghost use Rattle.rinqebo_results.specs.ListedBy.{basis_of, read_by, listed_by};
 ghost use Rattle.rinqebo_results.specs.Requested.{IsRequestedIn};
 ghost use Rattle.rinqebo_results.specs.LookedUp.{IsFailureOn, IsLookedUp};
+ghost use Rattle.rinqebo_results.specs.Warned.{ShowsWarningsOf};
 ghost use Rattle.rinqebo_checks.specs.Reports.{IsReportOf};
 
 use crate::asked::requested_of;
@@ -146,6 +147,7 @@ pub fn list<P: Progress>(
 ) -> Result<Report, Failure>
     ensures ok { IfOk result (ReportsTests session.now profile.now mode asked.now) }
     ensures about { IfOk result (IsReportOf session.now) }
+    ensures warned { IfOk result (ShowsWarningsOf session.now) }
     ensures looked_up { IfOk result (λ _. IsLookedUp session.now profile.now) }
     ensures objects { IfOk result (λ report.
         HasObjects (warnings_met session.now) report.content) }

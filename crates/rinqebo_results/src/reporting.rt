@@ -1,7 +1,9 @@
 //! Puts the result of a request together: its report, and the note beside it.
 ghost use Rattle.std.specs.Prelude.{◌≡◌, IfOk};
 ghost use Rattle.nextest_tables.specs.FileTexts.{names_in, IsIn};
+ghost use Rattle.nextest_sources.specs.WarningsView.{warnings_view};
 ghost use Rattle.rinqebo_checks.specs.Reports.{IsReportOf};
+ghost use Rattle.rinqebo_results.specs.Warned.{ShowsWarnings};
 
 use crate::answer::Answer;
 use crate::id_note::id_note;
@@ -25,6 +27,8 @@ pub fn answer_with(
     ensures status { IfOk result (λ answer. answer.status ≡ status) }
     ensures content { IfOk result (λ answer. answer.report.content ≡ content) }
     ensures about { IfOk result (λ answer. IsReportOf session.now answer.report) }
+    ensures warned { IfOk result (λ answer. ShowsWarnings session.now.layers.items
+        (warnings_view warnings.now) answer.report.findings.items) }
 {
     let findings = findings_on(alloc, session, warnings, &content)?;
     let report = report_of(alloc, session, findings, Vec::new(alloc), content)?;
@@ -49,6 +53,8 @@ pub fn answer_on_test(
     ensures status { IfOk result (λ answer. answer.status ≡ 0) }
     ensures content { IfOk result (λ answer. answer.report.content ≡ content) }
     ensures about { IfOk result (λ answer. IsReportOf session.now answer.report) }
+    ensures warned { IfOk result (λ answer. ShowsWarnings session.now.layers.items
+        (warnings_view warnings.now) answer.report.findings.items) }
 {
     let note = id_note(alloc, session, config, profile, test)?;
     answer_with(

@@ -6,6 +6,8 @@ ghost use Rattle.rinqebo_checks.specs.Reports.{IsReportOf};
 ghost use Rattle.rinqebo_checks.specs.Faults.{ShowsFaults};
 ghost use Rattle.rinqebo_load.specs.declared.failure.Failure.TheVariants.{Memory};
 ghost use Rattle.rinqebo_results.specs.Checked.{IsCheckStatus, accepted_status, is_error};
+ghost use Rattle.nextest_sources.specs.WarningsView.{warnings_view};
+ghost use Rattle.rinqebo_results.specs.Warned.{BeginWithWarnings, ShowsWarnings, ShowsWarningsIn};
 
 use crate::open_filters::open_filters_note;
 use nextest_config::{ConfigParseError, DefaultConfigWarnings};
@@ -58,11 +60,13 @@ fn accepted_findings(
     alloc: Global,
     session: &Session<'_>,
     warnings: &DefaultConfigWarnings,
-) -> Result<Vec<Finding>, AllocError> {
+) -> Result<Vec<Finding>, AllocError>
+    ensures { IfOk result (λ findings. BeginWithWarnings session.now.layers.items
+        (warnings_view warnings.now) findings.items) }
+{
     let mut findings = warning_findings(alloc, &session.layers, warnings)?;
-    for finding in nextest_findings(alloc, &session.layers)? {
-        findings.push(finding)?;
-    }
+    let mut of_nextest = nextest_findings(alloc, &session.layers)?;
+    findings.append(&mut of_nextest)?;
     Ok(findings)
 }
 
@@ -77,6 +81,8 @@ fn accepted(
     ensures status { IfOk result (λ answer. answer.status
         ≡ accepted_status deny_warnings answer.report.findings.items) }
     ensures about { IfOk result (λ answer. IsReportOf session.now answer.report) }
+    ensures warned { IfOk result (λ answer. ShowsWarnings session.now.layers.items
+        (warnings_view warnings.now) answer.report.findings.items) }
 {
     let note = open_filters_note(alloc, session, config)?;
     let findings = accepted_findings(alloc, session, warnings)?;
@@ -118,6 +124,8 @@ fn checked(alloc: Global, session: &Session<'_>, deny_warnings: bool) -> Result<
     ensures status { IfOk result (λ answer.
         IsCheckStatus session.now deny_warnings answer.report answer.status) }
     ensures about { IfOk result (λ answer. IsReportOf session.now answer.report) }
+    ensures warned { IfOk result (λ answer.
+        ShowsWarningsIn session.now answer.report answer.status) }
 {
     let mut warnings = DefaultConfigWarnings::new(alloc);
     match session.load(alloc, &mut warnings) {
@@ -131,6 +139,8 @@ pub fn check(alloc: Global, session: &Session<'_>, deny_warnings: bool) -> Resul
     ensures ok { IfOk result (λ answer.
         IsCheckStatus session.now deny_warnings answer.report answer.status) }
     ensures about { IfOk result (λ answer. IsReportOf session.now answer.report) }
+    ensures warned { IfOk result (λ answer.
+        ShowsWarningsIn session.now answer.report answer.status) }
     ensures err { IfErr result (λ failure. failure ≡ Memory) }
 {
     match checked(alloc, session, deny_warnings) {

@@ -8,6 +8,7 @@ ghost use Rattle.rinqebo_checks.specs.Reports.{IsReportOf};
 ghost use Rattle.rinqebo_results.specs.Explained.{Explains, IfExplained};
 ghost use Rattle.rinqebo_results.specs.ListedBy.{explained_by};
 ghost use Rattle.rinqebo_results.specs.Requested.{IsRequestedIn};
+ghost use Rattle.rinqebo_results.specs.Warned.{ShowsWarningsOf};
 
 use filter_engine::NextestTally;
 use nextest_config::DefaultConfigWarnings;
@@ -64,6 +65,7 @@ pub fn explain(
     ensures ok { IfOk result (λ answer.
         Explains session.now profile.now test.now asked.now answer.report) }
     ensures about { IfOk result (λ answer. IsReportOf session.now answer.report) }
+    ensures warned { IfOk result (λ answer. ShowsWarningsOf session.now answer.report) }
     ensures looked_up { IfOk result (λ _. IsLookedUp session.now profile.now) }
     ensures err { IfErr result (IsFailureOn session.now profile.now) }
 {

@@ -16,6 +16,7 @@ ghost use Rattle.rinqebo_results.specs.ReportsReasons.{ReportsReasons};
 ghost use Rattle.rinqebo_results.specs.StandardError.{AddsNotes, GetsErrors, GetsFault, GetsNotes, GetsStop, HasNotes, IsFaultMessage, ReportsWords, findings_beside, is_json};
 ghost use Rattle.rinqebo_report.specs.Document.{is_check};
 ghost use Rattle.rinqebo_results.specs.Statuses.{IsStatus, IsAnswerStatus, IsGatherStatus, IsWordsStatus};
+ghost use Rattle.rinqebo_results.specs.Warned.{ShowsWarningsIn, ShowsWarningsOf};
 ghost use Rattle.rinqebo_results.specs.Written.{AsksList, IsStopStatus};
 ghost use Rattle.rinqebo_report.specs.declared.format.Format.TheVariants as formats;
 
@@ -84,6 +85,7 @@ fn explain_test(
     ensures ok { IfOk result (λ answer. (answer.status ≡ 0) × IsAboutTest session.now test.now
         (λ found. Explains session.now profile.now found asked.now answer.report)) }
     ensures about { IfOk result (λ answer. IsReportOf session.now answer.report) }
+    ensures warned { IfOk result (λ answer. ShowsWarningsOf session.now answer.report) }
     ensures looked_up { IfOk result (λ _. IsLookedUp session.now profile.now) }
     ensures err { IfErr result (IsFailureAboutTest session.now profile.now test.now) }
 {
@@ -103,6 +105,7 @@ fn why_of_test(
     ensures ok { IfOk result (λ answer. (answer.status ≡ 0) × IsAboutTest session.now test.now
         (λ found. ReportsReasons session.now profile.now found setting answer.report)) }
     ensures about { IfOk result (λ answer. IsReportOf session.now answer.report) }
+    ensures warned { IfOk result (λ answer. ShowsWarningsOf session.now answer.report) }
     ensures looked_up { IfOk result (λ _. IsLookedUp session.now profile.now) }
     ensures err { IfErr result (IsFailureAboutTest session.now profile.now test.now) }
 {
@@ -121,6 +124,7 @@ fn why_runs_of(
     ensures ok { IfOk result (λ answer. (answer.status ≡ 0) × IsAboutTest session.now test.now
         (λ found. ReportsRunsReasons session.now profile.now found answer.report)) }
     ensures about { IfOk result (λ answer. IsReportOf session.now answer.report) }
+    ensures warned { IfOk result (λ answer. ShowsWarningsOf session.now answer.report) }
     ensures looked_up { IfOk result (λ _. IsLookedUp session.now profile.now) }
     ensures err { IfErr result (IsFailureAboutTest session.now profile.now test.now) }
 {
@@ -138,6 +142,8 @@ fn answer_in<P: Progress>(
     ensures ok { IfOk result (λ answer.
         AnswersQuestion request.now.question session.now answer.report answer.status) }
     ensures about { IfOk result (λ answer. IsReportOf session.now answer.report) }
+    ensures warned { IfOk result (λ answer.
+        ShowsWarningsIn session.now answer.report answer.status) }
     ensures looked_up { IfOk result (λ _. AreLookedUp session.now request.now.question) }
     ensures objects { IfOk result (λ answer.
         HasObjectsFor session.now request.now.question answer.report.content) }

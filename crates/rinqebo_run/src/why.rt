@@ -20,6 +20,7 @@ ghost use Rattle.rinqebo_rules.specs.declared.conditions.Asking.{Asking};
 ghost use Rattle.rinqebo_results.specs.Requested.{IsRequestedIn};
 ghost use Rattle.rinqebo_results.specs.ReportsReasons.{AreReasons, AreReasonsIn, IfWhy, IsTestNamed, ReportsReasons};
 ghost use Rattle.rinqebo_origins.specs.Reported.{reported_of, value_view};
+ghost use Rattle.rinqebo_results.specs.Warned.{ShowsWarningsOf};
 
 use filter_engine::NextestFilters;
 use nextest_config::{
@@ -264,6 +265,7 @@ pub fn why(
     ensures ok { IfOk result (λ answer.
         ReportsReasons session.now profile.now test.now setting answer.report) }
     ensures about { IfOk result (λ answer. IsReportOf session.now answer.report) }
+    ensures warned { IfOk result (λ answer. ShowsWarningsOf session.now answer.report) }
     ensures looked_up { IfOk result (λ _. IsLookedUp session.now profile.now) }
     ensures err { IfErr result (IsFailureOn session.now profile.now) }
 {

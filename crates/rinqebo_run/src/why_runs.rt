@@ -17,6 +17,7 @@ ghost use Rattle.rinqebo_checks.specs.Reports.{IsReportOf};
 ghost use Rattle.rinqebo_results.specs.Requested.{IsRequestedIn};
 ghost use Rattle.rinqebo_results.specs.RunsReasons.{AreHeldReported, AreRunsReasons, AreRunsReasonsIn, IsFilterRuleReported, ReportsRunsReasons, default_answer, default_value, is_decision};
 ghost use Rattle.rinqebo_results.specs.ReportsReasons.{IfWhy, IsTestNamed};
+ghost use Rattle.rinqebo_results.specs.Warned.{ShowsWarningsOf};
 
 use crate::why::{first_and_others, named_test, reported_verdict};
 use nextest_config::DefaultConfigWarnings;
@@ -220,6 +221,7 @@ pub fn why_runs(
     ensures ok { IfOk result (λ answer.
         ReportsRunsReasons session.now profile.now test.now answer.report) }
     ensures about { IfOk result (λ answer. IsReportOf session.now answer.report) }
+    ensures warned { IfOk result (λ answer. ShowsWarningsOf session.now answer.report) }
     ensures looked_up { IfOk result (λ _. IsLookedUp session.now profile.now) }
     ensures err { IfErr result (IsFailureOn session.now profile.now) }
 {

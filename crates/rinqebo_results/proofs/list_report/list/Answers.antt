@@ -2,6 +2,7 @@ use Rattle.std.proofs.Common.{◌∙◌, ◌++◌, ap, subst, sym}
 use Rattle.rinqebo_load.specs.Warned.{warnings_met}
 use Rattle.rinqebo_results.proofs.Listing.{tells_tests}
 use Rattle.rinqebo_results.proofs.Refused.{want_evaluated}
+use Rattle.rinqebo_results.proofs.Warned.{begins_all, warned_of}
 use Rattle.rinqebo_results.specs.Listed.{HasObjects}
 use Rattle.rinqebo_results.proofs.list_report.list.Goals as goal
 
@@ -11,6 +12,14 @@ returns-clause-ok g c =
     c.in_ok-content.content c.in_ok-config.config c.in_ok-config.ensures.accepted c.in_ok-config.ensures.means
     c.in_ok-config.ensures.known c.in_ok-report.ensures.content c.in_ok-content.ensures.told
     c.in_ok-content.ensures.requested
+
+pub returns-clause-warned : goal.returns-clause-warned
+returns-clause-warned g c =
+    warned_of c.args.session.now _ _ _ c.new-warnings.ensures c.in_ok-config.ensures.warnings (record {
+      found = c.in_ok-findings.findings.items;
+      begin = begins_all _ _ _ _ c.deref.ensures.value c.in_ok-findings.ensures;
+      shows = c.in_ok-report.ensures.findings;
+    })
 
 pub returns-clause-objects : goal.returns-clause-objects
 returns-clause-objects g c =

@@ -1,4 +1,5 @@
 use Rattle.rinqebo_results.proofs.Refused.{want_evaluated}
+use Rattle.rinqebo_results.proofs.Warned.{warned_of}
 use Rattle.rinqebo_run.proofs.RunsReasons.{tells_runs}
 use Rattle.rinqebo_run.proofs.why_runs.why_runs.Goals as goal
 
@@ -8,6 +9,10 @@ returns-clause-ok c =
     tells_runs c.args.session.now c.args.profile.now c.args.test.now c.in_ok-answer.answer.report
     c.in_ok-content.content c.in_ok-config.config config.accepted config.means config.known c.in_ok-answer.ensures.content
     c.in_ok-content.ensures.told c.in_ok-content.ensures.requested
+
+pub returns-clause-warned : goal.returns-clause-warned
+returns-clause-warned c =
+    warned_of c.args.session.now _ _ _ c.new-warnings.ensures c.in_ok-config.ensures.warnings c.in_ok-answer.ensures.warned
 
 pub returns-in_err-content-clause-err : goal.returns-in_err-content-clause-err
 returns-in_err-content-clause-err c =
