@@ -1,5 +1,5 @@
 //! Findings of a refused configuration: one for each thing that is wrong.
-ghost use Rattle.std.specs.Prelude.{[], ◌∷◌, IfOk, OnOk};
+ghost use Rattle.std.specs.Prelude.{[], ◌≡◌, ◌∷◌, IfOk, OnOk};
 ghost use Rattle.rinqebo_findings.specs.Compile.{compile_fault, compile_faults, section_code, section_fault};
 ghost use Rattle.rinqebo_findings.specs.Later.{AddsLater, document_at, of_file};
 ghost use Rattle.rinqebo_checks.specs.Refusals.{AddsRefusal, outcome_faults, two_tables};
@@ -217,6 +217,11 @@ pub fn refused_place(layers: &[Layer], error: &ConfigParseError) -> Option<usize
     place_at(layers, refused_owner(error), error.config_file()?)
 }
 
+/// Returns the text of the source at a place among the layers, if it is known and has one.
+fn text_at<'g>(session: &Session<'g>, position: Option<usize>) -> Option<&'g str> {
+    text_of(session.gathered, position?)
+}
+
 /// Returns the findings of a refusal of files without what is left out: those of the source at a
 /// place among the layers, if it is known.
 pub fn refusal_findings(
@@ -229,10 +234,7 @@ pub fn refusal_findings(
     ensures { IfOk result (λ findings. AddsRefusal session.now.layers.items position
         left_out.now error.now.kind [] findings.items) }
 {
-    let text = match position {
-        Some(position) => text_of(session.gathered, position),
-        None => None,
-    };
+    let text = text_at(session, position);
     let mut findings = Vec::new(alloc);
     let refused = Refused {
         alloc,
