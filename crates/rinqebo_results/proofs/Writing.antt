@@ -76,6 +76,9 @@ use Rattle.rinqebo_results.specs.declared.list_stop.ListStop.{ListStop}
 use Rattle.rinqebo_results.specs.declared.list_stop.ListStop.TheVariants as faults
 use Rattle.rinqebo_results.specs.declared.list_page.RequestedList.{RequestedList}
 use Rattle.rinqebo_load.specs.declared.session.Session.{Session}
+use Rattle.rinqebo_results.specs.Warned.{ShowsWarnings}
+use Rattle.rinqebo_load.specs.Warned.{warnings_met}
+use Rattle.nextest_sources.specs.Warnings.{Warning}
 
 -- the lines of tests, and those of one more
 pub tests_text-push : (head : Report) (paper : Paper) (tests : List TestRows) (rows : TestRows)
@@ -270,12 +273,14 @@ begins_list session profile mode asked paper loaded old new accepted from there 
     }
 
 -- the page of a list went out under the header of a report of a session
-pub has_page : (session : Session) (loaded : Loaded (Filterset FieldMatcher) TargetSpec) (profile : Name)
-    (mode : NextestRunMode) (asked : RequestedSettings) (head : Report) (paper : Paper) (old new : Option (List ℕ))
-    → IsReportOf session head → WritesPage session loaded profile mode asked head paper old new
-    → HasPage session loaded profile mode asked paper old new
-has_page session loaded profile mode asked head paper old new about writes =
-    record { head = head; about = about; writes = writes }
+pub has_page : (session : Session) (loaded : Loaded (Filterset FieldMatcher) TargetSpec) (warnings : List Warning)
+    (profile : Name) (mode : NextestRunMode) (asked : RequestedSettings) (head : Report) (paper : Paper)
+    (old new : Option (List ℕ)) → IsReportOf session head
+    → ShowsWarnings session.layers.items warnings head.findings.items
+    → WritesPage session loaded profile mode asked head paper old new
+    → HasPage session loaded warnings profile mode asked paper old new
+has_page session loaded warnings profile mode asked head paper old new about warned writes =
+    record { head = head; about = about; warned = warned; writes = writes }
 
 -- a list of values in the room of another one
 vec_of : {A B Z : Type 0} (room : Vec B Z) (xs : List A) → length xs < 2 ^ 63 → Vec A Z
@@ -295,18 +300,21 @@ content_of header tests fit unused scripts = contents.List header (vec_of unused
 
 -- the page of a list went out by what was loaded
 pub writes_list : (session : Session) (profile : Name) (mode : NextestRunMode) (asked : RequestedSettings) (paper : Paper)
-    (loaded : Loaded (Filterset FieldMatcher) TargetSpec) (old new : Option (List ℕ)) → AreAccepted session
+    (loaded : Loaded (Filterset FieldMatcher) TargetSpec) (warnings : List Warning) (old new : Option (List ℕ))
+    → warnings ≡ warnings_met session → AreAccepted session
     → IsLoadedFrom (readings session.engines.filters) (files_view session.gathered.now) loaded
     → IsIn (names_in loaded.config.profiles) profile → IsLookedUp session profile
-    → HasPage session loaded profile mode asked paper old new → WritesList session profile mode asked paper old new
+    → HasPage session loaded warnings profile mode asked paper old new
+    → WritesList session profile mode asked paper old new
 unfolding vec_of
-writes_list session profile mode asked paper loaded old new accepted from there looked page =
+writes_list session profile mode asked paper loaded warnings old new met accepted from there looked page =
     let head = page.head in
     let writes = page.writes in
     let content = content_of writes.header writes.tests writes.fit writes.unused writes.scripts in
     record {
       report = record head { content = content };
       about = record { request = page.about.request; root = page.about.root; sources = page.about.sources };
+      warned = subst (λ ws. ShowsWarnings session.layers.items ws head.findings.items) met page.warned;
       tells = tells_tests session profile mode asked (record head { content = content }) content loaded accepted from there
           refl writes.told (record { chain = writes.chain; is_chain = writes.is_chain; requested = writes.requested });
       looked_up = looked;
@@ -364,6 +372,7 @@ list_reported request gathered list session old new begun asks is_text writes = 
     session = session;
     begun = begun;
     about = writes.about;
+    warned = inr writes.warned;
     answers = answers_list request.question list session writes.report asks writes.tells;
     looked_up = looked_list request.question list session asks writes.looked_up;
     objects = text_or_json request.format is_text;

@@ -57,6 +57,8 @@ use Rattle.rinqebo_results.specs.declared.list_stop.ListStop.{ListStop}
 use Rattle.rinqebo_results.specs.declared.list_stop.ListStop.TheVariants as faults
 use Rattle.rinqebo_results.specs.declared.list_page.RequestedList.{RequestedList}
 use Rattle.rinqebo_load.specs.declared.session.Session.{Session}
+use Rattle.nextest_sources.specs.Warnings.{Warning}
+use Rattle.rinqebo_results.specs.Warned.{ShowsWarnings, ShowsWarningsOf}
 
 -- a request is for a list
 abbrev pub AsksList : Question → RequestedList → Type 0
@@ -131,13 +133,14 @@ pub record WritesPage (session : Session) (loaded : Loaded (Filterset FieldMatch
   pub page : Appends old new (page_text paper.colour (list_runs paper.columns
       (string_bytes head.root) head.sources.items header tests unused.items))
 
--- The program wrote the page of a list by a configuration that was loaded, for a report of a
--- session.
+-- The program wrote the page of a list by a configuration that was loaded with warnings, for a
+-- report of a session that shows findings for them.
 pub record HasPage (session : Session) (loaded : Loaded (Filterset FieldMatcher) TargetSpec)
-    (profile : Name) (mode : NextestRunMode) (asked : RequestedSettings) (paper : Paper)
-    (old new : Option (List ℕ)) : Type 0 where
+    (warnings : List Warning) (profile : Name) (mode : NextestRunMode) (asked : RequestedSettings)
+    (paper : Paper) (old new : Option (List ℕ)) : Type 0 where
   pub head : Report
   pub about : IsReportOf session head
+  pub warned : ShowsWarnings session.layers.items warnings head.findings.items
   pub writes : WritesPage session loaded profile mode asked head paper old new
 
 -- The program wrote the page of a list whole. It looked up each filter that it evaluates for the
@@ -146,6 +149,7 @@ pub record WritesList (session : Session) (profile : Name) (mode : NextestRunMod
     (asked : RequestedSettings) (paper : Paper) (old new : Option (List ℕ)) : Type 0 where
   pub report : Report
   pub about : IsReportOf session report
+  pub warned : ShowsWarningsOf session report
   pub tells : ReportsTests session profile mode asked report
   pub looked_up : IsLookedUp session profile
   pub page : Appends old new (rendered report formats.Text paper)

@@ -9,6 +9,8 @@ ghost use Rattle.rinqebo_results.specs.Refused.{Fails};
 ghost use Rattle.rinqebo_results.specs.LookedUp.{IsFailureOn};
 ghost use Rattle.rinqebo_results.specs.Begun.{BeginsList, IsBegun};
 ghost use Rattle.rinqebo_results.specs.StandardError.{GetsBefore, GetsWarnings, GetsWarningsFor};
+ghost use Rattle.nextest_sources.specs.WarningsView.{warnings_view};
+ghost use Rattle.rinqebo_results.specs.Warned.{ShowsWarnings};
 ghost use Rattle.rinqebo_results.specs.Written.{AreFirstBy, AsksList, HasPage, StopsList, WritesList, WritesPage};
 ghost use Rattle.rinqebo_results.specs.declared.list_stop.ListStop.TheVariants as faults;
 ghost use Rattle.rinqebo_checks.specs.Reports.{IsReportOf};
@@ -38,6 +40,8 @@ fn begin<E: Write>(
     err: &mut E,
 ) -> Result<Report, ListStop>
     ensures about { IfOk result (IsReportOf session.now) }
+    ensures warned { IfOk result (λ head. ShowsWarnings session.now.layers.items
+        (warnings_view warnings.now) head.findings.items) }
     ensures err { IfErr result (λ fault. (fault ≡ faults.Memory) ⊎ (fault ≡ faults.Write)) }
     ensures errors { MatchResult result
         (λ head. Appends (E.contents err.old) (E.contents err.new)
@@ -94,13 +98,15 @@ fn write_by<O: Write, E: Write>(
     err: &mut E,
 ) -> Result<(), ListStop>
     requires { IsIn (names_in config.now.config.profiles) list.now.profile.now }
-    ensures ok { OnOk result (HasPage session.now config.now list.now.profile.now list.now.mode
-        list.now.settings.now paper (O.contents out.old) (O.contents out.new)) }
+    ensures ok { OnOk result (HasPage session.now config.now (warnings_view warnings.now)
+        list.now.profile.now list.now.mode list.now.settings.now paper (O.contents out.old)
+        (O.contents out.new)) }
     ensures err { IfErr result (StopsList (λ _. ⊥)
         (AreFirstBy session.now config.now list.now.profile.now list.now.mode
         list.now.settings.now paper (O.contents out.old))
-        (HasPage session.now config.now list.now.profile.now list.now.mode list.now.settings.now
-        paper (O.contents out.old)) (O.contents out.old) (O.contents out.new)) }
+        (HasPage session.now config.now (warnings_view warnings.now) list.now.profile.now
+        list.now.mode list.now.settings.now paper (O.contents out.old)) (O.contents out.old)
+        (O.contents out.new)) }
     ensures errors { shows_progress ≡ false → MatchResult result
         (λ _. GetsWarnings session.now paper.colour (E.contents err.old) (E.contents err.new))
         (λ fault. GetsBefore fault (E.contents err.old) (E.contents err.new)) }

@@ -1,4 +1,5 @@
-use Rattle.std.proofs.Common.{inr, refl}
+use Rattle.std.proofs.Common.{◌∙◌, ◌++◌, ap, inr, refl}
+use Rattle.rinqebo_load.specs.Warned.{warnings_met}
 use Rattle.std.proofs.lemmas.Result.{IfErr-weaker, on_ok_weaker}
 use Rattle.rinqebo_results.proofs.Errors.{stopped}
 use Rattle.rinqebo_results.proofs.Stops.{stops_so}
@@ -14,8 +15,8 @@ returns-clause-ok g c =
     let list = c.args.list.now in
     let config = c.in_ok-config.ensures in
     on_ok_weaker c.write_by.result
-    (writes_list c.args.session.now list.profile.now list.mode list.settings.now c.args.paper c.in_ok-config.config _ _
-    config.accepted config.means config.known config.looked_up)
+    (writes_list c.args.session.now list.profile.now list.mode list.settings.now c.args.paper c.in_ok-config.config _ _ _
+    (config.warnings ∙ ap (λ ws. ws ++ warnings_met c.args.session.now) c.new-warnings.ensures) config.accepted config.means config.known config.looked_up)
     c.write_by.ensures.ok
 
 pub returns-clause-err : goal.returns-clause-err
@@ -30,13 +31,14 @@ returns-clause-err g c =
     (λ fault. stops_so (λ _. ⊥) (IsFailureOn session list.profile.now)
     (AreFirstBy session loaded list.profile.now list.mode list.settings.now c.args.paper old)
     (BeginsList session list.profile.now list.mode list.settings.now c.args.paper old)
-    (HasPage session loaded list.profile.now list.mode list.settings.now c.args.paper old)
+    (HasPage session loaded _ list.profile.now list.mode list.settings.now c.args.paper old)
     (WritesList session list.profile.now list.mode list.settings.now c.args.paper old) old new fault
     (λ _ none. absurd none)
     (λ whole. begins_list session list.profile.now list.mode list.settings.now c.args.paper loaded old whole
     config.accepted config.means config.known)
-    (λ whole page. inr (writes_list session list.profile.now list.mode list.settings.now c.args.paper loaded old whole
-    config.accepted config.means config.known config.looked_up page)))
+    (λ whole page. inr (writes_list session list.profile.now list.mode list.settings.now c.args.paper loaded _ old whole
+    (config.warnings ∙ ap (λ ws. ws ++ warnings_met session) c.new-warnings.ensures) config.accepted config.means
+    config.known config.looked_up page)))
     c.write_by.ensures.err
 
 pub returns-in_err-config-clause-errors : goal.returns-in_err-config-clause-errors
