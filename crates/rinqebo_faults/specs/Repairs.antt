@@ -90,7 +90,8 @@ parents_edits sources errors =
 -- the text by which a name is found that rules of a profile have at a key
 unfoldable pub naming_mark : (profile key name : List ℕ) → List ℕ
 naming_mark profile key name =
-    decimal (length profile) ++ (codes ":" ++ (profile ++ (codes " " ++ (key ++ (codes " " ++ name)))))
+    decimal (length profile)
+    ++ (codes ":" ++ (profile ++ (codes " " ++ (key ++ (codes " " ++ name)))))
 
 -- the group that an override sets
 abbrev pub group_of : Node → Option (List ℕ)
