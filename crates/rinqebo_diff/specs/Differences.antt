@@ -14,6 +14,7 @@ use Rattle.rinqebo_report.specs.declared.report.TestId.{TestId}
 use Rattle.rinqebo_report.specs.declared.report.TestRows.{TestRows}
 use Rattle.rinqebo_request.specs.declared.request.RequestedSettings.{RequestedSettings}
 use Rattle.rinqebo_results.specs.ListedBy.{basis_of}
+use Rattle.rinqebo_rules.specs.Rows.{shown_platform}
 use Rattle.rinqebo_diff.specs.Asked.{compares_runs}
 use Rattle.rinqebo_diff.specs.Compared.{AreCompared, ReportsBy}
 use Rattle.rinqebo_changes.specs.Sides.Matched.{TestPair, ArePairs, is_in}
@@ -30,10 +31,11 @@ SideReports evaluation mode asked =
     ReportsBy (readings evaluation.session.engines.filters).matches_test
     (basis_of evaluation.session evaluation.chain) evaluation.profile mode asked
 
--- A name is that of a test.
+-- A name is that of a test, with the platform that its binary is built for.
 pub record IsIdOf (t : ListTest) (id : TestId) : Type 0 where
   pub binary : string_bytes id.binary ≡ t.test.binary.binary_id
   pub name : string_bytes id.name ≡ t.test.name
+  pub platform : id.platform ≡ shown_platform t.test.binary.platform
 
 -- the tests of a side
 abbrev pub tests_of : Evaluation → List ListTest

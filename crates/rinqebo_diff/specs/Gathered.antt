@@ -1,5 +1,5 @@
 -- The files of two sides, as a reader gives them.
-use Rattle.std.specs.Prelude.{◌≡◌, ◌⊎◌, ℕ, List, string_bytes}
+use Rattle.std.specs.Prelude.{◌≡◌, ℕ, List, string_bytes}
 use Rattle.std.specs.Option.{ForSome}
 use Rattle.nextest_sources.specs.Sources.{Outcome}
 use Rattle.rinqebo_request.specs.Files.Gathering.{AreFilesFor, HasGatherCause}
@@ -16,9 +16,12 @@ pub record AreSideFiles (gives : List ℕ → Outcome → Type 0) (side : DiffSi
       (λ named. string_bytes gathered.paths.workspace_root ≡ named.now)
   pub files : AreFilesFor gives side.request input gathered
 
--- a fault has a cause in the files of a side
-abbrev pub HasSideCause : (List ℕ → Outcome → Type 0) → DiffRequest → Outcome → GatherFault
-    → Type 0
-HasSideCause gives request input fault =
-    HasGatherCause gives request.from.request input fault
-    ⊎ HasGatherCause gives request.to.request input fault
+-- A fault has a cause in the files of the first side that can't be gathered: in those of the left
+-- side, or in those of the right side behind the files of the left one.
+pub data HasSideCause (gives : List ℕ → Outcome → Type 0) (request : DiffRequest) (input : Outcome)
+    (fault : GatherFault) : Type 0 where
+  of_left : HasGatherCause gives request.from.request input fault
+      → HasSideCause gives request input fault
+  of_right : (from : Gathered) → AreSideFiles gives request.from input from
+      → HasGatherCause gives request.to.request input fault
+      → HasSideCause gives request input fault

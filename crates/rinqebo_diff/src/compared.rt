@@ -124,91 +124,106 @@ impl ComparedTests {
     }
 }
 
-/// Compares a test of the right list, if the left list has it, and reports progress then, out of the
-/// number of tests that both lists have. The test is looked for near a place first, which is then the
-/// place to begin with for the next test. Nothing is kept of a test that does not change.
-fn compare_test<'c, 'd, 'q, P: Progress>(
-    alloc: Global,
-    compare: &Comparison<'_>,
+/// What the tests of two lists are compared by, the same for each of them.
+#[derive(Clone, Copy)]
+struct ComparedBy<'s, 'q> {
+    /// What counts as a change.
+    compare: Comparison<'s>,
+    /// The left list.
     from_tests: &'q [ListedBinary],
-    test: ListedTest<'q>,
-    guess: &mut Place,
-    left: &mut SideTests<'_, 'c>,
-    right: &mut SideTests<'_, 'd>,
-    from_origins: &mut Origins<'_, '_, 'c>,
-    to_origins: &mut Origins<'_, '_, 'd>,
-    found: &mut ComparedTests,
+    /// The number of tests that both lists have, for a user who waits.
     number: usize,
-    progress: &mut P,
-) -> Result<(), AllocError>
-    ensures from_lister { left.new.listing.lister ≡ left.old.listing.lister }
-    ensures to_lister { right.new.listing.lister ≡ right.old.listing.lister }
-    ensures same_from { from_origins.new ≡ from_origins.old }
-    ensures same_to { to_origins.new ≡ to_origins.old }
-    ensures compared { let from = left.old.listing.lister in
-        let to = right.old.listing.lister in
-        OnOk result (AddsCompared (ReportsBy filter_holds from_origins.old
-        (profile_meaning (marks_view names_of) from.profile.now) from.mode from.asked.now)
-        (ReportsBy filter_holds to_origins.old
-        (profile_meaning (marks_view names_of) to.profile.now) to.mode to.asked.now)
-        (is_change compare.now.sources.from.now compare.now.sources.to.now
-        compare.now.with_origins) compare.now.with_runs (tests_of from_tests.now)
-        (list_test_view test.entry ∷ []) found.old found.new) }
-{
-    if let Some(pair) = pair_of(from_tests, test, guess) {
-        let changes = compared_pair(alloc, compare, &pair, left, right, from_origins, to_origins)?;
-        found.add(changes)?;
-        progress.asked(found.count, number);
-    }
-    Ok(())
 }
 
-/// Compares the tests of a binary of the right list that the left list has.
-fn compare_binary<'c, 'd, 'q, P: Progress>(
-    alloc: Global,
-    compare: &Comparison<'_>,
-    from_tests: &'q [ListedBinary],
-    binary: &'q ListedBinary,
-    guess: &mut Place,
-    left: &mut SideTests<'_, 'c>,
-    right: &mut SideTests<'_, 'd>,
-    from_origins: &mut Origins<'_, '_, 'c>,
-    to_origins: &mut Origins<'_, '_, 'd>,
-    found: &mut ComparedTests,
-    number: usize,
-    progress: &mut P,
-) -> Result<(), AllocError>
-    ensures from_lister { left.new.listing.lister ≡ left.old.listing.lister }
-    ensures to_lister { right.new.listing.lister ≡ right.old.listing.lister }
-    ensures same_from { from_origins.new ≡ from_origins.old }
-    ensures same_to { to_origins.new ≡ to_origins.old }
-    ensures compared { let from = left.old.listing.lister in
-        let to = right.old.listing.lister in
-        OnOk result (AddsCompared (ReportsBy filter_holds from_origins.old
-        (profile_meaning (marks_view names_of) from.profile.now) from.mode from.asked.now)
-        (ReportsBy filter_holds to_origins.old
-        (profile_meaning (marks_view names_of) to.profile.now) to.mode to.asked.now)
-        (is_change compare.now.sources.from.now compare.now.sources.to.now
-        compare.now.with_origins) compare.now.with_runs (tests_of from_tests.now)
-        (tests_in (listed_view binary.now)) found.old found.new) }
-{
-    for case in &binary.tests {
-        compare_test(
-            alloc,
-            compare,
-            from_tests,
-            test_of(binary, case),
-            guess,
-            left,
-            right,
-            from_origins,
-            to_origins,
-            found,
-            number,
-            progress,
-        )?;
+/// How far a comparison of tests is.
+#[derive(Drop)]
+struct Comparing<'l, 'r, 'c, 'd> {
+    /// The tests of the left side, in turn.
+    left: SideTests<'l, 'c>,
+    /// The tests of the right side, in turn.
+    right: SideTests<'r, 'd>,
+    /// Where the next test is looked for first in the left list.
+    guess: Place,
+    /// What changes so far.
+    found: ComparedTests,
+}
+
+impl<'c, 'd> Comparing<'_, '_, 'c, 'd> {
+    /// Compares a test of the right list, if the left list has it, and reports progress then.
+    /// Nothing is kept of a test that does not change.
+    fn compare_test<'q, P: Progress>(
+        &mut self,
+        alloc: Global,
+        by: &ComparedBy<'_, 'q>,
+        test: ListedTest<'q>,
+        from_origins: &mut Origins<'_, '_, 'c>,
+        to_origins: &mut Origins<'_, '_, 'd>,
+        progress: &mut P,
+    ) -> Result<(), AllocError>
+        ensures from_lister { self.new.left.listing.lister ≡ self.old.left.listing.lister }
+        ensures to_lister { self.new.right.listing.lister ≡ self.old.right.listing.lister }
+        ensures same_from { from_origins.new ≡ from_origins.old }
+        ensures same_to { to_origins.new ≡ to_origins.old }
+        ensures compared { let from = self.old.left.listing.lister in
+            let to = self.old.right.listing.lister in
+            let compare = by.now.compare in
+            OnOk result (AddsCompared (ReportsBy filter_holds from_origins.old
+            (profile_meaning (marks_view names_of) from.profile.now) from.mode from.asked.now)
+            (ReportsBy filter_holds to_origins.old
+            (profile_meaning (marks_view names_of) to.profile.now) to.mode to.asked.now)
+            (is_change compare.sources.from.now compare.sources.to.now compare.with_origins)
+            compare.with_runs (tests_of by.now.from_tests.now)
+            (list_test_view test.entry ∷ []) self.old.found self.new.found) }
+    {
+        if let Some(pair) = pair_of(by.from_tests, test, &mut self.guess) {
+            let left = &mut self.left;
+            let right = &mut self.right;
+            let changes = compared_pair(
+                alloc,
+                &by.compare,
+                &pair,
+                left,
+                right,
+                from_origins,
+                to_origins,
+            )?;
+            self.found.add(changes)?;
+            progress.asked(self.found.count, by.number);
+        }
+        Ok(())
     }
-    Ok(())
+
+    /// Compares the tests of a binary of the right list that the left list has.
+    fn compare_binary<'q, P: Progress>(
+        &mut self,
+        alloc: Global,
+        by: &ComparedBy<'_, 'q>,
+        binary: &'q ListedBinary,
+        from_origins: &mut Origins<'_, '_, 'c>,
+        to_origins: &mut Origins<'_, '_, 'd>,
+        progress: &mut P,
+    ) -> Result<(), AllocError>
+        ensures from_lister { self.new.left.listing.lister ≡ self.old.left.listing.lister }
+        ensures to_lister { self.new.right.listing.lister ≡ self.old.right.listing.lister }
+        ensures same_from { from_origins.new ≡ from_origins.old }
+        ensures same_to { to_origins.new ≡ to_origins.old }
+        ensures compared { let from = self.old.left.listing.lister in
+            let to = self.old.right.listing.lister in
+            let compare = by.now.compare in
+            OnOk result (AddsCompared (ReportsBy filter_holds from_origins.old
+            (profile_meaning (marks_view names_of) from.profile.now) from.mode from.asked.now)
+            (ReportsBy filter_holds to_origins.old
+            (profile_meaning (marks_view names_of) to.profile.now) to.mode to.asked.now)
+            (is_change compare.sources.from.now compare.sources.to.now compare.with_origins)
+            compare.with_runs (tests_of by.now.from_tests.now)
+            (tests_in (listed_view binary.now)) self.old.found self.new.found) }
+    {
+        for case in &binary.tests {
+            let test = test_of(binary, case);
+            self.compare_test(alloc, by, test, from_origins, to_origins, progress)?;
+        }
+        Ok(())
+    }
 }
 
 /// What changes for the tests of the right list that the left list has, in their order: those of
@@ -236,28 +251,24 @@ pub fn compared<'c, 'd, 'q, P: Progress>(
         compare.now.with_origins) compare.now.with_runs (tests_of from_tests.now)
         (tests_of to_tests.now) compared.changed.items compared.count) }
 {
-    let mut left = SideTests::new(alloc, from)?;
-    let mut right = SideTests::new(alloc, to)?;
-    let mut guess = Place::first();
-    let mut found = ComparedTests {
-        changed: Vec::new(alloc),
-        count: 0,
+    let by = ComparedBy {
+        compare: *compare,
+        from_tests,
+        number,
+    };
+    let left = SideTests::new(alloc, from)?;
+    let right = SideTests::new(alloc, to)?;
+    let mut comparing = Comparing {
+        left,
+        right,
+        guess: Place::first(),
+        found: ComparedTests {
+            changed: Vec::new(alloc),
+            count: 0,
+        },
     };
     for binary in to_tests {
-        compare_binary(
-            alloc,
-            compare,
-            from_tests,
-            binary,
-            &mut guess,
-            &mut left,
-            &mut right,
-            from_origins,
-            to_origins,
-            &mut found,
-            number,
-            progress,
-        )?;
+        comparing.compare_binary(alloc, &by, binary, from_origins, to_origins, progress)?;
     }
-    Ok(found)
+    Ok(comparing.found)
 }

@@ -100,6 +100,7 @@ module _ {M K P : Type 0} (meets : K → P → Option Bool) (matches : M → Tes
         record {
           binary = is.binary ∙ sym are.binary;
           name = is.name ∙ sym are.name;
+          platform = is.platform ∙ sym are.platform;
           runs = runs_say_same layers one names (filtering_place p) (runs_if (is_selected query p) test.ignored) x.runs
               y.runs is.run_reported are.run_reported;
           ignored = is.ignored_reported ∙ sym are.ignored_reported;

@@ -13,11 +13,12 @@ pub record SaySame (one other : SettingRow) : Type 0 where
   pub value : AreAlike one.value other.value
   pub origins : map origin_shown one.origins.items ≡ map origin_shown other.origins.items
 
--- Two reports agree on a test: they name it alike, and agree on whether it runs, and on each
--- setting that both report.
+-- Two reports agree on a test: they name it alike, and agree on its platform, on whether it runs,
+-- and on each setting that both report.
 pub record AgreeOnTest (one other : TestRows) : Type 0 where
   pub binary : string_bytes one.binary ≡ string_bytes other.binary
   pub name : string_bytes one.name ≡ string_bytes other.name
+  pub platform : one.platform ≡ other.platform
   pub runs : SaySame one.runs other.runs
   pub ignored : one.is_ignored ≡ other.is_ignored
   pub settings : (left right : SettingRow) → Contains one.settings.items left

@@ -31,6 +31,7 @@ use Rattle.rinqebo_results.specs.Reasons.{AreRulesReported, HasNoConditions, IsR
 use Rattle.rinqebo_load.specs.Sessions.{files_view, readings}
 use Rattle.rinqebo_origins.specs.Origins.{key_steps}
 use Rattle.rinqebo_origins.specs.ProfileOrigins.{AreProfileOrigins}
+use Rattle.rinqebo_rules.specs.Rows.{shown_platform}
 use Rattle.rinqebo_rules.specs.SettingRules.{rules_for}
 use Rattle.rinqebo_load.specs.declared.found_test.FoundTest.{FoundTest}
 use Rattle.rinqebo_load.specs.declared.session.Session.{Session}
@@ -78,10 +79,11 @@ configured_by session scripts = record {
   scripts = scripts;
 }
 
--- A report names a test.
+-- A report names a test, and shows the platform that its binary is built for.
 pub record IsTestNamed (test : FoundTest) (named : TestId) : Type 0 where
   pub binary : string_bytes named.binary ≡ string_bytes test.binary
   pub name : string_bytes named.name ≡ string_bytes test.name
+  pub platform : named.platform ≡ shown_platform test.platform
 
 -- a fact of the test, the key and the rules of a report, and of whether it shows the test as
 -- ignored

@@ -7,13 +7,12 @@ use Rattle.rinqebo_load.specs.SessionOf.{IsSessionOf}
 use Rattle.rinqebo_load.specs.declared.failure.Failure.{Failure}
 use Rattle.rinqebo_load.specs.declared.failure.Failure.TheVariants as failures
 use Rattle.rinqebo_load.specs.declared.session.Session.{Session}
+use Rattle.rinqebo_report.specs.Document.{is_check}
 use Rattle.rinqebo_report.specs.Pages.{findings_runs}
 use Rattle.rinqebo_report.specs.Pieces.{page_text}
 use Rattle.rinqebo_report.specs.declared.format.Format.{Format}
 use Rattle.rinqebo_report.specs.declared.format.Format.TheVariants as formats
 use Rattle.rinqebo_report.specs.declared.piece.Colour.{Colour}
-use Rattle.rinqebo_report.specs.declared.report.Content.{Content}
-use Rattle.rinqebo_report.specs.declared.report.Content.TheVariants as contents
 use Rattle.rinqebo_report.specs.declared.report.Report.{Report}
 use Rattle.rinqebo_request.specs.Requests.{source_variable}
 use Rattle.rinqebo_request.specs.declared.files.gathering.Gathered.{Gathered}
@@ -111,12 +110,8 @@ is_json formats.Grouped = false
 is_json formats.Concise = false
 is_json (formats.Github folder) = false
 
--- whether a report is of a check, whose page has its findings itself
-abbrev pub is_check : Content → Bool
-is_check contents.Check = true
-is_check content = false
-
--- the page of the findings of a result, beside its own page: a document of JSON has them itself too
+-- the page of the findings of a result, beside its own page: that of a check and a document of JSON
+-- have them themselves
 abbrev pub findings_beside : Report → Format → Colour → List ℕ
 findings_beside report format colour =
     if is_check report.content || is_json format then []

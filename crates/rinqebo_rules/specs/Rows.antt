@@ -3,6 +3,8 @@ use Rattle.std.specs.Prelude.{◌≡◌, Bool, List, string_bytes}
 use Rattle.std.specs.List.{AllZip}
 use Rattle.nextest_elements.specs.declared.run_mode.NextestRunMode.{NextestRunMode}
 use Rattle.nextest_engines.specs.Engines.{Test}
+use Rattle.nextest_engines.specs.declared.queries.BuildPlatform.{BuildPlatform}
+use Rattle.nextest_engines.specs.declared.queries.BuildPlatform.TheVariants as platforms
 use Rattle.filter_inputs.specs.Lists.Lists.{ListTest}
 use Rattle.nextest_settings.specs.Deciding.{QueryContext}
 use Rattle.nextest_settings.specs.Profile.{EvaluatableModel}
@@ -12,6 +14,8 @@ use Rattle.rinqebo_origins.specs.TestOrigins.{Basis, wrapping_id}
 use Rattle.rinqebo_rules.specs.Runs.{IsRunReported, is_selected, runs_if, shows_runs}
 use Rattle.rinqebo_origins.specs.Settings.{IsSettingReported, reported_settings}
 use Rattle.rinqebo_request.specs.declared.request.RequestedSettings.{RequestedSettings}
+use Rattle.rinqebo_report.specs.declared.report.BuiltFor.{BuiltFor}
+use Rattle.rinqebo_report.specs.declared.report.BuiltFor.TheVariants as built_for
 use Rattle.rinqebo_report.specs.declared.report.SettingRow.{SettingRow}
 use Rattle.rinqebo_report.specs.declared.report.TestRows.{TestRows}
 
@@ -23,14 +27,20 @@ AreSettingsReported basis query mode profile = AllZip
     (IsSettingReported basis (wrapping_id query profile) (setting_value query mode profile)
     (setting_origin query mode profile) mode)
 
--- A report lists a test: its binary, its name, whether it runs, whether a list says that it is
--- ignored, and the settings that rules decide, or the requested ones.
+-- The platform of a binary, as a report shows it.
+abbrev pub shown_platform : BuildPlatform → BuiltFor
+shown_platform platforms.Host = built_for.Host
+shown_platform platforms.Target = built_for.Target
+
+-- A report lists a test: its binary, its name, its platform, whether it runs, whether a list says
+-- that it is ignored, and the settings that rules decide, or the requested ones.
 pub record IsTestReported {M : Type 0} (basis : Basis) (query : QueryContext M)
     (mode : NextestRunMode) (profile : EvaluatableModel M) (asked : RequestedSettings)
     (listed : ListTest) (told : TestRows) : Type 0
   where
     pub binary : string_bytes told.binary ≡ listed.test.binary.binary_id
     pub name : string_bytes told.name ≡ listed.test.name
+    pub platform : told.platform ≡ shown_platform listed.test.binary.platform
     pub run_reported : IsRunReported basis query profile listed.ignored told.runs
     pub run_shown : told.shows_runs
         ≡ shows_runs asked (runs_if (is_selected query profile) listed.ignored)

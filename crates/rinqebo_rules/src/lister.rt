@@ -7,7 +7,7 @@ ghost use Rattle.nextest_settings.specs.Profiles.SettingsOf.{AreSettingsOf};
 ghost use Rattle.nextest_settings.specs.Queries.{query_in};
 ghost use Rattle.rinqebo_objects.specs.Uses.{AreUsesIn};
 ghost use Rattle.rinqebo_rules.specs.Evaluations.{default_filter_number};
-ghost use Rattle.rinqebo_rules.specs.Rows.{AreTestsReported, IsTestReported};
+ghost use Rattle.rinqebo_rules.specs.Rows.{AreTestsReported, IsTestReported, shown_platform};
 ghost use Rattle.rinqebo_rules.specs.Unused.{AreUnusedIn, AreUsedIn};
 
 use crate::listing::Listing;
@@ -51,7 +51,9 @@ pub struct ListedRows<'c> {
 }
 
 /// What a binary is built for, as a report shows it.
-pub fn reported_platform(platform: BuildPlatform) -> BuiltFor {
+pub fn reported_platform(platform: BuildPlatform) -> BuiltFor
+    ensures { result ≡ shown_platform platform }
+{
     match platform {
         BuildPlatform::Host => BuiltFor::Host,
         BuildPlatform::Target => BuiltFor::Target,

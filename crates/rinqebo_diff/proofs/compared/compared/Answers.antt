@@ -40,19 +40,19 @@ loop-binary-preserved g c =
       left_same = then.from_lister ∙ inv.left_same;
       right_same = then.to_lister ∙ inv.right_same;
       compared = adds_more _ _ changes compare.with_runs tests (tests_of (take i binaries)) these
-          (tests_of (take (i + 1) binaries)) _ c.loop-binary.found c.compare_binary.new.found
+          (tests_of (take (i + 1) binaries)) _ c.loop-binary.comparing.found c.compare_binary.new.self.found
           (tests_taken binaries i binary binary c.loop-binary-test.true c.binary-item.is)
           inv.compared
           (by_names _ _ _ _ inv.from_same inv.to_same
           (λ a b. AddsCompared
           (ReportsBy filter_holds a (profile_meaning (marks_view names_of) from.profile.now) from.mode from.asked.now)
           (ReportsBy filter_holds b (profile_meaning (marks_view names_of) to.profile.now) to.mode to.asked.now)
-          changes compare.with_runs tests these c.loop-binary.found c.compare_binary.new.found)
+          changes compare.with_runs tests these c.loop-binary.comparing.found c.compare_binary.new.self.found)
           (by_names _ _ _ _ inv.left_same inv.right_same
           (λ l r. AddsCompared
           (ReportsBy filter_holds c.loop-binary.from_origins (profile_meaning (marks_view names_of) l.profile.now) l.mode
           l.asked.now)
           (ReportsBy filter_holds c.loop-binary.to_origins (profile_meaning (marks_view names_of) r.profile.now) r.mode
           r.asked.now)
-          changes compare.with_runs tests these c.loop-binary.found c.compare_binary.new.found) then.compared));
+          changes compare.with_runs tests these c.loop-binary.comparing.found c.compare_binary.new.self.found) then.compared));
     }

@@ -13,13 +13,14 @@ abbrev pub invariant-loop-binary : goal.invariant-loop-binary
 invariant-loop-binary g l = record {
   from_same : l.from_origins ≡ l.initial.from_origins;
   to_same : l.to_origins ≡ l.initial.to_origins;
-  left_same : l.left.listing.lister ≡ l.from;
-  right_same : l.right.listing.lister ≡ l.to;
+  left_same : l.comparing.left.listing.lister ≡ l.from;
+  right_same : l.comparing.right.listing.lister ≡ l.to;
   compared : AddsCompared
       (ReportsBy filter_holds l.initial.from_origins (profile_meaning (marks_view names_of) l.from.profile.now) l.from.mode
       l.from.asked.now)
       (ReportsBy filter_holds l.initial.to_origins (profile_meaning (marks_view names_of) l.to.profile.now) l.to.mode
       l.to.asked.now)
       (is_change l.compare.sources.from.now l.compare.sources.to.now l.compare.with_origins) l.compare.with_runs
-      (tests_of l.from_tests) (tests_of (take l.binary-index l.to_tests)) l.initial.found l.found;
+      (tests_of l.from_tests) (tests_of (take l.binary-index l.to_tests)) l.initial.comparing.found
+      l.comparing.found;
 }

@@ -23,6 +23,7 @@ returns-clause-told g c = λ are.
     record {
       binary = c.in_ok-from_str.ensures.ok;
       name = c.in_ok-from_str-2.ensures.ok;
+      platform = c.reported_platform.ensures;
       run_reported = reported_run c.args.origins.now query profile test.ignored _ runs _
           c.in_ok-runs_row.ensures.told;
       run_shown = c.shows_runs.ensures ∙ ap (shows_runs self.asked.now) runs;

@@ -10,7 +10,7 @@ use Rattle.rinqebo_changes.specs.Sides.Matched.{tests_of}
 use Rattle.rinqebo_changes.proofs.Matching.{cases_taken}
 use Rattle.rinqebo_diff.specs.Compared.{ReportsBy, AddsCompared}
 use Rattle.rinqebo_diff.proofs.Comparing.{adds_more, adds_none, by_names}
-use Rattle.rinqebo_diff.proofs.compared.compare_binary.Goals as goal
+use Rattle.rinqebo_diff.proofs.compared.Comparing.compare_binary.Goals as goal
 
 pub loop-case-init : goal.loop-case-init
 loop-case-init g c = record {
@@ -18,7 +18,7 @@ loop-case-init g c = record {
   to_same = refl;
   left_same = refl;
   right_same = refl;
-  compared = adds_none _ _ _ _ _ c.args.found.now c.args.found.now refl refl;
+  compared = adds_none _ _ _ _ _ c.args.self.now.found c.args.self.now.found refl refl;
 }
 
 pub loop-case-preserved : goal.loop-case-preserved
@@ -28,11 +28,11 @@ loop-case-preserved g c =
     let i = c.loop-case.case-index in
     let binary = c.args.binary.now in
     let cases = binary.tests.items in
-    let from = c.args.left.now.listing.lister in
-    let to = c.args.right.now.listing.lister in
-    let compare = c.args.compare.now in
+    let from = c.args.self.now.left.listing.lister in
+    let to = c.args.self.now.right.listing.lister in
+    let compare = c.args.by.now.compare in
     let changes = is_change compare.sources.from.now compare.sources.to.now compare.with_origins in
-    let tests = tests_of c.args.from_tests.now in
+    let tests = tests_of c.args.by.now.from_tests.now in
     let so_far = map (test_of (binary_view binary)) (map case_view (take i cases)) in
     let more = map (test_of (binary_view binary)) (map case_view (take (i + 1) cases)) in
     let one = list_test_view c.test_of.result ∷ [] in
@@ -41,8 +41,8 @@ loop-case-preserved g c =
       to_same = then.same_to ∙ inv.to_same;
       left_same = then.from_lister ∙ inv.left_same;
       right_same = then.to_lister ∙ inv.right_same;
-      compared = adds_more _ _ changes compare.with_runs tests so_far one more c.args.found.now c.loop-case.found
-          c.compare_test.new.found
+      compared = adds_more _ _ changes compare.with_runs tests so_far one more c.args.self.now.found
+          c.loop-case.self.found c.compare_test.new.self.found
           (cases_taken binary c.deref-case-items.result.now i c.case-item.result c.case-item.result
           c.deref-case-items.ensures.value c.loop-case-test.true c.case-item.is
           ∙ ap (λ t. so_far ++ t ∷ []) (sym c.test_of.ensures))
@@ -51,12 +51,12 @@ loop-case-preserved g c =
           (λ a b. AddsCompared
           (ReportsBy filter_holds a (profile_meaning (marks_view names_of) from.profile.now) from.mode from.asked.now)
           (ReportsBy filter_holds b (profile_meaning (marks_view names_of) to.profile.now) to.mode to.asked.now)
-          changes compare.with_runs tests one c.loop-case.found c.compare_test.new.found)
+          changes compare.with_runs tests one c.loop-case.self.found c.compare_test.new.self.found)
           (by_names _ _ _ _ inv.left_same inv.right_same
           (λ l r. AddsCompared
           (ReportsBy filter_holds c.loop-case.from_origins (profile_meaning (marks_view names_of) l.profile.now) l.mode
           l.asked.now)
           (ReportsBy filter_holds c.loop-case.to_origins (profile_meaning (marks_view names_of) r.profile.now) r.mode
           r.asked.now)
-          changes compare.with_runs tests one c.loop-case.found c.compare_test.new.found) then.compared));
+          changes compare.with_runs tests one c.loop-case.self.found c.compare_test.new.self.found) then.compared));
     }
