@@ -35,7 +35,7 @@ loop-case-preserved g c =
     let tests = tests_of c.args.by.now.from_tests.now in
     let so_far = map (test_of (binary_view binary)) (map case_view (take i cases)) in
     let more = map (test_of (binary_view binary)) (map case_view (take (i + 1) cases)) in
-    let one = list_test_view c.test_of.result ∷ [] in
+    let one = list_test_view c.test_of-test.result ∷ [] in
     record {
       from_same = then.same_from ∙ inv.from_same;
       to_same = then.same_to ∙ inv.to_same;
@@ -45,7 +45,7 @@ loop-case-preserved g c =
           c.loop-case.self.found c.compare_test.new.self.found
           (cases_taken binary c.deref-case-items.result.now i c.case-item.result c.case-item.result
           c.deref-case-items.ensures.value c.loop-case-test.true c.case-item.is
-          ∙ ap (λ t. so_far ++ t ∷ []) (sym c.test_of.ensures))
+          ∙ ap (λ t. so_far ++ t ∷ []) (sym c.test_of-test.ensures))
           inv.compared
           (by_names _ _ _ _ inv.from_same inv.to_same
           (λ a b. AddsCompared
