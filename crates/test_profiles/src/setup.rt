@@ -1,7 +1,7 @@
 //! The lines of a case that are not about its files: a build, tests, and the profiles to run.
 use nextest_config::{
-    BinaryQuery, BuildPlatform, ConfigPath, ConfigPaths, FileInput, TestQuery, ToolConfigFile,
-    ToolName,
+    BinaryQuery, BuildPlatform, ConfigPath, ConfigPaths, FileInput, InvalidIdentifier, TestQuery,
+    ToolConfigFile, ToolName,
 };
 use nextest_sources::FileReader;
 use std::alloc::{AllocError, Global};
@@ -91,8 +91,10 @@ impl<'a> Setup<'a> {
         line: &'a str,
         name: &str,
     ) -> Result<(), CaseError<'a>> {
-        let Ok(tool) = ToolName::new(alloc, name) else {
-            return Err(CaseError::Line(line));
+        let tool = match ToolName::new(alloc, name) {
+            Ok(tool) => tool,
+            Err(InvalidIdentifier::Memory) => return Err(CaseError::Memory),
+            Err(_) => return Err(CaseError::Line(line)),
         };
         let path = format!(in alloc; "/{name}.toml")?;
         let config_file = file_at(alloc, files, path.as_str())?;
