@@ -35,6 +35,7 @@ lines_with_first text fault (Some first) =
 
 -- A place is that of the line that first defines the name which a line, at another place, defines a
 -- second time. There is none if that line defines it for the first time.
-abbrev pub IsEarlier : List (List ℕ) → ℕ → (is_second : Bool) → (name : List ℕ) → Option ℕ → Type 0
+abbrev pub IsEarlier : List (List ℕ) → ℕ → (is_second : Bool) → (name : List ℕ) → Option ℕ
+    → Type 0
 IsEarlier text place true name found = IsFirstDefinition text place name found
 IsEarlier text place false name found = found ≡ None

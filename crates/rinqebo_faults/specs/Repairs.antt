@@ -104,8 +104,8 @@ override_path profile index key =
     ∷ paths.position index ∷ paths.key key ∷ []
 
 -- the group that the override at a position of a profile sets is left out, if it is refused
-abbrev pub rule_edits : ℕ → (refused : List ℕ → Bool) → (profile : List ℕ) → ℕ → Option (List ℕ)
-    → List Edit
+abbrev pub rule_edits : ℕ → (refused : List ℕ → Bool) → (profile : List ℕ) → ℕ
+    → Option (List ℕ) → List Edit
 rule_edits place refused profile index None = []
 rule_edits place refused profile index (Some group) =
     if refused (naming_mark profile (codes "test-group") group)
