@@ -3,3 +3,4 @@ pub mod Causes
 pub mod Elements
 pub mod Ids
 pub mod Filters
+pub mod Loading

@@ -5,13 +5,11 @@ ghost use Rattle.nextest_load.specs.Parsed.{IsParseOf};
 use nextest_load::{ParsedText, ParsedTexts};
 use rinqebo_request::{Document, Layer, NoDocument};
 
-/// The texts of the files of a load, which are layers of a session in a row.
+/// The texts of the files of a load, which are the layers of a session above the defaults.
 #[derive(Clone, Copy)]
 pub(crate) struct LayerTexts<'l> {
-    /// The layers of the session.
+    /// The layers of the session. The first one is the defaults.
     pub(crate) layers: &'l [Layer<'l>],
-    /// The position of the layer that is the lowest file of the load.
-    pub(crate) lowest: usize,
 }
 
 /// Returns what a text was parsed to, if that is known.
@@ -40,7 +38,7 @@ fn parse_in_layer<'l>(layer: &'l Layer<'_>, text: &str) -> Option<ParsedText<'l>
 
 impl ParsedTexts for LayerTexts<'_> {
     fn parse_of(&self, place: usize, text: &str) -> Option<ParsedText<'_>> {
-        let position = self.lowest.checked_add(place)?;
+        let position = place.checked_add(1)?;
         parse_in_layer(self.layers.get(position)?, text)
     }
 }

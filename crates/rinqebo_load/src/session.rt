@@ -7,7 +7,7 @@ ghost use Rattle.nextest_sources.specs.WarningsView.{warnings_view};
 ghost use Rattle.rinqebo_load.specs.SessionOf.{IsSessionOf};
 ghost use Rattle.rinqebo_load.specs.Sessions.{files_view, readings, IfLoaded, IsLoadedFrom};
 ghost use Rattle.rinqebo_load.specs.Beginning.{IsBeginningFailure, IsUnusable};
-ghost use Rattle.rinqebo_load.specs.Warned.{warnings_met};
+ghost use Rattle.rinqebo_load.specs.Warned.{IsRefusedLoad, warnings_met};
 
 use crate::engines::Engines;
 use crate::failure::Failure;
@@ -20,12 +20,12 @@ use filter_engine::NextestFilters;
 use filter_inputs::ListedTests;
 use nextest_config::run::Inputs;
 use nextest_config::{
-    ConfigExperimental, ConfigFileSelection, ConfigParseError, ConfigPath, DefaultConfigWarnings,
-    FileInput, LoadedConfig, ParseContext, ReadOutcome, ToolConfigFile,
+    ConfigExperimental, ConfigFileSelection, ConfigParseError, DefaultConfigWarnings, LoadedConfig,
+    ParseContext,
 };
 use nextest_sources::ConfigInputs;
 use platform_language::TargetSpecs;
-use rinqebo_report::{ReportedRequest, SourceKind};
+use rinqebo_report::ReportedRequest;
 use rinqebo_request::{Gathered, Layer, ProfileSource, Request, features_of, layers_of};
 use std::alloc::{AllocError, Global};
 use std::collections::BTreeSet;
@@ -136,14 +136,6 @@ impl<'g> Session<'g> {
         }
     }
 
-    /// The texts of the layers from a position on, as they were parsed.
-    fn texts_from(&self, lowest: usize) -> LayerTexts<'_> {
-        LayerTexts {
-            layers: self.layers.as_slice(),
-            lowest,
-        }
-    }
-
     /// Loads the configuration. No text is parsed again, since the layers above the defaults are the
     /// files of the load. Warnings are reported as they are met.
     pub fn load(
@@ -157,6 +149,8 @@ impl<'g> Session<'g> {
             (files_view self.now.gathered.now)) }
         ensures warnings { IfOk result (λ _. warnings_view warnings.new
             ≡ warnings_view warnings.old ++ warnings_met self.now) }
+        ensures refused { IfErr result (IsRefusedLoad self.now (warnings_view warnings.old)
+            (warnings_view warnings.new)) }
     {
         let inputs = self.inputs();
         let inputs = ConfigInputs {
@@ -165,82 +159,12 @@ impl<'g> Session<'g> {
             tools: inputs.tools,
             features: inputs.features,
         };
-        let texts = self.texts_from(1);
+        let texts = LayerTexts {
+            layers: self.layers.as_slice(),
+        };
         match LoadedConfig::load_parsed(alloc, &inputs, &texts, &self.parse_context(), warnings) {
             Ok(config) => Ok(config),
             Err(error) => Err(error),
         }
-    }
-
-    /// Why files are refused, if they are. The lowest of them is the layer at a position.
-    fn refusal_of(
-        &self,
-        alloc: Global,
-        lowest: usize,
-        shared: &FileInput,
-        selection: ConfigFileSelection<'_>,
-        tools: &[ToolConfigFile],
-        warnings: &mut DefaultConfigWarnings,
-    ) -> Option<ConfigParseError> {
-        let inputs = ConfigInputs {
-            shared,
-            selection,
-            tools,
-            features: &self.features,
-        };
-        let texts = self.texts_from(lowest);
-        match LoadedConfig::load_parsed(alloc, &inputs, &texts, &self.parse_context(), warnings) {
-            Ok(_) => None,
-            Err(error) => Some(error),
-        }
-    }
-
-    /// The file of a tool at a place among the layers: the last tool's lies upon the defaults.
-    fn tool_at(&self, place: usize) -> &[ToolConfigFile] {
-        let tools = self.gathered.tools.as_slice();
-        let Some(index) = tools.len().checked_sub(place) else {
-            return &[];
-        };
-        if index >= tools.len() {
-            return &[];
-        }
-        &tools[index..index + 1]
-    }
-
-    /// Why the file at a place among the layers is refused without the other files, if it is.
-    /// Warnings are reported as they are met.
-    pub fn refusal_alone(
-        &self,
-        alloc: Global,
-        place: usize,
-        warnings: &mut DefaultConfigWarnings,
-    ) -> Result<Option<ConfigParseError>, AllocError> {
-        let Some(layer) = self.layers.get(place) else {
-            return Ok(None);
-        };
-        let shared = &self.gathered.paths.shared;
-        let absent = FileInput {
-            path: ConfigPath::new(alloc, shared.path.absolute_path())?,
-            outcome: ReadOutcome::NotFound,
-        };
-        let nothing = ConfigFileSelection::new(None);
-        Ok(match &layer.source.kind {
-            SourceKind::Default => None,
-            SourceKind::Tool(_) => {
-                let tools = self.tool_at(place);
-                self.refusal_of(alloc, place, &absent, nothing, tools, warnings)
-            }
-            SourceKind::Organisation => {
-                let selection = ConfigFileSelection {
-                    organisation_file: self.gathered.organisation_file.as_ref(),
-                    ..nothing
-                };
-                self.refusal_of(alloc, place, &absent, selection, &[], warnings)
-            }
-            SourceKind::Explicit | SourceKind::Discovered => {
-                let selection = ConfigFileSelection::new(self.gathered.config_file.as_ref());
-                self.refusal_of(alloc, place, shared, selection, &[], warnings)
-            }
-        })
     }
 }

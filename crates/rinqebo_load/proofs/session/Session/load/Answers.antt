@@ -7,6 +7,7 @@ use Rattle.nextest_sources.specs.Steps.{warnings_before}
 use Rattle.nextest_sources.specs.Warnings.{Warning}
 use Rattle.nextest_sources.specs.WarningsView.{warnings_view}
 use Rattle.rinqebo_load.specs.Sessions.{files_view, readings, IsLoadedFrom}
+use Rattle.rinqebo_load.proofs.Loading.{same_run}
 use Rattle.rinqebo_load.proofs.session.Session.load.Goals as goal
 
 pub returns-in-Ok-clause-verdict : goal.returns-in-Ok-clause-verdict
@@ -55,3 +56,8 @@ returns-in-Err-clause-verdict c =
     c.inputs-inputs.ensures.features
     (subst (λ fs. IsMemory error ⊎ (¬ IsAccepted engines (features_view c.inputs-inputs.result.features.now) fs))
     c.inputs-inputs.ensures.files c.in-Err.ensures.loads.verdict))
+
+pub returns-in-Err-clause-refused : goal.returns-in-Err-clause-refused
+returns-in-Err-clause-refused c =
+    same_run _ _ _ _ _ _ _ _ _ c.parse_context.ensures (ap features_view c.inputs-inputs.ensures.features)
+    c.inputs-inputs.ensures.files c.in-Err.ensures.loads.ran
