@@ -1,6 +1,10 @@
 pub mod Each
+pub mod Forms
 pub mod InCycles
+pub mod LayerForms
 pub mod Later
 pub mod LeftOut
 pub mod Values
+pub mod Versions
 pub mod Warned
+pub mod Written

@@ -1,7 +1,6 @@
 -- What later checks refuse, and the findings that report it.
-use Rattle.std.specs.Prelude.{◌≡◌, ℕ, List, [], ◌∷◌, ◌++◌, codes, flat_map, map, slice_get, Option, None, Some, option_map, String, string_bytes, Vec, if◌then◌else◌}
+use Rattle.std.specs.Prelude.{◌≡◌, ℕ, List, [], ◌∷◌, ◌++◌, codes, flat_map, map, Option, None, Some, option_map, String, string_bytes, Vec, if◌then◌else◌}
 use Rattle.std.specs.Borrow.{Bor}
-use Rattle.std.specs.Option.{option_and_then}
 use Rattle.std.specs.declared.alloc.Global.{Global}
 use Rattle.nextest_elements.specs.Experimental.{experimental_text}
 use Rattle.nextest_elements.specs.TestGroup.{custom_group_text}
@@ -23,7 +22,6 @@ use Rattle.rinqebo_report.specs.declared.finding.Finding.{Finding}
 use Rattle.rinqebo_report.specs.declared.finding.Level.TheVariants as levels
 use Rattle.rinqebo_report.specs.declared.finding.RefusedExpression.{RefusedExpression}
 use Rattle.rinqebo_report.specs.declared.origin.FilePlace.{FilePlace}
-use Rattle.rinqebo_request.specs.Files.Layers.{layer_tree}
 use Rattle.rinqebo_request.specs.declared.files.layers.Layer.{Layer}
 use Rattle.rinqebo_request.specs.declared.files.places.SpanPart.{SpanPart}
 use Rattle.rinqebo_request.specs.declared.files.places.SpanPart.TheVariants as parts
@@ -41,7 +39,8 @@ use Rattle.rinqebo_faults.specs.Repairs.{group_path}
 use Rattle.rinqebo_faults.specs.Positions.{IsExpression}
 use Rattle.rinqebo_findings.specs.Each.{AreOfEach}
 use Rattle.rinqebo_findings.specs.Placed.{IsOnLines}
-use Rattle.rinqebo_findings.specs.Subjects.{error_at, IsElementFinding, IsErrorAt, subject}
+pub use Rattle.rinqebo_findings.specs.Sources.{document_at}
+use Rattle.rinqebo_findings.specs.Subjects.{error_at, IsElementFinding, IsErrorAt, IsStrayFor, subject}
 use Rattle.rinqebo_findings.specs.declared.foreign.ScriptFault.{ScriptFault}
 use Rattle.rinqebo_findings.specs.declared.foreign.ScriptFault.TheVariants as faults
 
@@ -95,11 +94,6 @@ pub record AddsLater (layers : List Layer) (source : Option ℕ) (faults : List 
 -- the place of a whole source
 abbrev pub whole_place : ℕ → FilePlace
 whole_place source = record { source = source; lines = None; range = None }
-
--- the document of the layer at a position, if it is known and is one
-abbrev pub document_at : List Layer → Option ℕ → Option Node
-document_at layers None = None
-document_at layers (Some position) = option_and_then layer_tree (slice_get layers position)
 
 -- ---- which faults
 
@@ -228,6 +222,7 @@ pub record AddsElement (layers : List Layer) (source : Option ℕ) (cause : Elem
     (old new : List Finding) : Type 0 where
   pub path : List Step
   pub stray : Option (Bor (List ℕ))
+  pub is_stray : IsStrayFor layers source cause path stray
   pub finding : Finding
   pub whole : new ≡ old ++ finding ∷ []
   pub is : IsElementFinding layers source cause path stray finding

@@ -2,8 +2,11 @@ pub mod Compile
 pub mod Each
 pub mod Files
 pub mod Later
+pub mod NextestForms
 pub mod Placed
 pub mod Shown
 pub mod Sources
 pub mod Subjects
 pub mod Warnings
+pub mod Words
+pub mod Written

@@ -1,12 +1,19 @@
 -- Sources, and what is known of their files.
 use Rattle.std.specs.Prelude.{ℕ, List, Option, None, Some, option_map, slice_get, string_bytes}
 use Rattle.std.specs.Option.{option_and_then}
+use Rattle.nextest_tree.specs.Node.{Node}
+use Rattle.rinqebo_request.specs.Files.Layers.{layer_tree}
 use Rattle.rinqebo_request.specs.declared.files.layers.Layer.{Layer}
 
 -- the layer at a position, if it is known
 abbrev pub layer_at : List Layer → Option ℕ → Option Layer
 layer_at layers None = None
 layer_at layers (Some position) = slice_get layers position
+
+-- the document of the layer at a position, if it is known and is one
+abbrev pub document_at : List Layer → Option ℕ → Option Node
+document_at layers None = None
+document_at layers (Some position) = option_and_then layer_tree (slice_get layers position)
 
 -- the path of the file of a layer, if it is one
 abbrev pub path_of : Layer → Option (List ℕ)

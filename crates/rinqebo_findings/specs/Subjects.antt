@@ -1,8 +1,10 @@
 -- What findings are about.
-use Rattle.std.specs.Prelude.{◌≡◌, ◌⊎◌, ℕ, List, [], ◌∷◌, ◌++◌, Option, None, Some, option_map, string_bytes}
+use Rattle.std.specs.Prelude.{◌≡◌, ℕ, Bool, true, false, List, [], ◌∷◌, ◌++◌, Option, None, Some, option_map, string_bytes}
 use Rattle.std.specs.Borrow.{Bor}
+use Rattle.std.specs.Option.{option_and_then, option_copied}
 use Rattle.nextest_places.specs.declared.step.Step.{Step}
 use Rattle.nextest_places.specs.declared.step.Step.TheVariants as steps
+use Rattle.nextest_tree.specs.Node.{as_table}
 use Rattle.nextest_tree.specs.declared.fault.ElementCause.{ElementCause}
 use Rattle.nextest_tree.specs.declared.fault.ElementCause.TheVariants as causes
 use Rattle.rinqebo_report.specs.Codes.Codes.{code_word}
@@ -19,7 +21,10 @@ use Rattle.rinqebo_report.specs.declared.finding.FindingStep.TheVariants as own
 use Rattle.rinqebo_report.specs.declared.finding.Level.{Level}
 use Rattle.rinqebo_report.specs.declared.finding.Level.TheVariants as levels
 use Rattle.rinqebo_faults.specs.Paths.{shown_path}
+use Rattle.rinqebo_faults.specs.Tables.{IsStray}
 use Rattle.rinqebo_findings.specs.Placed.{IsOnLines, IsPlacedAt}
+use Rattle.rinqebo_findings.specs.Words.{SaysDelays, SaysLack, SaysOfValue, words_of}
+use Rattle.rinqebo_findings.specs.Written.{is_table, value_at}
 
 -- a step of the path of a finding
 abbrev pub step_view : FindingStep → PathStep
@@ -65,9 +70,9 @@ pub record IsErrorAt (layers : List Layer) (source : Option ℕ) (code : Code) (
   pub about : subject finding ≡ error_at code path
   pub place : IsPlacedAt part layers source path finding.place
 
--- A finding is that delays do not agree, which a table or values of it have: it is on the lines of
--- the table or of one of them.
-pub record IsDelaysFinding (layers : List Layer) (source : Option ℕ) (table : List Step)
+-- A finding is an error about delays that do not agree, which a table or values of it have: it is
+-- on the lines of the table or of one of them.
+pub record IsDelaysError (layers : List Layer) (source : Option ℕ) (table : List Step)
     (finding : Finding) : Type 0 where
   pub rest : List Step
   pub about : subject finding ≡ error_at MaxDelayBelowDelay (table ++ rest)
@@ -84,16 +89,53 @@ abbrev pub lack_part : Option (Bor (List ℕ)) → SpanPart
 lack_part None = parts.Value
 lack_part (Some key) = parts.Key
 
--- A finding is that of a value: an error with the code of what is wrong there, at its path and its
--- place. That a table lacks a key is at the key that it has in its place, if there is one. Of a
--- table, delays are out of range.
+-- A finding is that of a value which is refused for a cause: an error with the code of the cause,
+-- at the path and the place of the value, with the words for it.
+pub record IsValueFinding (layers : List Layer) (source : Option ℕ) (cause : ElementCause)
+    (path : List Step) (finding : Finding) : Type 0 where
+  pub error : IsErrorAt layers source (code_of cause) (part_of cause) path finding
+  pub words : SaysOfValue (value_at layers source path) cause path (words_of finding)
+
+-- A finding is that a table lacks a key: it is at the key that the table has in its place, if there
+-- is one, with the words for it.
+pub record IsLackFinding (layers : List Layer) (source : Option ℕ) (key : List ℕ)
+    (table : List Step) (stray : Option (Bor (List ℕ))) (finding : Finding) : Type 0 where
+  pub error : IsErrorAt layers source MissingKey (lack_part stray) (lack_path table stray) finding
+  pub words : SaysLack layers source key table (option_copied stray) (words_of finding)
+
+-- a key is the one that a table has in place of one that it lacks, if a fault is that it lacks one:
+-- the one that the table does not know and that is nearest
+abbrev pub IsStrayFor :
+    List Layer → Option ℕ → ElementCause → List Step → Option (Bor (List ℕ)) → Type 0
+IsStrayFor layers source (causes.Missing key) table stray =
+    IsStray table (option_and_then as_table (value_at layers source table)) (string_bytes key) stray
+IsStrayFor layers source cause table stray = stray ≡ None
+
+-- A finding is that delays of a table do not agree, with the words for it.
+pub record IsDelaysFinding (layers : List Layer) (source : Option ℕ) (table : List Step)
+    (finding : Finding) : Type 0 where
+  pub error : IsDelaysError layers source table finding
+  pub words : SaysDelays layers source table (words_of finding)
+
+-- a finding is that a value is out of range: if that is a table, its delays are
+abbrev pub IsRangeFinding :
+    (has_table : Bool) → List Layer → Option ℕ → List Step → Finding → Type 0
+IsRangeFinding true layers source path finding = IsDelaysFinding layers source path finding
+IsRangeFinding false layers source path finding =
+    IsValueFinding layers source causes.OutOfRange path finding
+
+-- a finding is that of a value which is refused for another cause than that a table lacks a key
+abbrev pub IsGivenFinding : List Layer → Option ℕ → ElementCause → List Step → Finding → Type 0
+IsGivenFinding layers source causes.OutOfRange path finding =
+    IsRangeFinding (is_table (value_at layers source path)) layers source path finding
+IsGivenFinding layers source cause path finding = IsValueFinding layers source cause path finding
+
+-- a finding is that of a value which is refused for a cause; if that is a table which lacks a key,
+-- the table may have another one in its place
 abbrev pub IsElementFinding :
     List Layer → Option ℕ → ElementCause → List Step → Option (Bor (List ℕ)) → Finding →
     Type 0
 IsElementFinding layers source (causes.Missing key) path stray finding =
-    IsErrorAt layers source MissingKey (lack_part stray) (lack_path path stray) finding
-IsElementFinding layers source causes.OutOfRange path stray finding =
-    IsErrorAt layers source OutOfRange parts.Value path finding
-    ⊎ IsDelaysFinding layers source path finding
+    IsLackFinding layers source (string_bytes key) path stray finding
 IsElementFinding layers source cause path stray finding =
-    IsErrorAt layers source (code_of cause) (part_of cause) path finding
+    IsGivenFinding layers source cause path finding

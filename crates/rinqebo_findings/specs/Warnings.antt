@@ -17,6 +17,7 @@ use Rattle.rinqebo_faults.specs.Paths.{profile_path, shown_path}
 use Rattle.rinqebo_findings.specs.Each.{AreOfEach}
 use Rattle.rinqebo_findings.specs.Placed.{IsPlaceIn}
 use Rattle.rinqebo_findings.specs.Subjects.{subject}
+use Rattle.rinqebo_findings.specs.Words.{SaysUnknownKey, words_of}
 
 -- A finding warns of a key at some steps of a source, by a code.
 pub record WarnsAt (layers : List Layer) (source : Option ℕ) (code : Code) (steps : List Step)
@@ -35,11 +36,13 @@ pub record WarnsOf (layers : List Layer) (source : Option ℕ) (code : Code) (pa
   pub are : map path_step steps ≡ path
   pub warns : WarnsAt layers source code steps finding
 
--- A finding warns of an unknown key of a source. No contract says which path a text spells.
+-- A finding warns of an unknown key of a source, with the words for it. No contract says which path
+-- a text spells.
 pub record WarnsOfKey (layers : List Layer) (source : Option ℕ) (finding : Finding) :
     Type 0 where
   pub steps : List Step
   pub warns : WarnsAt layers source UnknownKey steps finding
+  pub words : SaysUnknownKey steps (words_of finding)
 
 -- a position is that of a source among layers, if it is one of them
 abbrev pub IsPositionOf : List Layer → Source → Option ℕ → Type 0

@@ -1,7 +1,10 @@
 //! The finding of retries whose longest delay is shorter than the first one.
-ghost use Rattle.std.specs.Prelude.{◌≡◌, IfOk};
+ghost use Rattle.std.specs.Prelude.{◌≡◌, ℕ, IfOk, List, Option, codes, option_map, string_bytes};
+ghost use Rattle.std.specs.Option.{option_copied};
 ghost use Rattle.rinqebo_findings.specs.Placed.{file_and_lines};
-ghost use Rattle.rinqebo_findings.specs.Subjects.{IsDelaysFinding, IsErrorAt, subject};
+ghost use Rattle.rinqebo_findings.specs.Subjects.{IsDelaysError, IsDelaysFinding, IsErrorAt, subject};
+ghost use Rattle.rinqebo_findings.specs.Words.{IsOtherLine, IsOtherNote, is_in, message_alone, raise_to, with_note, words_of};
+ghost use Rattle.rinqebo_findings.specs.Written.{text_at};
 
 use crate::below::file_at;
 use crate::findings::with_note;
@@ -71,6 +74,7 @@ fn with_entry(
     ensures about { IfOk result (λ shown. subject shown ≡ subject found) }
     ensures place { IfOk result
         (λ shown. file_and_lines shown.place ≡ file_and_lines found.place) }
+    ensures words { IfOk result (λ shown. words_of shown ≡ words_of found) }
 {
     let Some(FilePlace { source, lines, .. }) = found.place else {
         return Ok(found);
@@ -90,7 +94,10 @@ fn with_entry(
 }
 
 /// The text at a path, in the refused source or else in the highest one that has it.
-fn text_of<'r>(refused: &Refused<'r, '_>, path: &[Step<'_>]) -> Option<&'r str> {
+fn text_of<'r>(refused: &Refused<'r, '_>, path: &[Step<'_>]) -> Option<&'r str>
+    ensures { option_copied result
+        ≡ text_at refused.now.source.layers.now refused.now.source.position path.now }
+{
     value_at(refused.source, path)?.as_str()
 }
 
@@ -102,10 +109,23 @@ fn writes(refused: &Refused<'_, '_>, path: &[Step<'_>]) -> bool {
     }
 }
 
+/// Whether a place is in the file of the refused source.
+fn is_own(refused: &Refused<'_, '_>, place: FilePlace) -> bool
+    ensures { result ≡ is_in refused.now.source.position place }
+{
+    match refused.source.position {
+        Some(position) => position == place.source,
+        None => false,
+    }
+}
+
 /// The line and the path of the file of a value that another file writes.
-fn other_line<'r>(refused: &Refused<'r, '_>, path: &[Step<'_>]) -> Option<(u64, &'r str)> {
+fn other_line<'r>(refused: &Refused<'r, '_>, path: &[Step<'_>]) -> Option<(u64, &'r str)>
+    ensures { IsOtherLine refused.now.source.layers.now refused.now.source.position path.now
+        (option_map (λ line. (line.0, line.1.now)) result) }
+{
     let place = refused.place_at(path)?;
-    if refused.source.position == Some(place.source) {
+    if is_own(refused, place) {
         return None;
     }
     let lines = place.lines?;
@@ -118,7 +138,10 @@ fn elsewhere_note(
     refused: &Refused<'_, '_>,
     key: &str,
     path: &[Step<'_>],
-) -> Result<Option<String>, AllocError> {
+) -> Result<Option<String>, AllocError>
+    ensures { IfOk result (λ note. IsOtherNote refused.now.source.layers.now
+        refused.now.source.position key.now path.now (option_map string_bytes note)) }
+{
     let Some((line, file)) = other_line(refused, path) else {
         return Ok(None);
     };
@@ -132,8 +155,9 @@ fn entry_finding(
     wrong: &str,
     least: &str,
 ) -> Result<Finding, AllocError>
-    ensures { IfOk result (IsErrorAt refused.now.source.layers.now refused.now.source.position
-        Code.MaxDelayBelowDelay SpanPart.Value fault.now) }
+    ensures error { IfOk result (IsErrorAt refused.now.source.layers.now
+        refused.now.source.position Code.MaxDelayBelowDelay SpanPart.Value fault.now) }
+    ensures words { IfOk result (λ found. words_of found ≡ raise_to wrong.now least.now) }
 {
     let help = format!(in refused.alloc; "raise `max-delay` to at least `{least}`")?;
     let mut found = refused.at(Code::MaxDelayBelowDelay, fault, wrong)?;
@@ -153,6 +177,9 @@ fn with_other(
     ensures about { IfOk result (λ shown. subject shown ≡ subject found) }
     ensures place { IfOk result
         (λ shown. file_and_lines shown.place ≡ file_and_lines found.place) }
+    ensures words { IfOk result (λ shown. (note : Option (List ℕ))
+        × IsOtherNote refused.now.source.layers.now refused.now.source.position key.now
+        related.now note × (words_of shown ≡ with_note (words_of found) note)) }
 {
     let note = elsewhere_note(refused, key, related)?;
     let noted = with_note(found, note)?;
@@ -168,15 +195,29 @@ fn delay_finding(
     wrong: &str,
     least: &str,
 ) -> Result<Finding, AllocError>
-    ensures { IfOk result
-        (IsDelaysFinding refused.now.source.layers.now refused.now.source.position fault.now) }
+    ensures error { IfOk result
+        (IsDelaysError refused.now.source.layers.now refused.now.source.position fault.now) }
+    ensures words { IfOk result (λ found. (note : Option (List ℕ))
+        × IsOtherNote refused.now.source.layers.now refused.now.source.position key.now
+        related.now note × (words_of found ≡ with_note (raise_to wrong.now least.now) note)) }
 {
     let found = entry_finding(refused, fault, wrong, least)?;
     Ok(with_other(refused, found, fault, related, key)?)
 }
 
+/// The finding that the longest delay of retries is shorter than the first one, at their table.
+fn table_finding(refused: &Refused<'_, '_>, table: &[Step<'_>]) -> Result<Finding, AllocError>
+    ensures error { IfOk result
+        (IsDelaysError refused.now.source.layers.now refused.now.source.position table.now) }
+    ensures words { IfOk result (λ found. words_of found
+        ≡ message_alone (codes "`max-delay` is shorter than `delay`")) }
+{
+    let wrong = "`max-delay` is shorter than `delay`";
+    Ok(refused.at(Code::MaxDelayBelowDelay, table, wrong)?)
+}
+
 /// The finding that the longest delay of retries is shorter than the first one: at the longest one,
-/// unless another file writes it.
+/// unless another file writes it, or at their table where they are not both texts.
 pub fn delays_finding(refused: &Refused<'_, '_>, path: &[Step<'_>]) -> Result<Finding, AllocError>
     ensures { IfOk result
         (IsDelaysFinding refused.now.source.layers.now refused.now.source.position path.now) }
@@ -186,14 +227,18 @@ pub fn delays_finding(refused: &Refused<'_, '_>, path: &[Step<'_>]) -> Result<Fi
     let first_path = path_with(alloc, path, "delay")?;
     let longest = last_path.as_slice();
     let first = first_path.as_slice();
-    let (Some(most), Some(least)) = (text_of(refused, longest), text_of(refused, first)) else {
-        let code = Code::MaxDelayBelowDelay;
-        return Ok(refused.at(code, path, "`max-delay` is shorter than `delay`")?);
+    let Some(most) = text_of(refused, longest) else {
+        return Ok(table_finding(refused, path)?);
+    };
+    let Some(least) = text_of(refused, first) else {
+        return Ok(table_finding(refused, path)?);
     };
     let wrong = format!(in alloc; "`max-delay` ({most}) is shorter than `delay` ({least})")?;
     if writes(refused, longest) {
-        delay_finding(refused, longest, first, "delay", wrong.as_str(), least)
+        let key = "delay";
+        Ok(delay_finding(refused, longest, first, key, wrong.as_str(), least)?)
     } else {
-        delay_finding(refused, first, longest, "max-delay", wrong.as_str(), least)
+        let key = "max-delay";
+        Ok(delay_finding(refused, first, longest, key, wrong.as_str(), least)?)
     }
 }

@@ -1,8 +1,13 @@
 //! Findings of values that a file may not have where it writes them.
-ghost use Rattle.std.specs.Prelude.{◌≡◌, ℕ, List, Option, IfOk, OnOk, None};
-ghost use Rattle.rinqebo_findings.specs.Subjects.{IsElementFinding, IsErrorAt, code_of, lack_part, lack_path, part_of};
-ghost use Rattle.rinqebo_findings.specs.Later.{AddsElement};
+ghost use Rattle.std.specs.Prelude.{◌≡◌, ℕ, List, Option, IfOk, OnOk, option_map, string_bytes};
 ghost use Rattle.std.specs.Borrow.{Bor};
+ghost use Rattle.std.specs.Option.{option_and_then, option_copied};
+ghost use Rattle.nextest_tree.specs.Node.{as_table};
+ghost use Rattle.rinqebo_faults.specs.Tables.{IsStray};
+ghost use Rattle.rinqebo_findings.specs.Later.{AddsElement};
+ghost use Rattle.rinqebo_findings.specs.Subjects.{IsElementFinding, IsErrorAt, IsGivenFinding, IsLackFinding, IsStrayFor, IsValueFinding, code_of, part_of};
+ghost use Rattle.rinqebo_findings.specs.Words.{SaysLack, lack_help, words_of};
+ghost use Rattle.rinqebo_findings.specs.Written.{is_table, value_at};
 
 use crate::below::below_notes;
 use crate::delays::delays_finding;
@@ -53,8 +58,8 @@ fn value_finding(
     cause: &ElementCause,
     path: &[Step<'_>],
 ) -> Result<Finding, AllocError>
-    ensures { IfOk result (IsErrorAt refused.now.source.layers.now refused.now.source.position
-        (code_of cause.now) (part_of cause.now) path.now) }
+    ensures { IfOk result (IsValueFinding refused.now.source.layers.now
+        refused.now.source.position cause.now path.now) }
 {
     let alloc = refused.alloc;
     let given = value_at(refused.source, path);
@@ -71,8 +76,22 @@ fn value_finding(
 }
 
 /// Whether there is a table at a path.
-fn has_table(source: SourceAt<'_, '_>, path: &[Step<'_>]) -> bool {
+fn has_table(source: SourceAt<'_, '_>, path: &[Step<'_>]) -> bool
+    ensures { result
+        ≡ is_table (value_at source.entry.layers.now source.entry.position path.now) }
+{
     matches!(value_at(source, path), Some(Tree::Table(_)))
+}
+
+/// The finding that a value is out of range: if it is a table, its delays are.
+fn range_finding(refused: &Refused<'_, '_>, path: &[Step<'_>]) -> Result<Finding, AllocError>
+    ensures { IfOk result (IsGivenFinding refused.now.source.layers.now
+        refused.now.source.position ElementCause.OutOfRange path.now) }
+{
+    if has_table(refused.source, path) {
+        return Ok(delays_finding(refused, path)?);
+    }
+    Ok(value_finding(refused, &ElementCause::OutOfRange, path)?)
 }
 
 /// The finding of a value that is refused, other than that of a table that lacks a key.
@@ -81,13 +100,11 @@ fn element_finding(
     cause: &ElementCause,
     path: &[Step<'_>],
 ) -> Result<Finding, AllocError>
-    ensures { IfOk result (IsElementFinding refused.now.source.layers.now
-        refused.now.source.position cause.now path.now None) }
+    ensures { IfOk result (IsGivenFinding refused.now.source.layers.now
+        refused.now.source.position cause.now path.now) }
 {
     match cause {
-        ElementCause::OutOfRange if has_table(refused.source, path) => {
-            Ok(delays_finding(refused, path)?)
-        }
+        ElementCause::OutOfRange => Ok(range_finding(refused, path)?),
         cause => Ok(value_finding(refused, cause, path)?),
     }
 }
@@ -99,7 +116,11 @@ fn lack_help(
     key: &str,
     table: &[Step<'_>],
     has_stray: bool,
-) -> Result<(Option<String>, HelpPlace), AllocError> {
+) -> Result<(Option<String>, HelpPlace), AllocError>
+    ensures { IfOk result (λ help. (option_map string_bytes help.0, help.1)
+        ≡ lack_help key.now table.now has_stray
+        (value_at refused.now.source.layers.now refused.now.source.position table.now)) }
+{
     let alloc = refused.alloc;
     if has_stray {
         let hint = format!(in alloc; "did you mean `{key}`?")?;
@@ -119,8 +140,11 @@ fn lack_finding(
     part: SpanPart,
     stray: Option<&str>,
 ) -> Result<Finding, AllocError>
-    ensures { IfOk result (IsErrorAt refused.now.source.layers.now refused.now.source.position
-        Code.MissingKey part at.now) }
+    ensures error { IfOk result (IsErrorAt refused.now.source.layers.now
+        refused.now.source.position Code.MissingKey part at.now) }
+    ensures words { IfOk result (λ found. SaysLack refused.now.source.layers.now
+        refused.now.source.position key.now table.now (option_copied stray.entry)
+        (words_of found)) }
 {
     let wrong = lack_text(refused.alloc, key, table, stray)?;
     let (help, help_place) = lack_help(refused, key, table, stray.is_some())?;
@@ -141,8 +165,8 @@ fn missing_finding<'x>(
     table: &[Step<'x>],
     stray: Option<&'x str>,
 ) -> Result<Finding, AllocError>
-    ensures { IfOk result (IsErrorAt refused.now.source.layers.now refused.now.source.position
-        Code.MissingKey (lack_part stray.entry) (lack_path table.now stray.entry)) }
+    ensures { IfOk result (IsLackFinding refused.now.source.layers.now
+        refused.now.source.position key.now table.now stray.entry) }
 {
     match stray {
         Some(stray) => {
@@ -177,7 +201,10 @@ fn stray_at<'s>(
     source: SourceAt<'s, '_>,
     key: &str,
     table: &[Step<'_>],
-) -> Result<Option<&'s str>, AllocError> {
+) -> Result<Option<&'s str>, AllocError>
+    ensures { IfOk result (IsStray table.now (option_and_then as_table
+        (value_at source.entry.layers.now source.entry.position table.now)) key.now) }
+{
     match value_at(source, table) {
         Some(tree) => stray_key(alloc, table, tree, key),
         None => Ok(None),
@@ -193,8 +220,10 @@ fn missing_in_source<'s>(
     table: &[Step<'s>],
 ) -> Result<Finding, AllocError>
     ensures { IfOk result (λ found. (stray : Option (Bor (List ℕ)))
-        × IsErrorAt refused.now.source.layers.now refused.now.source.position Code.MissingKey
-        (lack_part stray) (lack_path table.now stray) found) }
+        × IsStray table.now (option_and_then as_table
+        (value_at source.entry.layers.now source.entry.position table.now)) key.now stray
+        × IsLackFinding refused.now.source.layers.now refused.now.source.position key.now
+        table.now stray found) }
 {
     let stray = stray_at(refused.alloc, source, key, table)?;
     Ok(missing_finding(refused, key, table, stray)?)
@@ -208,6 +237,7 @@ fn finding_in_source<'s>(
     path: &[Step<'s>],
 ) -> Result<Finding, AllocError>
     ensures { IfOk result (λ found. (stray : Option (Bor (List ℕ)))
+        × IsStrayFor source.entry.layers.now source.entry.position cause.now path.now stray
         × IsElementFinding refused.now.source.layers.now refused.now.source.position cause.now
         path.now stray found) }
 {

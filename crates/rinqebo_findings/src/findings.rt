@@ -1,15 +1,17 @@
 //! Findings: how they are made.
-ghost use Rattle.std.specs.Prelude.{◌≡◌, IfOk, Some, None, map, option_map};
+ghost use Rattle.std.specs.Prelude.{◌≡◌, IfOk, Some, None, map, option_map, string_bytes};
 ghost use Rattle.std.specs.Option.{option_and_then, option_copied};
 ghost use Rattle.rinqebo_report.specs.Codes.Codes.{code_word};
 ghost use Rattle.nextest_places.specs.Spans.Paths.{path_step};
 ghost use Rattle.nextest_tree.specs.View.{tree_view};
+ghost use Rattle.rinqebo_faults.specs.Elements.{as_list, refused_notes};
 ghost use Rattle.rinqebo_faults.specs.Paths.{shown_path};
 ghost use Rattle.rinqebo_findings.specs.Later.{document_at, whole_place};
 ghost use Rattle.rinqebo_findings.specs.Placed.{IsPlaceIn};
 ghost use Rattle.rinqebo_findings.specs.Sources.{layer_at};
 ghost use Rattle.rinqebo_findings.specs.Subjects.{step_view, subject};
 ghost use Rattle.rinqebo_findings.specs.Warnings.{WarnsAt};
+ghost use Rattle.rinqebo_findings.specs.Words.{message_alone, SaysUnknownKey, with_note, words_of};
 
 use nextest_places::{PathSpans, Step};
 use nextest_tree::Tree;
@@ -113,6 +115,8 @@ pub fn finding(
         ≡ record { level = level; code = code_word label.code; path = None }) }
     ensures place { IfOk result (λ found. found.place
         ≡ option_map whole_place source.entry.position) }
+    ensures words { IfOk result (λ found. words_of found
+        ≡ message_alone (string_bytes message)) }
 {
     let upstream = owned(alloc, label.upstream)?;
     let code = String::from_str(alloc, label.code.word())?;
@@ -162,6 +166,8 @@ pub fn finding_at(
         IsPlaceIn part source.entry.layers.now source.entry.position path.now found.place) }
     ensures steps { IfOk result (λ found. map step_view found.steps.items
         ≡ map path_step path.now) }
+    ensures words { IfOk result (λ found. words_of found
+        ≡ message_alone (string_bytes message)) }
 {
     let text = path_text(alloc, path)?;
     let steps = steps_of(alloc, path)?;
@@ -176,6 +182,8 @@ pub fn finding_at(
 pub fn with_note(found: Finding, note: Option<String>) -> Result<Finding, AllocError>
     ensures about { IfOk result (λ noted. subject noted ≡ subject found) }
     ensures place { IfOk result (λ noted. noted.place ≡ found.place) }
+    ensures words { IfOk result (λ noted. words_of noted
+        ≡ with_note (words_of found) (option_map string_bytes note)) }
 {
     let mut noted = found;
     match note {
@@ -203,7 +211,11 @@ pub fn key_warning(
 }
 
 /// The note that lists the keys of the table that has the key at a path.
-fn table_note(alloc: Global, path: &[Step<'_>]) -> Result<Option<String>, AllocError> {
+#[tactic(auto, unfolding(rinqebo_faults::specs::Elements::refused_notes))]
+fn table_note(alloc: Global, path: &[Step<'_>]) -> Result<Option<String>, AllocError>
+    ensures { IfOk result (λ note. as_list (option_map string_bytes note)
+        ≡ refused_notes path.now) }
+{
     match path.split_last() {
         Some((_key, table)) => keys_note(alloc, table),
         None => Ok(None),
@@ -223,11 +235,13 @@ pub fn unknown_key_at(
     }) }
     ensures place { IfOk result (λ found. IsPlaceIn SpanPart.Key source.entry.layers.now
         source.entry.position path.now found.place) }
+    ensures words { IfOk result (λ found. SaysUnknownKey path.now (words_of found)) }
 {
+    let (level, part) = (Level::Warning, SpanPart::Key);
     let message = unknown_key_text(alloc, path)?;
     let (help, help_place) = unknown_key_help(alloc, path)?;
     let note = table_note(alloc, path)?;
-    let mut found = key_warning(alloc, UNKNOWN_KEY, source, path, message)?;
+    let mut found = finding_at(alloc, level, UNKNOWN_KEY, source, path, part, message)?;
     found.help = help;
     found.help_place = help_place;
     Ok(with_note(found, note)?)

@@ -3,6 +3,7 @@ ghost use Rattle.std.specs.Prelude.{◌≡◌, ℕ, IfOk, IfSome, Option, OnOk, 
 ghost use Rattle.rinqebo_request.specs.Files.Origins.{IsPartPlace};
 ghost use Rattle.rinqebo_findings.specs.Placed.{IsPlaceIn, IsPlacedAt};
 ghost use Rattle.rinqebo_findings.specs.Subjects.{error_at, subject};
+ghost use Rattle.rinqebo_findings.specs.Words.{message_alone, words_of};
 ghost use Rattle.rinqebo_report.specs.Codes.Codes.{code_word};
 ghost use Rattle.rinqebo_report.specs.declared.finding.Finding.{Finding};
 ghost use Rattle.nextest_places.specs.Spans.Paths.{path_step};
@@ -61,6 +62,7 @@ impl Refused<'_, '_> {
         ensures about { IfOk result (λ found. subject found ≡ error_at code path.now) }
         ensures place { IfOk result (λ found. IsPlacedAt part self.now.source.layers.now
             self.now.source.position path.now found.place) }
+        ensures words { IfOk result (λ found. words_of found ≡ message_alone wrong.now) }
     {
         let alloc = self.alloc;
         let message = String::from_str(alloc, wrong)?;
@@ -76,6 +78,7 @@ impl Refused<'_, '_> {
         ensures about { IfOk result (λ found. subject found ≡ error_at code path.now) }
         ensures place { IfOk result (λ found. IsPlacedAt SpanPart.Value self.now.source.layers.now
             self.now.source.position path.now found.place) }
+        ensures words { IfOk result (λ found. words_of found ≡ message_alone wrong.now) }
     {
         Ok(self.part_at(code, path, SpanPart::Value, wrong)?)
     }

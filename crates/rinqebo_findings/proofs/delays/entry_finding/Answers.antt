@@ -1,4 +1,4 @@
 use Rattle.rinqebo_findings.proofs.delays.entry_finding.Goals as goal
 
-pub returns : goal.returns
-returns c = record { about = c.in_ok-found.ensures.about; place = c.in_ok-found.ensures.place }
+pub returns-clause-error : goal.returns-clause-error
+returns-clause-error c = record { about = c.in_ok-found.ensures.about; place = c.in_ok-found.ensures.place }

@@ -8,4 +8,5 @@ returns c =
         about = c.in_ok-unknown_key_at.ensures.about;
         place = c.in_ok-unknown_key_at.ensures.place;
       };
+      words = c.in_ok-unknown_key_at.ensures.words;
     }
