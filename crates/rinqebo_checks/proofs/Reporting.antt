@@ -1,8 +1,8 @@
 -- Findings that report faults.
-use Rattle.std.proofs.Common.{◌≡◌, ◌<◌, ◌≤◌, ℕ, List, [], ◌∷◌, ◌++◌, ◌+◌, length, map, take, get_or, inl, inr, refl, sym, ap, ◌∙◌, subst, arith}
+use Rattle.std.proofs.Common.{◌≡◌, ◌<◌, ◌≤◌, ℕ, List, [], ◌∷◌, ◌++◌, ◌+◌, length, map, take, get_or, Some, inl, inr, refl, sym, ap, ◌∙◌, subst, arith}
 use Rattle.std.proofs.lemmas.List.{append_assoc, append-nil, length-take, take_all, take_more}
 use Rattle.nextest_documents.specs.Merge.{over}
-use Rattle.nextest_shape.specs.Faults.Found.{Adds, refused_at}
+use Rattle.nextest_shape.specs.Faults.Found.{Adds, found_view, refused_at}
 use Rattle.nextest_shape.specs.declared.faults.found.FoundFault.{FoundFault}
 use Rattle.nextest_tables.specs.Defaults.{defaults}
 use Rattle.nextest_tables.specs.Tables.{a_file}
@@ -11,7 +11,7 @@ use Rattle.nextest_tree.specs.Schema as schema
 use Rattle.rinqebo_request.specs.declared.files.layers.Layer.{Layer}
 use Rattle.rinqebo_report.specs.declared.finding.Finding.{Finding}
 use Rattle.rinqebo_checks.specs.declared.value_faults.ValueFault.{ValueFault}
-use Rattle.rinqebo_checks.specs.Faults.{IsFindingOf, IsInPlace, IsJoined, IsKeyFinding, ReportAll, ReportDocument, ReportFiles, ReportValues, ReportFaults, document_in}
+use Rattle.rinqebo_checks.specs.Faults.{IsFindingOf, IsInPlace, IsJoined, IsKeyFinding, ReportDocument, ReportFiles, ReportValues, ReportFaults, document_in}
 
 module _ {Fault : Type 0} (IsOf : Fault → Finding → Type 0) (Joined : Fault → Type 0) where
   -- one more fault, which is joined
@@ -137,25 +137,16 @@ module _ (all : List Layer) where
   with_all_files layers place findings no_more reported =
       subst (λ ls. ReportFiles all 0 ls findings) (take_all place layers no_more) reported
 
--- the findings of all files, and others
-pub with_others : (layers read : List Layer) (findings others all : List Finding) → read ≡ layers
-    → all ≡ findings ++ others → ReportFiles layers 0 read findings → ReportAll layers all
-with_others layers read findings others all same whole reported =
-    record {
-      of_values = findings;
-      others = others;
-      whole = whole;
-      reported = subst (λ ls. ReportFiles layers 0 ls findings) same reported;
-    }
+none_of : {X Y : Type 0} (f : X → Y) (xs : List X) → map f xs ≡ [] → xs ≡ []
+none_of f [] is = refl
+none_of f (x ∷ xs) is = absurd (cc)
 
--- more findings, of other faults
-pub with_more : (layers : List Layer) (findings all more : List Finding) → all ≡ findings ++ more
-    → ReportAll layers findings → ReportAll layers all
-with_more layers findings all more is reported =
-    record {
-      of_values = reported.of_values;
-      others = reported.others ++ more;
-      whole = is ∙ ap (λ fs. fs ++ more) reported.whole
-          ∙ append_assoc reported.of_values reported.others more;
-      reported = reported.reported;
-    }
+-- there are no faults of a document that has none
+pub none_found : (document laid : Node) (found : List FoundFault) (made given : List ValueFault)
+    → laid ≡ over document defaults → Adds [] found (schema.faults a_file [] laid)
+    → map (λ f. f.fault) made ≡ found → given ≡ made → schema.faults a_file [] (over document defaults) ≡ []
+    → given ≡ []
+none_found document laid found made given laid_is are_all same same_given none =
+    let no_faults : schema.faults a_file [] laid ≡ [] = ap (schema.faults a_file []) laid_is ∙ none in
+    let no_found : found ≡ [] = none_of found_view found (are_all ∙ ap (map (λ f. Some f)) no_faults) in
+    same_given ∙ none_of (λ f. f.fault) made (same ∙ no_found)

@@ -1,5 +1,6 @@
 -- Which findings report which faults.
-use Rattle.std.specs.Prelude.{◌≡◌, ◌⊎◌, ℕ, List, [], ◌∷◌, ◌++◌, ◌+◌, Bool, true, false, Contains, Option, None, Some, String, map, slice_get, slice_index_or}
+use Rattle.std.specs.List.{All}
+use Rattle.std.specs.Prelude.{◌≡◌, ◌⊎◌, ℕ, List, [], ◌∷◌, ◌++◌, ◌+◌, Bool, true, false, Contains, IfSome, IsTrue, Option, None, Some, String, map, slice_get, slice_index_or}
 use Rattle.std.specs.Option.{option_and_then}
 use Rattle.std.specs.Borrow.{Bor}
 use Rattle.std.specs.declared.alloc.Global.{Global}
@@ -10,11 +11,15 @@ use Rattle.nextest_shape.specs.declared.faults.found.FoundFault.{FoundFault}
 use Rattle.nextest_places.specs.declared.step.Step.{Step}
 use Rattle.nextest_places.specs.Spans.Paths.{path_step}
 use Rattle.nextest_places.specs.Spans.Paths as paths
+use Rattle.nextest_sources.specs.Warnings.{Warning}
+use Rattle.nextest_sources.specs.declared.error.ConfigParseError.{ConfigParseError}
 use Rattle.nextest_tables.specs.Defaults.{defaults}
 use Rattle.nextest_tables.specs.Tables.{a_file}
 use Rattle.nextest_tree.specs.Node.{Node}
 use Rattle.nextest_tree.specs.Schema as schema
 use Rattle.nextest_tree.specs.declared.fault.ElementCause.TheVariants as causes
+use Rattle.rinqebo_load.specs.Warned.{IsRefusedLoad}
+use Rattle.rinqebo_load.specs.declared.session.Session.{Session}
 use Rattle.rinqebo_report.specs.Codes.Codes.{code_word}
 use Rattle.rinqebo_report.specs.declared.codes.code.Code.TheVariants.{UnknownKey}
 use Rattle.rinqebo_request.specs.declared.files.layers.Layer.{Layer}
@@ -23,9 +28,12 @@ use Rattle.rinqebo_report.specs.declared.finding.Finding.{Finding}
 use Rattle.rinqebo_report.specs.declared.finding.Level.TheVariants as levels
 use Rattle.rinqebo_faults.specs.Paths.{shown_path}
 use Rattle.rinqebo_checks.specs.declared.value_faults.ValueFault.{ValueFault}
+use Rattle.rinqebo_findings.specs.NextestForms.{ReportForms}
 use Rattle.rinqebo_findings.specs.Placed.{IsPlaceIn}
 use Rattle.rinqebo_findings.specs.Shown.{AreReported}
 use Rattle.rinqebo_findings.specs.Subjects.{IsElementFinding, subject}
+use Rattle.rinqebo_findings.specs.Words.{SaysUnknownKey, words_of}
+use Rattle.rinqebo_checks.specs.Rounds.{ReportLoads}
 
 -- a path is that of a key of the table at another one
 abbrev pub IsKeyIn : List Step → List Step → List ℕ → Type 0
@@ -74,7 +82,7 @@ pub record IsInPlace (faults : List ValueFault) (path : List Step) : Type 0 wher
   pub among : Contains faults fault
   pub is : IsInPlaceOf fault path
 
--- a finding warns of an unknown key of a source
+-- a finding warns of an unknown key of a source, with the words for it
 pub record IsKeyFinding (layers : List Layer) (source : ℕ) (path : List Step) (finding : Finding) :
     Type 0 where
   pub about : subject finding ≡ record {
@@ -83,6 +91,7 @@ pub record IsKeyFinding (layers : List Layer) (source : ℕ) (path : List Step) 
     path = Some (shown_path path);
   }
   pub place : IsPlaceIn parts.Key layers (Some source) path finding.place
+  pub words : SaysUnknownKey path (words_of finding)
 
 -- Findings report faults, or unknown keys, each in turn: one has a finding of its own, or it is
 -- joined.
@@ -130,17 +139,50 @@ ReportFiles all source (layer ∷ layers) findings =
     (own : List Finding) × (others : List Finding) × (findings ≡ own ++ others)
     × ReportDocument all source (document_in layer) own × ReportFiles all (source + 1) layers others
 
--- Some of the findings report what is wrong with the values in the files of layers, and their
--- unknown keys. The others are about what later checks refuse or warn of.
-pub record ReportAll (layers : List Layer) (findings : List Finding) : Type 0 where
-  pub of_values : List Finding
-  pub others : List Finding
-  pub whole : findings ≡ of_values ++ others
-  pub reported : ReportFiles layers 0 layers of_values
+-- the values in the file of a layer have no fault, if it is a document
+abbrev pub IsSound : Layer → Type 0
+IsSound layer =
+    IfSome (document_in layer) (λ document. schema.faults a_file [] (over document defaults) ≡ [])
 
--- A report shows what is wrong with the files of layers: its findings report all that is wrong with
--- their values.
-pub record ShowsFaults (layers : List Layer) (shown : List Finding) : Type 0 where
+-- the values in the files of layers have no fault
+abbrev pub AreSound : List Layer → Type 0
+AreSound layers = All IsSound layers
+
+-- Some of the findings report what is wrong with the values in the files of a session, and their
+-- unknown keys. The others report a load of these files, with its warnings and its refusal, and
+-- then loads without what is refused. If no value is refused, the first load is one of the whole
+-- files.
+pub record ReportAll (session : Session) (warnings : List Warning) (error : ConfigParseError)
+    (findings : List Finding) : Type 0 where
+  pub of_values : List Finding
+  pub reported : ReportFiles session.layers.items 0 session.layers.items of_values
+  pub is_whole : Bool
+  pub of_sound : AreSound session.layers.items → IsTrue is_whole
+  pub others : List Finding
+  pub loads : ReportLoads is_whole session warnings error others
+  pub whole : findings ≡ of_values ++ others
+
+-- A report shows what is wrong with the files of a session: what its findings report is all that is
+-- wrong with their values, and what their load and later ones report.
+pub record ShowsFaults (session : Session) (warnings : List Warning) (error : ConfigParseError)
+    (shown : List Finding) : Type 0 where
   pub found : List Finding
-  pub all : ReportAll layers found
+  pub all : ReportAll session warnings error found
   pub shows : AreReported found shown
+
+-- A report of a check shows this, and then what nextest refuses and a load does not look at.
+pub record ShowsChecked (session : Session) (warnings : List Warning) (error : ConfigParseError)
+    (shown : List Finding) : Type 0 where
+  pub found : List Finding
+  pub all : ReportAll session warnings error found
+  pub of_nextest : List Finding
+  pub forms : ReportForms session.layers.items of_nextest
+  pub shows : AreReported (found ++ of_nextest) shown
+
+-- A report of a check shows what is wrong with files that are refused: what their load warns of and
+-- refuses, and what later loads report.
+pub record ShowsRefused (session : Session) (shown : List Finding) : Type 0 where
+  pub warnings : List Warning
+  pub error : ConfigParseError
+  pub refused : IsRefusedLoad session [] warnings error
+  pub shows : ShowsChecked session warnings error shown

@@ -1,12 +1,19 @@
 -- The findings of a refusal of files.
+use Rattle.std.specs.List.{position}
+use Rattle.std.specs.Option.{option_and_then}
 use Rattle.std.specs.Prelude.{ℕ, List, [], ◌∷◌, codes, Option}
 use Rattle.nextest_places.specs.Spans.Paths as paths
+use Rattle.nextest_sources.specs.Errors.{source_of}
+use Rattle.nextest_sources.specs.Sources.{Source, owner_of_source}
+use Rattle.nextest_sources.specs.declared.error.ConfigParseError.{ConfigParseError}
 use Rattle.nextest_sources.specs.declared.error.ConfigParseErrorKind.{ConfigParseErrorKind}
 use Rattle.nextest_sources.specs.declared.error.ConfigParseErrorKind.TheVariants as kinds
 use Rattle.nextest_sources.specs.declared.sources.ReadOutcome.{ReadOutcome}
 use Rattle.nextest_sources.specs.declared.sources.ReadOutcome.TheVariants as outcomes
 use Rattle.rinqebo_report.specs.declared.codes.code.Code.TheVariants.{NotToml, SecondToolFile, TwoScriptTables, UnreadableFile}
 use Rattle.rinqebo_report.specs.declared.finding.Finding.{Finding}
+use Rattle.rinqebo_request.specs.Files.Origins.{reported_file}
+use Rattle.rinqebo_request.specs.Files.RuleTables.{lies_at}
 use Rattle.rinqebo_request.specs.declared.files.layers.Layer.{Layer}
 use Rattle.rinqebo_request.specs.declared.files.places.SpanPart.TheVariants as parts
 use Rattle.rinqebo_faults.specs.Edits.{names_view}
@@ -69,3 +76,19 @@ AddsRefusal layers source left_out (kinds.UnknownTestGroups errors known_groups)
 AddsRefusal layers source left_out (kinds.ProfileScriptErrors errors known_scripts) old new =
     AddsScriptErrors layers source (names_view left_out.scripts) errors old new
 AddsRefusal layers source left_out kinds.Memory old new = ⊥
+
+-- the position among layers of the file of a source: the first one of the same owner at the same
+-- path
+abbrev pub position_of : List Layer → Source → Option ℕ
+position_of layers source =
+    position
+    (λ layer. lies_at (owner_of_source source.kind) source.path (reported_file layer.source)) layers
+
+-- the position of the file that a refusal is about, if it is about one
+abbrev pub refused_position : List Layer → ConfigParseError → Option ℕ
+refused_position layers error = option_and_then (position_of layers) (source_of error)
+
+-- findings report a refusal of files without what is left out, and nothing else
+abbrev pub ReportRefusal : List Layer → LeftOut → ConfigParseError → List Finding → Type 0
+ReportRefusal layers left_out error findings =
+    AddsRefusal layers (refused_position layers error) left_out error.kind [] findings

@@ -1,4 +1,15 @@
 //! The files of a run with edits, and the load of these.
+ghost use Rattle.std.specs.BTreeSet.{contains};
+ghost use Rattle.std.specs.Ordering.{nat_cmp};
+ghost use Rattle.std.specs.Prelude.{◌≡◌, [], IfOk, Some, false, is_some, map, option_map, string_bytes, true};
+ghost use Rattle.nextest_rules.specs.KnownView.{features_view};
+ghost use Rattle.nextest_sources.specs.Endings.{IsMemory};
+ghost use Rattle.nextest_sources.specs.Inputs.{inputs_view};
+ghost use Rattle.nextest_sources.specs.Sources.{file_view, outcome_view, tool_file_view};
+ghost use Rattle.rinqebo_findings.specs.Later.{document_at};
+ghost use Rattle.rinqebo_load.specs.Sessions.{files_view};
+ghost use Rattle.rinqebo_checks.specs.Rounds.{AreAmong, AreReadAgain, AreSomeOf, IsNamedAgain, IsOutcomeAgain, IsReadAgain, IsRound, IsToolAgain, edited_view};
+
 use nextest_elements::ConfigExperimental;
 use nextest_load::LoadedConfig;
 use nextest_sources::{
@@ -6,8 +17,9 @@ use nextest_sources::{
     FileInput, ReadOutcome, ToolConfigFile,
 };
 use rinqebo_faults::{Edits, edited_document};
+use rinqebo_findings::SourceAt;
 use rinqebo_load::Session;
-use rinqebo_request::{Gathered, Layer};
+use rinqebo_request::Layer;
 use std::alloc::{AllocError, Global};
 use std::collections::BTreeSet;
 
@@ -18,12 +30,56 @@ pub struct Reading {
     pub edits: Edits,
     /// The places of the sources that are not read.
     pub unread: BTreeSet<usize>,
-    /// The experimental features that are switched on.
-    pub features: BTreeSet<ConfigExperimental>,
+    /// The experimental features that are switched on beside those of the session.
+    pub switched_on: BTreeSet<ConfigExperimental>,
+}
+
+/// The files of a session with edits.
+struct EditedFiles {
+    /// The repository's file where it is looked for.
+    shared: FileInput,
+    /// The repository's file that a user named.
+    config_file: Option<FileInput>,
+    /// The organisation's file.
+    organisation_file: Option<FileInput>,
+    /// The files of tools.
+    tools: Vec<ToolConfigFile>,
+}
+
+// Written out, so that the proof of a caller sees one call and not the drop of each part.
+impl Drop for EditedFiles {
+    fn drop(self) {
+        let EditedFiles {
+            shared: _shared,
+            config_file: _config_file,
+            organisation_file: _organisation_file,
+            tools: _tools,
+        } = self;
+    }
+}
+
+/// What a load of files with edits reports.
+pub struct Round {
+    /// Its warnings.
+    pub warnings: DefaultConfigWarnings,
+    /// Why it refuses the files, if it does.
+    pub refusal: Option<ConfigParseError>,
+}
+
+// Written out, so that the proof of a caller sees one call and not the drop of each part.
+impl Drop for Round {
+    fn drop(self) {
+        let Round {
+            warnings: _warnings,
+            refusal: _refusal,
+        } = self;
+    }
 }
 
 /// A copy of the outcome of reading a file.
-fn copy_outcome(alloc: Global, outcome: &ReadOutcome) -> Result<ReadOutcome, AllocError> {
+fn copy_outcome(alloc: Global, outcome: &ReadOutcome) -> Result<ReadOutcome, AllocError>
+    ensures { IfOk result (λ copy. outcome_view copy ≡ outcome_view outcome.now) }
+{
     match outcome {
         ReadOutcome::Text(text) => Ok(ReadOutcome::Text(String::from_str(alloc, text.as_str())?)),
         ReadOutcome::NotFound => Ok(ReadOutcome::NotFound),
@@ -35,22 +91,47 @@ fn copy_outcome(alloc: Global, outcome: &ReadOutcome) -> Result<ReadOutcome, All
     }
 }
 
-impl Reading {
-    /// The files with edits, and with some features.
-    pub fn new(
-        alloc: Global,
-        edits: Edits,
-        features: &BTreeSet<ConfigExperimental>,
-    ) -> Result<Reading, AllocError> {
-        let mut copies = BTreeSet::new(alloc);
-        for feature in features.iter() {
-            copies.insert(*feature)?;
+/// Returns why files are refused, if it is not that memory ran out.
+fn not_memory(error: ConfigParseError) -> Result<ConfigParseError, AllocError>
+    ensures same { IfOk result (λ same. same ≡ error) }
+    ensures ended { IfOk result (λ same. ¬ IsMemory same) }
+{
+    if error.config_file().is_none() {
+        return Err(AllocError);
+    }
+    Ok(error)
+}
+
+impl EditedFiles {
+    /// What a load reads, with some features.
+    fn inputs<'a>(&'a self, features: &'a BTreeSet<ConfigExperimental>) -> ConfigInputs<'a>
+        ensures files { inputs_view result ≡ edited_view self.now }
+        ensures features { result.features.now ≡ features.now }
+    {
+        ConfigInputs {
+            shared: &self.shared,
+            selection: ConfigFileSelection {
+                config_file: self.config_file.as_ref(),
+                organisation_file: self.organisation_file.as_ref(),
+            },
+            tools: &self.tools,
+            features,
         }
-        Ok(Reading {
+    }
+}
+
+impl Reading {
+    /// The files with edits.
+    pub fn new(alloc: Global, edits: Edits) -> Reading
+        ensures edits { result.edits ≡ edits }
+        ensures unread { result.unread.keys ≡ [] }
+        ensures switched_on { result.switched_on.keys ≡ [] }
+    {
+        Reading {
             edits,
             unread: BTreeSet::new(alloc),
-            features: copies,
-        })
+            switched_on: BTreeSet::new(alloc),
+        }
     }
 
     /// The text of the source at a place among the layers, if it is a document: with the edits, and
@@ -60,16 +141,39 @@ impl Reading {
         alloc: Global,
         layers: &[Layer],
         place: usize,
-    ) -> Result<Option<String>, AllocError> {
+    ) -> Result<Option<String>, AllocError>
+        ensures unread { contains nat_cmp self.now.unread place ≡ true
+            → IfOk result (λ text. option_map string_bytes text ≡ Some []) }
+        ensures read { contains nat_cmp self.now.unread place ≡ false
+            → IfOk result (λ text. is_some text ≡ is_some (document_at layers.now (Some place))) }
+    {
         if self.unread.contains(&place) {
             return Ok(Some(String::new(alloc)));
         }
-        match layers.get(place) {
-            Some(layer) => match layer.tree() {
-                Some(tree) => Ok(Some(edited_document(alloc, tree, &self.edits, place)?)),
-                None => Ok(None),
-            },
+        let source = SourceAt {
+            layers,
+            position: Some(place),
+        };
+        match source.tree() {
+            Some(tree) => Ok(Some(edited_document(alloc, tree, &self.edits, place)?)),
             None => Ok(None),
+        }
+    }
+
+    /// What is read in place of an outcome, of the source at a place among the layers.
+    fn outcome_at(
+        &self,
+        alloc: Global,
+        layers: &[Layer],
+        place: usize,
+        outcome: &ReadOutcome,
+    ) -> Result<ReadOutcome, AllocError>
+        ensures { IfOk result
+            (λ read. IsOutcomeAgain (outcome_view outcome.now) (outcome_view read)) }
+    {
+        match self.text_at(alloc, layers, place)? {
+            Some(text) => Ok(ReadOutcome::Text(text)),
+            None => Ok(copy_outcome(alloc, outcome)?),
         }
     }
 
@@ -80,14 +184,30 @@ impl Reading {
         layers: &[Layer],
         place: usize,
         file: &FileInput,
-    ) -> Result<FileInput, AllocError> {
-        let outcome = match self.text_at(alloc, layers, place)? {
-            Some(text) => ReadOutcome::Text(text),
-            None => copy_outcome(alloc, &file.outcome)?,
-        };
-        Ok(FileInput {
-            path: ConfigPath::new(alloc, file.path.absolute_path())?,
-            outcome,
+    ) -> Result<FileInput, AllocError>
+        ensures { IfOk result (λ read. IsReadAgain (file_view file.now) (file_view read)) }
+    {
+        let path = ConfigPath::new(alloc, file.path.absolute_path())?;
+        let outcome = self.outcome_at(alloc, layers, place, &file.outcome)?;
+        Ok(FileInput { path, outcome })
+    }
+
+    /// The file of a tool, the source at a place among the layers, with the edits.
+    fn tool_at(
+        &self,
+        alloc: Global,
+        layers: &[Layer],
+        place: usize,
+        tool: &ToolConfigFile,
+    ) -> Result<ToolConfigFile, AllocError>
+        ensures { IfOk result
+            (λ read. IsToolAgain (tool_file_view tool.now) (tool_file_view read)) }
+    {
+        let name = tool.tool.clone()?;
+        let config_file = self.file_at(alloc, layers, place, &tool.config_file)?;
+        Ok(ToolConfigFile {
+            tool: name,
+            config_file,
         })
     }
 
@@ -98,17 +218,17 @@ impl Reading {
         alloc: Global,
         layers: &[Layer],
         tools: &[ToolConfigFile],
-    ) -> Result<Vec<ToolConfigFile>, AllocError> {
+    ) -> Result<Vec<ToolConfigFile>, AllocError>
+        ensures { IfOk result (λ read. AreSomeOf IsToolAgain (map tool_file_view tools.now)
+            (map tool_file_view read.items)) }
+    {
         let mut read = Vec::new(alloc);
-        let mut place = tools.len();
-        for tool in tools {
-            if !self.unread.contains(&place) {
-                read.push(ToolConfigFile {
-                    tool: tool.tool.clone()?,
-                    config_file: self.file_at(alloc, layers, place, &tool.config_file)?,
-                })?;
+        for (index, tool) in tools.iter().enumerate() {
+            let place = tools.len().saturating_sub(index);
+            if self.unread.contains(&place) {
+                continue;
             }
-            place = place.saturating_sub(1);
+            read.push(self.tool_at(alloc, layers, place, tool)?)?;
         }
         Ok(read)
     }
@@ -120,26 +240,25 @@ impl Reading {
         layers: &[Layer],
         place: usize,
         file: &Option<FileInput>,
-    ) -> Result<Option<FileInput>, AllocError> {
+    ) -> Result<Option<FileInput>, AllocError>
+        ensures { IfOk result (λ read. IsNamedAgain (option_map file_view file.now)
+            (option_map file_view read)) }
+    {
         match file {
             Some(file) => Ok(Some(self.file_at(alloc, layers, place, file)?)),
             None => Ok(None),
         }
     }
 
-    /// Loads the files of a session with the edits, and returns why they are refused, if they are.
-    /// Warnings are reported as they are met.
-    pub fn refusal(
-        &self,
-        alloc: Global,
-        session: &Session<'_>,
-        warnings: &mut DefaultConfigWarnings,
-    ) -> Result<Option<ConfigParseError>, AllocError> {
-        let gathered: &Gathered = session.gathered;
+    /// The files of a session with the edits.
+    fn files(&self, alloc: Global, session: &Session<'_>) -> Result<EditedFiles, AllocError>
+        ensures { IfOk result (λ files.
+            AreReadAgain (files_view session.now.gathered.now) (edited_view files)) }
+    {
+        let gathered = session.gathered;
         let layers = session.layers.as_slice();
         let own = layers.len().saturating_sub(1);
         let organisation = gathered.tools.len().saturating_add(1);
-        let tools = self.tools_of(alloc, layers, &gathered.tools)?;
         let shared = self.file_at(alloc, layers, own, &gathered.paths.shared)?;
         let config_file = self.named_file(alloc, layers, own, &gathered.config_file)?;
         let organisation_file = self.named_file(
@@ -148,18 +267,50 @@ impl Reading {
             organisation,
             &gathered.organisation_file,
         )?;
-        let inputs = ConfigInputs {
-            shared: &shared,
-            selection: ConfigFileSelection {
-                config_file: config_file.as_ref(),
-                organisation_file: organisation_file.as_ref(),
-            },
-            tools: &tools,
-            features: &self.features,
-        };
-        match LoadedConfig::load(alloc, &inputs, &session.parse_context(), warnings) {
-            Ok(_) => Ok(None),
-            Err(error) => Ok(Some(error)),
+        let tools = self.tools_of(alloc, layers, &gathered.tools)?;
+        Ok(EditedFiles {
+            shared,
+            config_file,
+            organisation_file,
+            tools,
+        })
+    }
+
+    /// Some features, and those that are switched on beside them.
+    fn features_with(
+        &self,
+        features: &BTreeSet<ConfigExperimental>,
+    ) -> Result<BTreeSet<ConfigExperimental>, AllocError>
+        ensures { IfOk result
+            (λ all. AreAmong (features_view features.now) (features_view all)) }
+    {
+        let mut all = features.clone()?;
+        for feature in self.switched_on.iter() {
+            all.insert(*feature)?;
+        }
+        Ok(all)
+    }
+
+    /// Loads the files of a session with the edits.
+    pub fn load(&self, alloc: Global, session: &Session<'_>) -> Result<Round, AllocError>
+        ensures { IfOk result (IsRound session.now) }
+    {
+        let files = self.files(alloc, session)?;
+        let features = self.features_with(&session.features)?;
+        let inputs = files.inputs(&features);
+        let mut warnings = DefaultConfigWarnings::new(alloc);
+        match LoadedConfig::load(alloc, &inputs, &session.parse_context(), &mut warnings) {
+            Ok(_) => Ok(Round {
+                warnings,
+                refusal: None,
+            }),
+            Err(error) => {
+                let refusal = not_memory(error)?;
+                Ok(Round {
+                    warnings,
+                    refusal: Some(refusal),
+                })
+            }
         }
     }
 }

@@ -1,8 +1,12 @@
 //! What is wrong with the values in the files of a run, which are then read without what is
 //! refused, and their unknown keys.
-ghost use Rattle.std.specs.Prelude.{◌≡◌, IfOk, MatchOption, None, Some};
+ghost use Rattle.std.specs.Prelude.{◌≡◌, [], IfOk, MatchOption, None, OnOk, Some};
+ghost use Rattle.nextest_documents.specs.Merge.{over};
+ghost use Rattle.nextest_tables.specs.Defaults.{defaults};
+ghost use Rattle.nextest_tables.specs.Tables.{a_file};
+ghost use Rattle.nextest_tree.specs.Schema as schema;
 ghost use Rattle.nextest_tree.specs.View.{tree_view};
-ghost use Rattle.rinqebo_checks.specs.Faults.{ReportDocument, ReportFiles, ReportValues, document_in};
+ghost use Rattle.rinqebo_checks.specs.Faults.{AreSound, IsSound, ReportDocument, ReportFiles, ReportValues, document_in};
 
 use crate::unknown_keys::key_findings;
 use crate::value_faults::{ValueFault, fault_findings, with_strays};
@@ -16,18 +20,30 @@ use rinqebo_report::Finding;
 use rinqebo_request::Layer;
 use std::alloc::{AllocError, Global};
 
+/// Leaves out a value of a source that is refused, and the key that is in place of a missing one.
+fn leave_out_fault(
+    edits: &mut Edits,
+    place: usize,
+    found: &ValueFault<'_>,
+) -> Result<(), AllocError> {
+    let ValueFault { fault, stray } = found;
+    if let Some(stray) = stray {
+        edits.remove_key(place, &fault.path, *stray)?;
+    }
+    leave_out_element(edits, place, &fault.cause, &fault.path)
+}
+
 /// Leaves out the values of a source that are refused, and the keys that are in place of missing
 /// ones.
 fn leave_out_faults(
     edits: &mut Edits,
     place: usize,
     faults: &[ValueFault<'_>],
-) -> Result<(), AllocError> {
-    for ValueFault { fault, stray } in faults {
-        if let Some(stray) = stray {
-            edits.remove_key(place, &fault.path, *stray)?;
-        }
-        leave_out_element(edits, place, &fault.cause, &fault.path)?;
+) -> Result<(), AllocError>
+    ensures { OnOk result (faults.now ≡ [] → edits.new ≡ edits.old) }
+{
+    for fault in faults {
+        leave_out_fault(edits, place, fault)?;
     }
     Ok(())
 }
@@ -52,8 +68,11 @@ fn document_findings(
     document: &Tree,
     edits: &mut Edits,
 ) -> Result<Vec<Finding>, AllocError>
-    ensures { IfOk result (λ findings.
+    ensures reported { IfOk result (λ findings.
         ReportValues session.now.layers.items place (tree_view document.now) findings.items) }
+    ensures sound { OnOk result
+        (schema.faults a_file [] (over (tree_view document.now) defaults) ≡ []
+        → edits.new ≡ edits.old) }
 {
     let tree = lay_over(alloc, document, default_tree(alloc)?)?;
     let faults = file_faults(alloc, &tree)?;
@@ -74,8 +93,9 @@ fn layer_findings(
     layer: &Layer<'_>,
     edits: &mut Edits,
 ) -> Result<Vec<Finding>, AllocError>
-    ensures { IfOk result (λ findings.
+    ensures reported { IfOk result (λ findings.
         ReportDocument session.now.layers.items place (document_in layer.now) findings.items) }
+    ensures sound { OnOk result (IsSound layer.now → edits.new ≡ edits.old) }
 {
     match document_of(layer) {
         Some(document) => { Ok(document_findings(alloc, session, place, document, edits)?) }
@@ -84,15 +104,16 @@ fn layer_findings(
 }
 
 /// The findings of the values in the files of layers, which are those of a session, file by file.
-/// What is refused is left out.
+/// What is refused is left out: nothing, if no value has a fault.
 pub fn value_findings(
     alloc: Global,
     session: &Session<'_>,
     layers: &[Layer<'_>],
     edits: &mut Edits,
 ) -> Result<Vec<Finding>, AllocError>
-    ensures { IfOk result
+    ensures reported { IfOk result
         (λ findings. ReportFiles session.now.layers.items 0 layers.now findings.items) }
+    ensures sound { OnOk result (AreSound layers.now → edits.new ≡ edits.old) }
 {
     let mut findings = Vec::new(alloc);
     for (place, layer) in layers.iter().enumerate() {

@@ -5,12 +5,15 @@
 mod edited_files;
 mod failures;
 mod file_values;
+mod found;
+mod leaving_out;
 mod loading;
 mod refusals;
 mod report;
 mod search;
 mod unknown_keys;
 mod value_faults;
+mod warned;
 
 pub use failures::find_test;
 pub use loading::config_with;

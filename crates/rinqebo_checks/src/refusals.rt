@@ -1,8 +1,11 @@
 //! Findings of a refused configuration: one for each thing that is wrong.
-ghost use Rattle.std.specs.Prelude.{[], ◌≡◌, ◌∷◌, IfOk, OnOk};
+ghost use Rattle.std.specs.Prelude.{[], ◌≡◌, ◌∷◌, IfOk, OnOk, Some};
+ghost use Rattle.nextest_elements.specs.OwnerView.{owner_view};
+ghost use Rattle.nextest_sources.specs.Errors.{source_of};
+ghost use Rattle.nextest_sources.specs.Sources.{Source, owner_of_source};
 ghost use Rattle.rinqebo_findings.specs.Compile.{compile_fault, compile_faults, section_code, section_fault};
 ghost use Rattle.rinqebo_findings.specs.Later.{AddsLater, document_at, of_file};
-ghost use Rattle.rinqebo_checks.specs.Refusals.{AddsRefusal, outcome_faults, two_tables};
+ghost use Rattle.rinqebo_checks.specs.Refusals.{AddsRefusal, outcome_faults, refused_position, two_tables};
 
 use nextest_elements::{IdentifierOwner, ToolName};
 use nextest_places::Step;
@@ -204,7 +207,10 @@ fn add_kind(
 }
 
 /// Who owns the file that is refused.
-fn refused_owner(error: &ConfigParseError) -> IdentifierOwner<'_> {
+fn refused_owner(error: &ConfigParseError) -> IdentifierOwner<'_>
+    ensures { (source : Source) → source_of error.now ≡ Some source
+        → owner_view result ≡ owner_of_source source.kind }
+{
     match error.tool() {
         Some(tool) => IdentifierOwner::Tool(tool.as_str()),
         None if error.is_organisation() => IdentifierOwner::Organisation,
@@ -213,8 +219,13 @@ fn refused_owner(error: &ConfigParseError) -> IdentifierOwner<'_> {
 }
 
 /// The place among the layers of the file that is refused.
-pub fn refused_place(layers: &[Layer], error: &ConfigParseError) -> Option<usize> {
-    place_at(layers, refused_owner(error), error.config_file()?)
+pub fn refused_place(layers: &[Layer], error: &ConfigParseError) -> Option<usize>
+    ensures { result ≡ refused_position layers.now error.now }
+{
+    match error.config_file() {
+        Some(path) => place_at(layers, refused_owner(error), path),
+        None => None,
+    }
 }
 
 /// Returns the text of the source at a place among the layers, if it is known and has one.

@@ -2,9 +2,10 @@
 ghost use Rattle.std.specs.Prelude.{◌≡◌, IfOk};
 ghost use Rattle.rinqebo_checks.specs.Reports.{IsReportOf};
 ghost use Rattle.rinqebo_findings.specs.Shown.{AreReported};
-ghost use Rattle.rinqebo_checks.specs.Faults.{ShowsFaults};
+ghost use Rattle.nextest_sources.specs.WarningsView.{warnings_view};
+ghost use Rattle.rinqebo_checks.specs.Faults.{ShowsChecked, ShowsFaults};
 
-use crate::search::{Found, all_findings};
+use crate::found::{Found, all_findings};
 use nextest_sources::{ConfigParseError, DefaultConfigWarnings};
 use rinqebo_faults::in_order;
 use rinqebo_findings::{nextest_findings, with_lines};
@@ -46,8 +47,8 @@ pub fn report_of_refusal(
     error: &ConfigParseError,
 ) -> Result<Report, AllocError>
     ensures about { IfOk result (IsReportOf session.now) }
-    ensures faults { IfOk result
-        (λ report. ShowsFaults session.now.layers.items report.findings.items) }
+    ensures faults { IfOk result (λ report. ShowsFaults session.now (warnings_view warnings.now)
+        error.now report.findings.items) }
 {
     let found = all_findings(alloc, session, warnings, error)?;
     let Found {
@@ -66,8 +67,8 @@ pub fn report_of_refused_check(
     error: &ConfigParseError,
 ) -> Result<Report, AllocError>
     ensures about { IfOk result (IsReportOf session.now) }
-    ensures faults { IfOk result
-        (λ report. ShowsFaults session.now.layers.items report.findings.items) }
+    ensures faults { IfOk result (λ report. ShowsChecked session.now (warnings_view warnings.now)
+        error.now report.findings.items) }
 {
     let found = all_findings(alloc, session, warnings, error)?;
     let Found {

@@ -1,132 +1,145 @@
-//! All that is wrong with files that are refused: the faults of all values, the unknown keys, and
-//! then what each later check finds in files without the faults.
-ghost use Rattle.std.specs.Prelude.{IfOk};
-ghost use Rattle.rinqebo_checks.specs.Faults.{ReportAll};
+//! What the load of files that are refused reports, and then loads without what is refused.
+ghost use Rattle.std.specs.Prelude.{◌≡◌, [], IfOk, IsTrue};
+ghost use Rattle.nextest_sources.specs.WarningsView.{warnings_view};
+ghost use Rattle.rinqebo_faults.specs.Checks.{scope_of};
+ghost use Rattle.rinqebo_findings.specs.Warnings.{ReportWarnings, other_warnings};
+ghost use Rattle.rinqebo_checks.specs.Refusals.{ReportRefusal};
+ghost use Rattle.rinqebo_checks.specs.Rounds.{MayHaveNoFinding, ReportIfAny, ReportLoad, ReportLoadIf, ReportLoads, ReportOneRound, ReportSomeRounds, ReportSomeWarnings, ReportUnless};
 
 use crate::edited_files::Reading;
-use crate::file_values::value_findings;
+use crate::leaving_out::{leave_out_refused, leave_out_settings, switch_on};
 use crate::refusals::{refusal_findings, refused_place};
+use crate::warned::{new_ones, noted};
 use nextest_documents::{TextFault, lay_over, tree_from_text};
-use nextest_elements::ConfigExperimental;
 use nextest_shape::file_faults;
 use nextest_sources::{ConfigParseError, ConfigParseErrorKind, DefaultConfigWarnings};
 use nextest_tables::default_tree;
 use nextest_tree::Tree;
-use rinqebo_faults::{
-    Check, Edits, Scope, check_of, leave_out_foreign_groups, leave_out_groups,
-    leave_out_old_scripts, leave_out_parents, leave_out_script_rules, leave_out_scripts,
-    leave_out_sections, leave_out_setting, names_after, only, scope_of,
-};
-use rinqebo_findings::other_warning_findings;
+use rinqebo_faults::{Check, Edits, LeftOut, Scope, check_of, names_after, only, scope_of};
+use rinqebo_findings::{SourceAt, other_warning_findings};
 use rinqebo_load::Session;
-use rinqebo_report::{Code, Finding, Unreached};
+use rinqebo_report::{Finding, Unreached};
+use rinqebo_request::Layer;
 use std::alloc::{AllocError, Global};
 use std::collections::BTreeSet;
 
 /// How often a source is refused at most before the search ends.
 const MOST_STEPS: usize = 16;
 
-/// What is found, and what is left out for it.
+/// What was refused so far, and is left out for it.
 #[derive(Drop)]
-struct Search<'s, 'g> {
+pub struct Search {
     alloc: Global,
-    session: &'s Session<'g>,
     /// What the files are read with.
     reading: Reading,
     /// The lowest source that is not read: what it defines is not known.
     lowest_unread: Option<usize>,
-    findings: Vec<Finding>,
-    unreached: Vec<Unreached>,
+    /// The checks that were not reached.
+    pub unreached: Vec<Unreached>,
     /// The warnings that are among the findings.
     warned: BTreeSet<String>,
 }
 
-/// What is wrong with files, and the checks that they did not reach.
+/// What a load of the files reports.
 #[derive(Drop)]
-pub struct Found {
+struct Taken {
     /// What is wrong.
-    pub findings: Vec<Finding>,
-    /// The checks that were not reached.
-    pub unreached: Vec<Unreached>,
+    findings: Vec<Finding>,
+    /// Whether the files are loaded again.
+    goes_on: bool,
 }
 
-/// The text by which a warning is found again.
-fn warning_mark(alloc: Global, warning: &Finding) -> Result<String, AllocError> {
-    let code = warning.code.as_str();
-    let path = match &warning.path {
-        Some(path) => path.as_str(),
-        None => "",
+/// What a refusal of the files of a session says, without what is left out.
+fn refused(
+    alloc: Global,
+    session: &Session<'_>,
+    left_out: &LeftOut,
+    error: &ConfigParseError,
+) -> Result<Vec<Finding>, AllocError>
+    ensures { IfOk result (λ findings. ReportRefusal session.now.layers.items left_out.now
+        error.now findings.items) }
+{
+    let place = refused_place(&session.layers, error);
+    Ok(refusal_findings(alloc, session, place, error, left_out)?)
+}
+
+/// Whether the source at a place among the layers is a document.
+fn is_document(layers: &[Layer], place: usize) -> bool {
+    let source = SourceAt {
+        layers,
+        position: Some(place),
     };
-    match warning.place {
-        Some(place) => {
-            let source = place.source;
-            format!(in alloc; "{source} {code} {path}")
-        }
-        None => format!(in alloc; "{code} {path}"),
+    source.tree().is_some()
+}
+
+/// The document that a text is, if it is one.
+fn document_of(alloc: Global, text: &str) -> Result<Option<Tree>, AllocError> {
+    match tree_from_text(alloc, text) {
+        Ok(tree) => Ok(Some(tree)),
+        Err(TextFault::NotDocument(_)) => Ok(None),
+        Err(TextFault::Memory) => Err(AllocError),
     }
 }
 
-impl<'s, 'g> Search<'s, 'g> {
+impl Search {
     /// A search that has found nothing, in files with edits.
-    fn new(
-        alloc: Global,
-        session: &'s Session<'g>,
-        edits: Edits,
-    ) -> Result<Search<'s, 'g>, AllocError> {
-        Ok(Search {
+    pub fn new(alloc: Global, edits: Edits) -> Search
+        ensures { result.reading.edits ≡ edits }
+    {
+        Search {
             alloc,
-            session,
-            reading: Reading::new(alloc, edits, &session.features)?,
+            reading: Reading::new(alloc, edits),
             lowest_unread: None,
-            findings: Vec::new(alloc),
             unreached: Vec::new(alloc),
             warned: BTreeSet::new(alloc),
+        }
+    }
+
+    /// Nothing is wrong, and the search ends.
+    fn nothing(&self) -> Taken
+        ensures { result.findings.items ≡ [] }
+    {
+        Taken {
+            findings: Vec::new(self.alloc),
+            goes_on: false,
+        }
+    }
+
+    /// What a refusal says of the files without what is left out.
+    fn refused(
+        &self,
+        session: &Session<'_>,
+        error: &ConfigParseError,
+    ) -> Result<Vec<Finding>, AllocError>
+        ensures { IfOk result
+            (λ findings. ReportUnless session.now.layers.items error.now findings.items) }
+    {
+        let left_out = &self.reading.edits.left_out;
+        Ok(refused(self.alloc, session, left_out, error)?)
+    }
+
+    /// What a refusal says with which the search ends.
+    fn take_last(
+        &self,
+        session: &Session<'_>,
+        error: &ConfigParseError,
+    ) -> Result<Taken, AllocError>
+        ensures { IfOk result
+            (λ taken. ReportUnless session.now.layers.items error.now taken.findings.items) }
+    {
+        let findings = self.refused(session, error)?;
+        Ok(Taken {
+            findings,
+            goes_on: false,
         })
     }
 
-    /// The tree of the source at a place among the layers, if it is a document.
-    fn tree_at(&self, place: usize) -> Option<&'s Tree> {
-        self.session.layers.get(place)?.tree()
-    }
-
-    /// Whether a warning only follows from what is left out: a rule lacks the script that it names.
-    fn follows(&self, warning: &Finding) -> bool {
-        match &warning.path {
-            Some(path) => {
-                warning.code.as_str() == Code::EmptyScriptRule.word()
-                    && self.reading.edits.left_out.rules.has(path.as_str())
-            }
-            None => false,
-        }
-    }
-
-    /// Adds warnings that are not among the findings. Those of unknown keys are reported with the
-    /// values.
-    fn add_warnings(&mut self, warnings: &DefaultConfigWarnings) -> Result<(), AllocError> {
-        let alloc = self.alloc;
-        for warning in other_warning_findings(alloc, &self.session.layers, warnings)? {
-            let mark = warning_mark(alloc, &warning)?;
-            if !self.follows(&warning) && self.warned.insert(mark)? {
-                self.findings.push(warning)?;
-            }
-        }
-        Ok(())
-    }
-
-    /// Adds what a refusal says.
-    fn add(&mut self, error: &ConfigParseError) -> Result<(), AllocError> {
-        let left_out = &self.reading.edits.left_out;
-        let place = refused_place(&self.session.layers, error);
-        let mut found = refusal_findings(self.alloc, self.session, place, error, left_out)?;
-        self.findings.append(&mut found)?;
-        Ok(())
-    }
-
     /// Adds that a source does not reach the checks behind those that need no other source.
-    fn add_unreached(&mut self, place: usize) -> Result<(), AllocError> {
-        let reached = match self.tree_at(place) {
-            Some(_) => Some(Check::Elements),
-            None => None,
+    fn add_unreached(&mut self, layers: &[Layer], place: usize) -> Result<(), AllocError> {
+        let reached = if is_document(layers, place) {
+            Some(Check::Elements)
+        } else {
+            None
         };
         let checks = names_after(self.alloc, reached)?;
         self.unreached.push(Unreached {
@@ -136,212 +149,340 @@ impl<'s, 'g> Search<'s, 'g> {
         Ok(())
     }
 
-    /// Adds that a file is refused as a whole, and does not read it again. Returns whether the
-    /// search goes on.
-    fn take_file(&mut self, place: usize, error: &ConfigParseError) -> Result<bool, AllocError> {
-        if !self.reading.unread.insert(place)? {
-            return Ok(false);
-        }
-        self.add(error)?;
+    /// Does not read a file again that is refused as a whole. Returns whether the search goes on.
+    fn leave_out_file(&mut self, layers: &[Layer], place: usize) -> Result<bool, AllocError> {
+        self.reading.unread.insert(place)?;
         self.lowest_unread = Some(self.lowest_unread.unwrap_or(place).min(place));
-        self.add_unreached(place)?;
+        self.add_unreached(layers, place)?;
         Ok(true)
     }
 
-    /// Adds that a file cannot be read. If it is a document, as it is, it is not read any further.
-    /// Returns whether the search goes on.
-    fn take_text(&mut self, place: usize, error: &ConfigParseError) -> Result<bool, AllocError> {
-        if self.tree_at(place).is_none() {
-            return self.take_file(place, error);
+    /// Leaves out what a check of a source refuses. Returns whether the search goes on.
+    fn leave_out(
+        &mut self,
+        layers: &[Layer],
+        place: usize,
+        kind: &ConfigParseErrorKind,
+    ) -> Result<bool, AllocError> {
+        if let ConfigParseErrorKind::ExperimentalFeaturesNotEnabled { missing_features } = kind {
+            return switch_on(&mut self.reading.switched_on, missing_features);
         }
-        self.add_unreached(place)?;
-        Ok(false)
+        let before = self.reading.edits.count();
+        leave_out_refused(self.alloc, &mut self.reading.edits, layers, place, kind)?;
+        Ok(self.reading.edits.count() > before)
+    }
+
+    /// Reports that a file is refused as a whole, and does not read it again.
+    fn take_file(
+        &mut self,
+        session: &Session<'_>,
+        place: usize,
+        error: &ConfigParseError,
+    ) -> Result<Taken, AllocError>
+        requires { MayHaveNoFinding error.now.kind }
+        ensures { IfOk result
+            (λ taken. ReportUnless session.now.layers.items error.now taken.findings.items) }
+    {
+        if self.reading.unread.contains(&place) {
+            return Ok(self.nothing());
+        }
+        let findings = self.refused(session, error)?;
+        let goes_on = self.leave_out_file(&session.layers, place)?;
+        Ok(Taken { findings, goes_on })
+    }
+
+    /// Reports that a file cannot be read. If it is a document, as it is, it is not read any
+    /// further.
+    fn take_text(
+        &mut self,
+        session: &Session<'_>,
+        place: usize,
+        error: &ConfigParseError,
+    ) -> Result<Taken, AllocError>
+        requires { MayHaveNoFinding error.now.kind }
+        ensures { IfOk result
+            (λ taken. ReportUnless session.now.layers.items error.now taken.findings.items) }
+    {
+        if !is_document(&session.layers, place) {
+            return self.take_file(session, place, error);
+        }
+        self.add_unreached(&session.layers, place)?;
+        Ok(self.nothing())
     }
 
     /// Leaves out settings of a source whose values are refused although others are left out: they
-    /// follow from these. If there are none, the merged files are refused. Returns whether the
-    /// search goes on.
-    fn take_element(&mut self, place: usize, error: &ConfigParseError) -> Result<bool, AllocError> {
+    /// follow from these. If there are none, the merged files are refused.
+    fn take_element(
+        &mut self,
+        session: &Session<'_>,
+        place: usize,
+        error: &ConfigParseError,
+    ) -> Result<Taken, AllocError>
+        requires { MayHaveNoFinding error.now.kind }
+        ensures { IfOk result
+            (λ taken. ReportUnless session.now.layers.items error.now taken.findings.items) }
+    {
         let alloc = self.alloc;
-        let Some(text) = self.reading.text_at(alloc, &self.session.layers, place)? else {
-            return Ok(false);
+        let Some(text) = self.reading.text_at(alloc, &session.layers, place)? else {
+            return Ok(self.nothing());
         };
-        let tree = match tree_from_text(alloc, text.as_str()) {
-            Ok(tree) => tree,
-            Err(TextFault::NotDocument(_)) => return Ok(false),
-            Err(TextFault::Memory) => return Err(AllocError),
+        let Some(tree) = document_of(alloc, text.as_str())? else {
+            return Ok(self.nothing());
         };
         let laid = lay_over(alloc, &tree, default_tree(alloc)?)?;
         let faults = file_faults(alloc, &laid)?;
         if faults.is_empty() {
-            self.add(error)?;
-            return Ok(false);
+            return self.take_last(session, error);
         }
         let before = self.reading.edits.count();
-        for fault in &faults {
-            leave_out_setting(&mut self.reading.edits, place, &fault.path)?;
-        }
-        Ok(self.reading.edits.count() > before)
+        leave_out_settings(&mut self.reading.edits, place, &faults)?;
+        Ok(Taken {
+            findings: Vec::new(alloc),
+            goes_on: self.reading.edits.count() > before,
+        })
     }
 
-    /// Switches features on.
-    fn switch_on(&mut self, features: &[ConfigExperimental]) -> Result<bool, AllocError> {
-        let mut is_new = false;
-        for feature in features {
-            is_new = self.reading.features.insert(*feature)? || is_new;
-        }
-        Ok(is_new)
-    }
-
-    /// Leaves out what a check of a source refuses.
-    fn leave_out_refused(
-        &mut self,
-        place: usize,
-        kind: &ConfigParseErrorKind,
-    ) -> Result<(), AllocError> {
-        let alloc = self.alloc;
-        let tree = self.tree_at(place);
-        let sources = self.session.layers.len();
-        let edits = &mut self.reading.edits;
-        match kind {
-            ConfigParseErrorKind::InvalidTestGroupsDefined(groups)
-            | ConfigParseErrorKind::InvalidTestGroupsDefinedByTool(groups)
-            | ConfigParseErrorKind::InvalidTestGroupsDefinedByOrganisation(groups) => {
-                leave_out_foreign_groups(alloc, edits, place, groups)
-            }
-            ConfigParseErrorKind::BothScriptAndScriptsDefined => {
-                leave_out_old_scripts(edits, place, tree)
-            }
-            ConfigParseErrorKind::DuplicateConfigScriptNames(scripts)
-            | ConfigParseErrorKind::InvalidConfigScriptsDefined(scripts)
-            | ConfigParseErrorKind::InvalidConfigScriptsDefinedByTool(scripts)
-            | ConfigParseErrorKind::InvalidConfigScriptsDefinedByOrganisation(scripts) => {
-                leave_out_scripts(alloc, edits, place, scripts)
-            }
-            ConfigParseErrorKind::InheritanceErrors(errors) => {
-                leave_out_parents(edits, sources, errors)
-            }
-            ConfigParseErrorKind::CompileErrors(errors) => {
-                leave_out_sections(alloc, edits, place, errors)
-            }
-            ConfigParseErrorKind::UnknownTestGroups { errors, .. } => {
-                leave_out_groups(alloc, edits, place, tree, errors)
-            }
-            ConfigParseErrorKind::ProfileScriptErrors { errors, .. } => {
-                leave_out_script_rules(edits, place, errors)
-            }
-            ConfigParseErrorKind::DuplicateToolConfigFile { .. }
-            | ConfigParseErrorKind::ReadError(_)
-            | ConfigParseErrorKind::BuildError(_)
-            | ConfigParseErrorKind::DeserializeError(_)
-            | ConfigParseErrorKind::ExperimentalFeaturesNotEnabled { .. }
-            | ConfigParseErrorKind::Memory => Ok(()),
-        }
-    }
-
-    /// Whether a check of a source rests on a lower one that is not read.
-    fn rests_on_unread(&self, place: usize, kind: &ConfigParseErrorKind) -> bool {
+    /// Whether a lower source than the one at a place is not read.
+    fn is_above_unread(&self, place: usize) -> bool {
         match self.lowest_unread {
-            Some(unread) => unread < place && scope_of(kind) == Scope::WithLower,
+            Some(unread) => unread < place,
             None => false,
         }
     }
 
-    /// Adds what a check of a source refuses, and leaves it out. Returns whether the search goes
-    /// on.
-    fn take_check(&mut self, place: usize, error: &ConfigParseError) -> Result<bool, AllocError> {
-        let kind = error.kind();
-        if !self.rests_on_unread(place, kind) {
-            self.add(error)?;
-        } else if let Some(check) = check_of(kind) {
+    /// Whether a check of a source rests on a lower one that is not read.
+    fn rests_on_unread(&self, place: usize, kind: &ConfigParseErrorKind) -> bool
+        ensures { IsTrue result → scope_of kind.now ≡ Scope.WithLower }
+    {
+        match scope_of(kind) {
+            Scope::WithLower => self.is_above_unread(place),
+            Scope::Own => false,
+        }
+    }
+
+    /// Adds that a source does not reach a check that refuses it, because a lower one is not read.
+    fn add_unreached_check(
+        &mut self,
+        place: usize,
+        kind: &ConfigParseErrorKind,
+    ) -> Result<(), AllocError> {
+        if let Some(check) = check_of(kind) {
             let unreached = only(self.alloc, place, check)?;
             self.unreached.push(unreached)?;
         }
-        if let ConfigParseErrorKind::ExperimentalFeaturesNotEnabled { missing_features } = kind {
-            return self.switch_on(missing_features);
-        }
-        let before = self.reading.edits.count();
-        self.leave_out_refused(place, kind)?;
-        Ok(self.reading.edits.count() > before)
+        Ok(())
     }
 
-    /// Adds what a refusal says, and leaves it out. Returns whether the search goes on.
-    fn take(&mut self, error: &ConfigParseError) -> Result<bool, AllocError> {
-        let Some(place) = refused_place(&self.session.layers, error) else {
-            self.add(error)?;
-            return Ok(false);
+    /// What a check of a source refuses, unless it rests on a lower source that is not read.
+    fn check_findings(
+        &mut self,
+        session: &Session<'_>,
+        place: usize,
+        error: &ConfigParseError,
+    ) -> Result<Vec<Finding>, AllocError>
+        ensures { IfOk result
+            (λ findings. ReportUnless session.now.layers.items error.now findings.items) }
+    {
+        if !self.rests_on_unread(place, error.kind()) {
+            return self.refused(session, error);
+        }
+        self.add_unreached_check(place, error.kind())?;
+        Ok(Vec::new(self.alloc))
+    }
+
+    /// Reports what a check of a source refuses, and leaves it out.
+    fn take_check(
+        &mut self,
+        session: &Session<'_>,
+        place: usize,
+        error: &ConfigParseError,
+    ) -> Result<Taken, AllocError>
+        ensures { IfOk result
+            (λ taken. ReportUnless session.now.layers.items error.now taken.findings.items) }
+    {
+        let findings = self.check_findings(session, place, error)?;
+        let goes_on = self.leave_out(&session.layers, place, error.kind())?;
+        Ok(Taken { findings, goes_on })
+    }
+
+    /// Reports a refusal, and leaves out what it is about.
+    fn take(&mut self, session: &Session<'_>, error: &ConfigParseError) -> Result<Taken, AllocError>
+        ensures { IfOk result
+            (λ taken. ReportUnless session.now.layers.items error.now taken.findings.items) }
+    {
+        let Some(place) = refused_place(&session.layers, error) else {
+            return self.take_last(session, error);
         };
         match error.kind() {
             ConfigParseErrorKind::Memory => Err(AllocError),
-            ConfigParseErrorKind::DuplicateToolConfigFile { .. } => self.take_file(place, error),
-            ConfigParseErrorKind::ReadError(_) | ConfigParseErrorKind::BuildError(_) => {
-                self.take_text(place, error)
+            ConfigParseErrorKind::DuplicateToolConfigFile { .. } => {
+                self.take_file(session, place, error)
             }
-            ConfigParseErrorKind::DeserializeError(_) => self.take_element(place, error),
-            _ => self.take_check(place, error),
+            ConfigParseErrorKind::ReadError(_) | ConfigParseErrorKind::BuildError(_) => {
+                self.take_text(session, place, error)
+            }
+            ConfigParseErrorKind::DeserializeError(_) => self.take_element(session, place, error),
+            _ => self.take_check(session, place, error),
         }
     }
 
-    /// Loads the files without what is left out, and adds what is wrong with them. Returns whether
-    /// the search goes on.
-    fn step(&mut self) -> Result<bool, AllocError> {
-        let mut warnings = DefaultConfigWarnings::new(self.alloc);
-        let refusal = self
-            .reading
-            .refusal(self.alloc, self.session, &mut warnings)?;
-        self.add_warnings(&warnings)?;
-        match refusal {
-            Some(error) if error.config_file().is_none() => Err(AllocError),
-            Some(error) => self.take(&error),
-            None => Ok(false),
-        }
-    }
-
-    /// Adds what is wrong with the files beside their values, of which those that are refused are
-    /// left out. The load of the files reports warnings and refuses them.
-    fn run(
+    /// Reports a refusal, if there is one, and leaves out what it is about.
+    fn take_any(
         &mut self,
+        session: &Session<'_>,
+        refusal: &Option<ConfigParseError>,
+    ) -> Result<Taken, AllocError>
+        ensures { IfOk result
+            (λ taken. ReportIfAny session.now.layers.items refusal.now taken.findings.items) }
+    {
+        match refusal {
+            Some(error) => self.take(session, error),
+            None => Ok(self.nothing()),
+        }
+    }
+
+    /// The findings of warnings that are new. Those of unknown keys are reported with the values.
+    fn new_warnings(
+        &mut self,
+        session: &Session<'_>,
+        warnings: &DefaultConfigWarnings,
+    ) -> Result<Vec<Finding>, AllocError>
+        ensures { IfOk result (λ chosen. ReportSomeWarnings session.now.layers.items
+            (warnings_view warnings.now) chosen.items) }
+    {
+        let all = other_warning_findings(self.alloc, &session.layers, warnings)?;
+        let left_out = &self.reading.edits.left_out;
+        Ok(new_ones(self.alloc, left_out, &mut self.warned, all)?)
+    }
+
+    /// Loads the files without what is left out, and returns what is wrong with them.
+    fn step(&mut self, session: &Session<'_>) -> Result<Taken, AllocError>
+        ensures { IfOk result (λ taken. ReportOneRound session.now taken.findings.items) }
+    {
+        let round = self.reading.load(self.alloc, session)?;
+        let mut findings = self.new_warnings(session, &round.warnings)?;
+        let taken = self.take_any(session, &round.refusal)?;
+        let Taken {
+            findings: mut of_refusal,
+            goes_on,
+        } = taken;
+        findings.append(&mut of_refusal)?;
+        Ok(Taken { findings, goes_on })
+    }
+
+    /// Loads the files again and again, each time without what was refused before, and returns what
+    /// is wrong with them.
+    fn rounds(&mut self, session: &Session<'_>) -> Result<Vec<Finding>, AllocError>
+        ensures { IfOk result (λ findings. ReportSomeRounds session.now findings.items) }
+    {
+        let mut findings = Vec::new(self.alloc);
+        for _ in 0..session.layers.len().saturating_mul(MOST_STEPS) {
+            let taken = self.step(session)?;
+            let Taken {
+                findings: mut more,
+                goes_on,
+            } = taken;
+            findings.append(&mut more)?;
+            if !goes_on {
+                return Ok(findings);
+            }
+        }
+        Ok(findings)
+    }
+
+    /// The findings of the warnings of a load of whole files: all but those of unknown keys, which
+    /// are reported with the values.
+    fn all_warnings(
+        &mut self,
+        session: &Session<'_>,
+        warnings: &DefaultConfigWarnings,
+    ) -> Result<Vec<Finding>, AllocError>
+        ensures { IfOk result (λ findings. ReportWarnings session.now.layers.items
+            (other_warnings (warnings_view warnings.now)) findings.items) }
+    {
+        let findings = other_warning_findings(self.alloc, &session.layers, warnings)?;
+        Ok(noted(self.alloc, &mut self.warned, findings)?)
+    }
+
+    /// Leaves out what a load of whole files refuses, whose values have no fault by themselves.
+    /// Returns whether the search goes on.
+    fn leave_out_first(
+        &mut self,
+        layers: &[Layer],
+        error: &ConfigParseError,
+    ) -> Result<bool, AllocError> {
+        let Some(place) = refused_place(layers, error) else {
+            return Ok(false);
+        };
+        match error.kind() {
+            ConfigParseErrorKind::DuplicateToolConfigFile { .. }
+            | ConfigParseErrorKind::ReadError(_)
+            | ConfigParseErrorKind::BuildError(_) => self.leave_out_file(layers, place),
+            ConfigParseErrorKind::DeserializeError(_) | ConfigParseErrorKind::Memory => Ok(false),
+            kind => self.leave_out(layers, place, kind),
+        }
+    }
+
+    /// Reports a load of whole files, and leaves out what it refuses.
+    fn take_load(
+        &mut self,
+        session: &Session<'_>,
         warnings: &DefaultConfigWarnings,
         error: &ConfigParseError,
-    ) -> Result<(), AllocError> {
-        if self.reading.edits.count() == 0 {
-            self.add_warnings(warnings)?;
-            if !self.take(error)? {
-                return Ok(());
-            }
-        }
-        for _ in 0..self.session.layers.len().saturating_mul(MOST_STEPS) {
-            if !self.step()? {
-                return Ok(());
-            }
-        }
-        Ok(())
+    ) -> Result<Taken, AllocError>
+        ensures { IfOk result (λ taken. ReportLoad session.now.layers.items
+            (warnings_view warnings.now) error.now taken.findings.items) }
+    {
+        let mut findings = self.all_warnings(session, warnings)?;
+        let nothing = LeftOut::new(self.alloc);
+        let mut of_refusal = refused(self.alloc, session, &nothing, error)?;
+        findings.append(&mut of_refusal)?;
+        let goes_on = self.leave_out_first(&session.layers, error)?;
+        Ok(Taken { findings, goes_on })
     }
-}
 
-/// Returns all that is wrong with the files of a session whose load reports warnings and refuses
-/// them.
-pub fn all_findings(
-    alloc: Global,
-    session: &Session<'_>,
-    warnings: &DefaultConfigWarnings,
-    error: &ConfigParseError,
-) -> Result<Found, AllocError>
-    ensures { IfOk result
-        (λ found. ReportAll session.now.layers.items found.findings.items) }
-{
-    let mut edits = Edits::new(alloc);
-    let mut findings = value_findings(alloc, session, &session.layers, &mut edits)?;
-    let mut search = Search::new(alloc, session, edits)?;
-    search.run(warnings, error)?;
-    let Search {
-        findings: mut others,
-        unreached,
-        ..
-    } = search;
-    findings.append(&mut others)?;
-    Ok(Found {
-        findings,
-        unreached,
-    })
+    /// Reports a load, if it is one of whole files.
+    fn begin(
+        &mut self,
+        session: &Session<'_>,
+        is_whole: bool,
+        warnings: &DefaultConfigWarnings,
+        error: &ConfigParseError,
+    ) -> Result<Taken, AllocError>
+        ensures { IfOk result (λ taken. ReportLoadIf is_whole session.now.layers.items
+            (warnings_view warnings.now) error.now taken.findings.items) }
+    {
+        if is_whole {
+            return self.take_load(session, warnings, error);
+        }
+        Ok(Taken {
+            findings: Vec::new(self.alloc),
+            goes_on: true,
+        })
+    }
+
+    /// What is wrong with the files beside their values, of which those that are refused are left
+    /// out. The load of the files reports warnings and refuses them.
+    pub fn run(
+        &mut self,
+        session: &Session<'_>,
+        is_whole: bool,
+        warnings: &DefaultConfigWarnings,
+        error: &ConfigParseError,
+    ) -> Result<Vec<Finding>, AllocError>
+        ensures { IfOk result (λ findings. ReportLoads is_whole session.now
+            (warnings_view warnings.now) error.now findings.items) }
+    {
+        let taken = self.begin(session, is_whole, warnings, error)?;
+        let Taken {
+            mut findings,
+            goes_on,
+        } = taken;
+        if !goes_on {
+            return Ok(findings);
+        }
+        let mut later = self.rounds(session)?;
+        findings.append(&mut later)?;
+        Ok(findings)
+    }
 }

@@ -1,7 +1,10 @@
-use Rattle.std.proofs.Common.{take}
-use Rattle.rinqebo_checks.specs.Faults.{ReportFiles}
+use Rattle.std.proofs.Common.{◌≡◌, take}
+use Rattle.rinqebo_checks.specs.Faults.{AreSound, ReportFiles}
 use Rattle.rinqebo_checks.proofs.file_values.value_findings.Given as goal
 
--- the findings report what is wrong with the files so far
+-- the findings report what is wrong with the files so far, and nothing is left out without a fault
 abbrev pub invariant-loop-place : goal.invariant-loop-place
-invariant-loop-place l = ReportFiles l.session.layers.items 0 (take l.place l.layers) l.findings.items
+invariant-loop-place l = record {
+  reported : ReportFiles l.session.layers.items 0 (take l.place l.layers) l.findings.items;
+  sound : AreSound l.layers → l.edits ≡ l.fn.edits;
+}

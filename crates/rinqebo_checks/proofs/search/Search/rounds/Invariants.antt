@@ -1,0 +1,6 @@
+use Rattle.rinqebo_checks.specs.Rounds.{ReportSomeRounds}
+use Rattle.rinqebo_checks.proofs.search.Search.rounds.Given as goal
+
+-- the findings report the rounds so far
+abbrev pub invariant-loop : goal.invariant-loop
+invariant-loop l = ReportSomeRounds l.session l.findings.items
