@@ -7,3 +7,5 @@ pub mod Meant
 pub mod RunsReasons
 pub mod Gathering
 pub mod Succeeding
+pub mod OpenFilters
+pub mod Notes

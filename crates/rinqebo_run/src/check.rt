@@ -1,13 +1,14 @@
 //! The result of a check: what is wrong with files.
-ghost use Rattle.std.specs.Prelude.{◌≡◌, ◌==◌, ◌&&◌, IfOk, IfErr, length, not};
+ghost use Rattle.std.specs.Prelude.{◌≡◌, ◌==◌, ◌&&◌, IfOk, IfErr, None, length, not};
 ghost use Rattle.std.specs.List.{list_any};
 ghost use Rattle.nextest_sources.specs.Endings.{IsMemory};
 ghost use Rattle.rinqebo_checks.specs.Reports.{IsReportOf};
-ghost use Rattle.rinqebo_checks.specs.Faults.{ShowsFaults};
+ghost use Rattle.rinqebo_checks.specs.Faults.{ShowsChecked};
 ghost use Rattle.rinqebo_load.specs.declared.failure.Failure.TheVariants.{Memory};
-ghost use Rattle.rinqebo_results.specs.Checked.{IsCheckStatus, accepted_status, is_error};
+ghost use Rattle.rinqebo_results.specs.Checked.{AreOfAccepted, IsCheckStatus, ShowsAccepted, accepted_status, is_error};
 ghost use Rattle.nextest_sources.specs.WarningsView.{warnings_view};
-ghost use Rattle.rinqebo_results.specs.Warned.{BeginWithWarnings, ShowsWarnings, ShowsWarningsIn};
+ghost use Rattle.rinqebo_results.specs.Warned.{ShowsWarnings, ShowsWarningsIn};
+ghost use Rattle.rinqebo_run.specs.OpenFilters.{IsCheckNote, IsOpenNote, config_read};
 
 use crate::open_filters::open_filters_note;
 use nextest_config::{ConfigParseError, DefaultConfigWarnings};
@@ -61,7 +62,7 @@ fn accepted_findings(
     session: &Session<'_>,
     warnings: &DefaultConfigWarnings,
 ) -> Result<Vec<Finding>, AllocError>
-    ensures { IfOk result (λ findings. BeginWithWarnings session.now.layers.items
+    ensures { IfOk result (λ findings. AreOfAccepted session.now.layers.items
         (warnings_view warnings.now) findings.items) }
 {
     let mut findings = warning_findings(alloc, &session.layers, warnings)?;
@@ -81,8 +82,12 @@ fn accepted(
     ensures status { IfOk result (λ answer. answer.status
         ≡ accepted_status deny_warnings answer.report.findings.items) }
     ensures about { IfOk result (λ answer. IsReportOf session.now answer.report) }
+    ensures found { IfOk result (λ answer. ShowsAccepted session.now.layers.items
+        (warnings_view warnings.now) answer.report.findings.items) }
     ensures warned { IfOk result (λ answer. ShowsWarnings session.now.layers.items
         (warnings_view warnings.now) answer.report.findings.items) }
+    ensures noted { IfOk result (λ answer. IsOpenNote session.now.engines.filters.packages
+        (config_read config.now) answer.note) }
 {
     let note = open_filters_note(alloc, session, config)?;
     let findings = accepted_findings(alloc, session, warnings)?;
@@ -104,9 +109,10 @@ fn refused(
 ) -> Result<Answer, AllocError>
     ensures status { IfOk result (λ answer. answer.status ≡ 3) }
     ensures cause { IfOk result (λ _. ¬ IsMemory error.now) }
-    ensures faults { IfOk result (λ answer.
-        ShowsFaults session.now.layers.items answer.report.findings.items) }
+    ensures faults { IfOk result (λ answer. ShowsChecked session.now (warnings_view warnings.now)
+        error.now answer.report.findings.items) }
     ensures about { IfOk result (λ answer. IsReportOf session.now answer.report) }
+    ensures noted { IfOk result (λ answer. answer.note ≡ None) }
 {
     if error.config_file().is_none() {
         return Err(AllocError);
@@ -126,6 +132,7 @@ fn checked(alloc: Global, session: &Session<'_>, deny_warnings: bool) -> Result<
     ensures about { IfOk result (λ answer. IsReportOf session.now answer.report) }
     ensures warned { IfOk result (λ answer.
         ShowsWarningsIn session.now answer.report answer.status) }
+    ensures noted { IfOk result (λ answer. IsCheckNote session.now answer.status answer.note) }
 {
     let mut warnings = DefaultConfigWarnings::new(alloc);
     match session.load(alloc, &mut warnings) {
@@ -141,6 +148,7 @@ pub fn check(alloc: Global, session: &Session<'_>, deny_warnings: bool) -> Resul
     ensures about { IfOk result (λ answer. IsReportOf session.now answer.report) }
     ensures warned { IfOk result (λ answer.
         ShowsWarningsIn session.now answer.report answer.status) }
+    ensures noted { IfOk result (λ answer. IsCheckNote session.now answer.status answer.note) }
     ensures err { IfErr result (λ failure. failure ≡ Memory) }
 {
     match checked(alloc, session, deny_warnings) {

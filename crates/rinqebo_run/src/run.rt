@@ -18,6 +18,7 @@ ghost use Rattle.rinqebo_report.specs.Document.{is_check};
 ghost use Rattle.rinqebo_results.specs.Statuses.{IsStatus, IsAnswerStatus, IsGatherStatus, IsWordsStatus};
 ghost use Rattle.rinqebo_results.specs.Warned.{ShowsWarningsIn, ShowsWarningsOf};
 ghost use Rattle.rinqebo_results.specs.Written.{AsksList, IsStopStatus};
+ghost use Rattle.rinqebo_run.specs.OpenFilters.{HasNote, IsNoteOf};
 ghost use Rattle.rinqebo_report.specs.declared.format.Format.TheVariants as formats;
 
 use crate::check::check;
@@ -67,6 +68,8 @@ pub fn answer_of<P: Progress>(
 ) -> Result<Answer, Failure>
     ensures ok { IfOk result
         (λ answer. IsAnswer request.now gathered.now answer.report answer.status) }
+    ensures noted { IfOk result
+        (λ answer. HasNote request.now gathered.now answer.status answer.note) }
     ensures err { IfErr result (Fails request.now gathered.now) }
 {
     let session = Session::new(alloc, request, gathered)?;
@@ -147,6 +150,8 @@ fn answer_in<P: Progress>(
     ensures looked_up { IfOk result (λ _. AreLookedUp session.now request.now.question) }
     ensures objects { IfOk result (λ answer.
         HasObjectsFor session.now request.now.question answer.report.content) }
+    ensures noted { IfOk result (λ answer.
+        IsNoteOf session.now request.now.question answer.status answer.note) }
     ensures err { IfErr result (IsFailureIn session.now request.now.question) }
 {
     let path = request.engines.metadata;
