@@ -188,7 +188,7 @@ low_empty : (b : Bool) → (if b then 0 else 1) ≤ 1
 low_empty true = omega arith
 low_empty false = omega arith
 
-low_status : (diff : Diff) → diff_status diff ≤ 1
+pub low_status : (diff : Diff) → diff_status diff ≤ 1
 low_status diff = low_empty (is_empty diff)
 
 pub answer_low : (diff : Diff) (n : ℕ) → (n ≡ diff_status diff) ⊎ (n ≡ 5) ⊎ (n ≡ 6) → n ≤ 6

@@ -2,6 +2,8 @@ pub mod Comparing
 pub mod Judging
 pub mod Evaluating
 pub mod Failing
+pub mod Received
+pub mod Errors
 pub mod EqualSides
 pub mod SwappedSides
 pub mod TurnedRows
@@ -13,3 +15,6 @@ pub mod OneOrigins
 pub mod OneRun
 pub mod SidesOfFiles
 pub mod TurnedSides
+pub mod RightLines
+pub mod Arguments
+pub mod Requesting

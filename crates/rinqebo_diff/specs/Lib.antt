@@ -1,4 +1,8 @@
 pub mod Asked
+pub mod DiffArguments
+pub mod RightLine
+pub mod DiffRequests
+pub mod SideOptions
 pub mod Gathered
 pub mod Compared
 pub mod ListScripts
@@ -9,6 +13,8 @@ pub mod Failing
 pub mod Statuses
 pub mod Written
 pub mod Differences
+pub mod Received
+pub mod StandardError
 pub mod Evaluated
 pub mod Beside
 pub mod EqualSides

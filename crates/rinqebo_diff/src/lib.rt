@@ -10,11 +10,13 @@ mod compared;
 mod format;
 mod gathering;
 mod laws;
+mod line;
 mod list_scripts;
 mod loaded;
 mod options;
 mod perform;
 mod request;
+mod side_options;
 mod sides;
 mod words;
 

@@ -1,4 +1,10 @@
 //! The command `diff` and its options.
+ghost use Rattle.std.specs.Prelude.{◌≡◌, IfOk, map};
+ghost use Rattle.clap.specs.declared.builder.value_parser.ValueParser.{ValueParser};
+ghost use Rattle.rinqebo_request.specs.ArgumentTable.{Adds, IsArgument, IsChoice, mode_words};
+ghost use Rattle.rinqebo_diff.specs.DiffArguments.{IsDiffCommand, right_rule, right_rules};
+ghost use Rattle.rinqebo_diff.specs.RightLine.{right_names};
+
 use clap::{Arg, ArgAction, Command};
 use rinqebo_request::options::{
     MODES, flag, keys, option, with_files, with_output, with_platforms, with_profile, word,
@@ -49,7 +55,10 @@ pub const TO_OPTIONS: [(&str, &str); 12] = [
 ];
 
 /// An option of the right side. The help shows them all at its end, so that its lines stay short.
-fn right_option<'a>(alloc: Global, name: &'a str, value: &'a str) -> Arg<'a> {
+fn right_option<'a>(alloc: Global, name: &'a str, value: &'a str) -> Arg<'a>
+    ensures { (modes : ValueParser) × IsChoice mode_words modes
+        × IsArgument (right_rule modes name.entry.now) result }
+{
     let help = "In place of the option without `to-`, on the right side";
     let one = option(alloc, name, value, help).hide(true);
     match name {
@@ -59,17 +68,35 @@ fn right_option<'a>(alloc: Global, name: &'a str, value: &'a str) -> Arg<'a> {
     }
 }
 
-/// The options of the right side.
-fn with_right_side<'a>(alloc: Global, command: Command<'a>) -> Result<Command<'a>, AllocError> {
+/// Adds options of the right side, which have these names and names of values.
+fn with_options<'a>(
+    alloc: Global,
+    command: Command<'a>,
+    options: &'a [(&'a str, &'a str)],
+) -> Result<Command<'a>, AllocError>
+    ensures { map (λ option. option.0.now) options.entry.now ≡ right_names
+        → IfOk result (λ added. (modes : ValueParser) × IsChoice mode_words modes
+        × Adds (right_rules modes) command.entry added) }
+{
     let mut command = command;
-    for (name, value) in TO_OPTIONS.iter() {
+    for (name, value) in options {
         command = command.arg(right_option(alloc, *name, *value))?;
     }
     Ok(command)
 }
 
+/// Adds the options of the right side.
+fn with_right_side<'a>(alloc: Global, command: Command<'a>) -> Result<Command<'a>, AllocError>
+    ensures { IfOk result (λ added. (modes : ValueParser) × IsChoice mode_words modes
+        × Adds (right_rules modes) command.entry added) }
+{
+    with_options(alloc, command, &TO_OPTIONS)
+}
+
 /// The command that compares two sides.
-pub fn diff_command<'a>(alloc: Global) -> Result<Command<'a>, AllocError> {
+pub fn diff_command<'a>(alloc: Global) -> Result<Command<'a>, AllocError>
+    ensures { IfOk result IsDiffCommand }
+{
     let list = word(
         alloc,
         "LIST",

@@ -1,11 +1,15 @@
 //! Writes what changes between the sides of a request.
-ghost use Rattle.std.specs.Prelude.{◌≡◌, ◌⊎◌, ◌≤◌, IfErr, IfOk, string_bytes};
+ghost use Rattle.std.specs.Prelude.{◌≡◌, ◌⊎◌, ◌≤◌, false, IfErr, IfOk, string_bytes};
 ghost use Rattle.std.specs.Io.KnownBytes.{Appends};
 ghost use Rattle.rinqebo_diff.specs.Differences.{diff_status, HasResult, Differs, IsPageOf};
 ghost use Rattle.rinqebo_diff.specs.Failing.{DiffFails, HasCause};
+ghost use Rattle.rinqebo_diff.specs.Received.{BeginsDiff, BeginsDiffFailure, IsWholeDiff};
+ghost use Rattle.rinqebo_diff.specs.StandardError.{GetsDiffErrors, GetsDiffReason, GetsFindings, GetsSideReason, IsReportOfSide, findings_beside, side_line};
 ghost use Rattle.rinqebo_diff.specs.Statuses.{AreForJson, HasFailureStatus, ReportsDiffFailure, ReportsRefusal};
 ghost use Rattle.rinqebo_diff.specs.Written.{ReportsDiff};
 ghost use Rattle.rinqebo_report.specs.declared.format.Format.TheVariants as formats;
+ghost use Rattle.rinqebo_results.specs.Prefixes.{AppendsPrefix, ReceivesPrefix};
+ghost use Rattle.rinqebo_results.specs.Received.{BeginsFailure};
 ghost use Rattle.rinqebo_results.specs.Refused.{ReportsFailure};
 ghost use Rattle.rinqebo_results.specs.Statuses.{failure_status};
 
@@ -41,6 +45,8 @@ pub fn diff_answer<P: Progress>(
     progress: &mut P,
 ) -> Result<DiffAnswer, DiffFailure>
     ensures ok { IfOk result (λ answer. Differs request.now from.now to.now answer.diff) }
+    ensures report { IfOk result
+        (λ answer. IsReportOfSide request.now.to to.now answer.report) }
     ensures err { IfErr result (DiffFails request.now from.now to.now) }
 {
     let left = load_named(alloc, SideName::From, &request.from, from)?;
@@ -79,7 +85,9 @@ fn status_of(diff: &Diff) -> u8
 }
 
 /// The side that a message is about.
-fn side_note(side: SideName) -> &'static str {
+fn side_note(side: SideName) -> &'static str
+    ensures { result.now ≡ side_line side }
+{
     match side {
         SideName::From => "note: no result for the left side (`from`):\n",
         SideName::To => "note: no result for the right side (`to`):\n",
@@ -102,6 +110,10 @@ fn refuse_side<O: Write, E: Write>(
     ensures document { side.now.request.format ≡ formats.Json → (result ≡ 3) ⊎ (result ≡ 4)
         → ReportsFailure failure.now side.now.request result
         (O.contents out.old) (O.contents out.new) }
+    ensures begun { (O.contents out.new ≡ O.contents out.old)
+        ⊎ BeginsFailure failure.now side.now.request (O.contents out.old) (O.contents out.new) }
+    ensures errors { (result ≡ 6) ⊎ GetsSideReason name failure.now side.now.request result
+        (E.contents err.old) (E.contents err.new) }
 {
     let written = print_text(side_note(name), Status::Success as u8, err);
     if written != Status::Success as u8 {
@@ -125,6 +137,10 @@ fn refuse_diff<O: Write, E: Write>(
     ensures document { AreForJson request.now → (result ≡ 3) ⊎ (result ≡ 4)
         → ReportsDiffFailure request.now failure.now result
         (O.contents out.old) (O.contents out.new) }
+    ensures begun { (O.contents out.new ≡ O.contents out.old)
+        ⊎ BeginsDiffFailure request.now failure.now (O.contents out.old) (O.contents out.new) }
+    ensures errors { (result ≡ 6) ⊎ GetsDiffReason request.now failure.now result
+        (E.contents err.old) (E.contents err.new) }
 {
     match failure {
         DiffFailure::Side(SideName::From, failure) => {
@@ -138,11 +154,10 @@ fn refuse_diff<O: Write, E: Write>(
 }
 
 /// The warnings beside a page: a document has nothing beside it.
-fn notes_of(
-    alloc: Global,
-    request: &DiffRequest<'_>,
-    report: &Report,
-) -> Result<String, AllocError> {
+fn notes_of(alloc: Global, request: &DiffRequest<'_>, report: &Report) -> Result<String, AllocError>
+    ensures { IfOk result (λ notes. string_bytes notes
+        ≡ findings_beside request.now.format request.now.paper.colour report.now) }
+{
     match request.format {
         DiffFormat::Json => Ok(String::new(alloc)),
         DiffFormat::Text | DiffFormat::Github(_) | DiffFormat::Markdown => {
@@ -161,6 +176,10 @@ fn print_page<O: Write, E: Write>(
 ) -> u8
     ensures status { (result ≡ diff_status diff.now) ⊎ (result ≡ 6) }
     ensures page { (result ≡ 6) ⊎ Appends (O.contents out.old) (O.contents out.new) page.now }
+    ensures begun { (O.contents out.new ≡ O.contents out.old)
+        ⊎ AppendsPrefix (O.contents out.old) (O.contents out.new) page.now }
+    ensures errors { (result ≡ 6) ⊎ ((result ≡ diff_status diff.now)
+        × Appends (E.contents err.old) (E.contents err.new) notes.now) }
 {
     let written = print_text(notes, Status::Success as u8, err);
     if written != Status::Success as u8 {
@@ -182,6 +201,10 @@ fn print_answer<O: Write, E: Write>(
         ⊎ (O.contents out.new ≡ O.contents out.old) }
     ensures page { (result ≡ 5) ⊎ (result ≡ 6) ⊎ ReportsDiff request.now answer.now.diff
         (O.contents out.old) (O.contents out.new) }
+    ensures begun { (O.contents out.new ≡ O.contents out.old)
+        ⊎ BeginsDiff request.now answer.now.diff (O.contents out.old) (O.contents out.new) }
+    ensures errors { (result ≡ 6) ⊎ GetsFindings request.now answer.now.diff answer.now.report
+        result (E.contents err.old) (E.contents err.new) }
 {
     let Ok(notes) = notes_of(alloc, request, &answer.report) else {
         return refuse_for_memory(err);
@@ -192,11 +215,42 @@ fn print_answer<O: Write, E: Write>(
     }
 }
 
+/// What changes between the two sides of a request. If the request says so, standard error shows
+/// how far the diff is.
+fn answer_shown<E: Write>(
+    alloc: Global,
+    request: &DiffRequest<'_>,
+    from: &Gathered,
+    to: &Gathered,
+    err: &mut E,
+) -> Result<DiffAnswer, DiffFailure>
+    ensures ok { IfOk result (λ answer. Differs request.now from.now to.now answer.diff) }
+    ensures report { IfOk result
+        (λ answer. IsReportOfSide request.now.to to.now answer.report) }
+    ensures err { IfErr result (DiffFails request.now from.now to.now) }
+    ensures errors { request.now.shows_progress ≡ false
+        → E.contents err.new ≡ E.contents err.old }
+{
+    if !request.shows_progress {
+        return diff_answer(alloc, request, from, to, &mut NoProgress);
+    }
+    let mut progress = ProgressLine::new(&mut *err, true);
+    let answer = diff_answer(alloc, request, from, to, &mut progress);
+    progress.clear();
+    answer
+}
+
 /// Writes what changes between the sides of a request, over the files that they name, and returns
 /// the exit status: 0 if nothing changes, 1 if something does, 2 if a list, platforms or metadata
 /// are not understood, 3 if the files of a side are refused, 4 if a side has no such profile, 5 if
 /// memory runs out, 6 if a write fails. Without a result standard output gets nothing, or in JSON a
 /// document of why the files of a side are refused or lack its profile.
+///
+/// Standard error receives the findings of the right side, or the reason why a side has no result,
+/// behind a line that names the side. With a result in JSON it receives nothing.
+///
+/// After a write that failed, standard output has a prefix of what it gets in a diff in which no
+/// write fails.
 pub fn perform_diff<O: Write, E: Write>(
     alloc: Global,
     request: &DiffRequest<'_>,
@@ -215,11 +269,13 @@ pub fn perform_diff<O: Write, E: Write>(
         → ReportsRefusal request.now from.now to.now result
         (O.contents out.old) (O.contents out.new) }
     ensures cause { HasCause request.now from.now to.now result }
+    ensures begun { ReceivesPrefix (IsWholeDiff request.now from.now to.now (O.contents out.old))
+        (O.contents out.old) (O.contents out.new) }
+    ensures errors { request.now.shows_progress ≡ false → (result ≡ 6)
+        ⊎ GetsDiffErrors request.now from.now to.now result
+        (E.contents err.old) (E.contents err.new) }
 {
-    let mut progress = ProgressLine::new(&mut *err, request.shows_progress);
-    let answer = diff_answer(alloc, request, from, to, &mut progress);
-    progress.clear();
-    match answer {
+    match answer_shown(alloc, request, from, to, err) {
         Ok(answer) => print_answer(alloc, request, &answer, out, err),
         Err(failure) => refuse_diff(alloc, request, &failure, out, err),
     }

@@ -1,51 +1,98 @@
 //! Reads the command line of the command `diff`.
+ghost use Rattle.std.specs.List.{list_any};
+ghost use Rattle.std.specs.Prelude.{◌≡◌, false, true, IfErr, IfOk, MatchOption, Some, codes, map, string_bytes};
+ghost use Rattle.clap.specs.Simple.{subcommand_of, subcommand_rows_of};
+ghost use Rattle.rinqebo_request.specs.Lines.{Line, has, line_of, value_at};
+ghost use Rattle.rinqebo_request.specs.Requests.{mode_of};
+ghost use Rattle.rinqebo_request.specs.Rows.{AreExplainedRows};
+ghost use Rattle.rinqebo_diff.specs.DiffArguments.{AllChoices, AreAllChoices, whole_app};
+ghost use Rattle.rinqebo_diff.specs.DiffRequests.{AreComparedOf, IsAnyCommandOf, IsDiffFormat, IsDiffRequest, IsDiffSide, IsNoDiff, IsSideFormat, LacksRightSide, has_no_key};
+ghost use Rattle.rinqebo_diff.specs.RightLine.{has_right_side};
+ghost use Rattle.rinqebo_diff.specs.SideOptions.{AreSideOptions};
+
 use crate::asked::ComparedSettings;
+use crate::line::{has, is_on, value, values};
 use crate::options::{TO_OPTIONS, diff_command};
 use crate::request::{AnyCommand, DiffFormat, DiffRequest, DiffSide};
+use crate::side_options::{SideOptions, both_options};
 use clap::ArgMatches;
-use nextest_config::NextestRunMode;
 use rinqebo_report::{Format, ReportCommand};
 use rinqebo_request::options::program;
 use rinqebo_request::rows::explained_rows;
-use rinqebo_request::words::{
-    command_of, command_words, engines, features, files, mode, mode_of, named_file, paper, profile,
-    profile_source, stop_of, tool_files, usage,
-};
-use rinqebo_request::{
-    ConfigFile, EngineOptions, Environment, FileOptions, ListFile, ParseStop, ProfileSource,
-    Question, Request, RequestedSettings, ToolFile, set,
-};
+use rinqebo_request::words::{command_of, command_words, features, mode, paper, stop_of, usage};
+use rinqebo_request::{Environment, ParseStop, Question, Request, RequestedSettings, set};
 use std::alloc::{AllocError, Global};
 
-/// Whether an option of the right side is given.
-fn has_right_side(matches: &ArgMatches<'_>) -> bool {
-    TO_OPTIONS
-        .iter()
-        .any(|(name, _)| matches.contains_id(*name))
+/// Whether one of some options is given, which have these names and names of values.
+fn has_any(matches: &ArgMatches<'_>, options: &[(&str, &str)]) -> bool
+    ensures { result
+        ≡ list_any (λ option. has option.0.now (line_of matches.now)) options.now }
+{
+    options.iter().any(|(name, _)| has(matches, *name))
 }
 
-/// The format in which a side without a result is reported.
-fn side_format<'a>(matches: &ArgMatches<'a>) -> Format<'a> {
-    match matches.get_str("format") {
-        Some("json") => Format::Json,
+/// Whether an option of the right side is given.
+fn has_right_side(matches: &ArgMatches<'_>) -> bool
+    ensures { result ≡ has_right_side (line_of matches.now) }
+{
+    has_any(matches, &TO_OPTIONS)
+}
+
+/// Why a command line of `diff` without an option of the right side is not a request.
+fn no_right_side(alloc: Global) -> Result<ParseStop, AllocError>
+    ensures { IfOk result LacksRightSide }
+{
+    let message = "`diff` needs an option of the right side, such as `--to-config-file`";
+    usage(alloc, message, None)
+}
+
+/// The format of a word, in which a side without a result is reported.
+fn side_format_by<'a>(word: &str) -> Format<'a>
+    ensures { IsSideFormat (Some word.now) result }
+{
+    match word {
+        "json" => Format::Json,
         _ => Format::Text,
     }
 }
 
+/// The format in which a side without a result is reported.
+fn side_format<'a>(matches: &ArgMatches<'a>) -> Format<'a>
+    ensures { IsSideFormat (value_at (codes "format") (line_of matches.now)) result }
+{
+    match value(matches, "format") {
+        Some(word) => side_format_by(word),
+        None => Format::Text,
+    }
+}
+
 /// Whether what changes for the whole run is compared: it is unless settings are named.
-fn compares_run(matches: &ArgMatches<'_>) -> bool {
-    matches.get_strs("KEY").unwrap_or(&[]).is_empty()
+fn compares_run(matches: &ArgMatches<'_>) -> bool
+    ensures { result ≡ has_no_key (line_of matches.now) }
+{
+    values(matches, "KEY").unwrap_or(&[]).is_empty()
 }
 
 /// The settings that are compared: those that arguments name.
 fn compared_settings(
     alloc: Global,
     asked: RequestedSettings,
-) -> Result<ComparedSettings, AllocError> {
+) -> Result<ComparedSettings, AllocError>
+    ensures { IfOk result (λ compared. AreComparedOf asked compared.asked) }
+{
     match asked {
         RequestedSettings::These { runs, settings } => Ok(ComparedSettings::new(runs, settings)),
         RequestedSettings::Decided => ComparedSettings::all(alloc),
     }
+}
+
+/// The settings that a command line compares.
+fn compared(alloc: Global, matches: &ArgMatches<'_>) -> Result<ComparedSettings, ParseStop>
+    ensures { IfOk result (λ compared.
+        AreExplainedRows (mode_of (line_of matches.now)) (line_of matches.now) compared.asked) }
+{
+    let asked = explained_rows(alloc, matches, mode(matches))?;
+    Ok(compared_settings(alloc, asked)?)
 }
 
 /// The request of a side.
@@ -54,7 +101,10 @@ fn side_request<'a>(
     matches: &ArgMatches<'a>,
     environment: &'a Environment,
     side: SideOptions<'a>,
-) -> Result<DiffSide<'a>, ParseStop> {
+) -> Result<DiffSide<'a>, ParseStop>
+    ensures { IfOk result (λ request. (own : Line) → AreSideOptions environment.now own side.entry
+        → IsDiffSide environment.now (line_of matches.now) own request) }
+{
     let SideOptions {
         profile,
         profile_source,
@@ -85,136 +135,49 @@ fn side_request<'a>(
     })
 }
 
-/// The options of a side.
-#[derive(Drop)]
-struct SideOptions<'a> {
-    profile: &'a str,
-    profile_source: ProfileSource,
-    mode: NextestRunMode,
-    list: ListFile<'a>,
-    files: FileOptions<'a>,
-    engines: EngineOptions<'a>,
-}
-
-/// The options of the left side.
-fn left_options<'a>(
-    alloc: Global,
-    matches: &ArgMatches<'a>,
-    environment: &'a Environment,
-) -> Result<SideOptions<'a>, ParseStop> {
-    Ok(SideOptions {
-        profile: profile(matches, environment),
-        profile_source: profile_source(matches, environment),
-        mode: mode(matches),
-        list: matches
-            .get_str("LIST")
-            .map_or(ListFile::Input, ListFile::at),
-        files: files(alloc, matches, named_file(matches))?,
-        engines: engines(matches, environment),
-    })
-}
-
-/// The files of tools of the right side: those of its own options, else those of the left side.
-fn right_tools<'a>(
-    alloc: Global,
-    matches: &ArgMatches<'a>,
-    left: Vec<ToolFile<'a>>,
-) -> Result<Vec<ToolFile<'a>>, ParseStop> {
-    if let Some(values) = matches.get_strs("to-tool-config-file") {
-        return tool_files(alloc, values);
+/// How a diff is written, by a word.
+fn diff_format_by<'a>(word: &str, environment: &'a Environment) -> DiffFormat<'a>
+    ensures { IsDiffFormat environment.now (Some word.now) result }
+{
+    match word {
+        "json" => DiffFormat::Json,
+        "github" => DiffFormat::Github(set(&environment.workflow_folder).unwrap_or("")),
+        "markdown" => DiffFormat::Markdown,
+        _ => DiffFormat::Text,
     }
-    Ok(left)
-}
-
-/// The files of the right side: those of the left side, unless its own options name others.
-fn right_files<'a>(
-    alloc: Global,
-    matches: &ArgMatches<'a>,
-    left: FileOptions<'a>,
-) -> Result<FileOptions<'a>, ParseStop> {
-    let FileOptions {
-        root,
-        config_file,
-        organisation_config_file,
-        tools,
-    } = left;
-    let config_file = match matches.get_str("to-config-file") {
-        Some(path) => ConfigFile::Named(path),
-        None => config_file,
-    };
-    Ok(FileOptions {
-        root: matches.get_str("to-root").or(root),
-        config_file,
-        organisation_config_file: matches
-            .get_str("to-organisation-config-file")
-            .or(organisation_config_file),
-        tools: right_tools(alloc, matches, tools)?,
-    })
-}
-
-/// What the languages of the right side know: what those of the left side do, unless its own
-/// options say otherwise.
-fn right_engines<'a>(matches: &ArgMatches<'a>, left: EngineOptions<'a>) -> EngineOptions<'a> {
-    let host = matches.get_str("to-host");
-    EngineOptions {
-        host: host.or(left.host),
-        rustc_version: match host {
-            Some(_) => None,
-            None => left.rustc_version,
-        },
-        target: matches.get_str("to-target").or(left.target),
-        host_cfg: matches.get_str("to-host-cfg").or(left.host_cfg),
-        target_cfg: matches.get_str("to-target-cfg").or(left.target_cfg),
-        metadata: matches.get_str("to-metadata").or(left.metadata),
-        build_target: left.build_target,
-    }
-}
-
-/// The options of the right side: those of the left side, unless it has its own.
-fn right_options<'a>(
-    alloc: Global,
-    matches: &ArgMatches<'a>,
-    left: SideOptions<'a>,
-) -> Result<SideOptions<'a>, ParseStop> {
-    let SideOptions {
-        profile,
-        profile_source,
-        mode,
-        list,
-        files,
-        engines,
-    } = left;
-    let to_profile = matches.get_str("to-profile");
-    let profile_source = match to_profile {
-        Some(_) => ProfileSource::CommandLine,
-        None => profile_source,
-    };
-    let mode = match matches.get_str("to-mode") {
-        Some(word) => mode_of(word),
-        None => mode,
-    };
-    let list = match matches.get_str("to-list") {
-        Some(path) => ListFile::at(path),
-        None => list,
-    };
-    Ok(SideOptions {
-        profile: to_profile.unwrap_or(profile),
-        profile_source,
-        mode,
-        list,
-        files: right_files(alloc, matches, files)?,
-        engines: right_engines(matches, engines),
-    })
 }
 
 /// How a diff is written.
-fn diff_format<'a>(matches: &ArgMatches<'a>, environment: &'a Environment) -> DiffFormat<'a> {
-    match matches.get_str("format") {
-        Some("json") => DiffFormat::Json,
-        Some("github") => DiffFormat::Github(set(&environment.workflow_folder).unwrap_or("")),
-        Some("markdown") => DiffFormat::Markdown,
-        _ => DiffFormat::Text,
+fn diff_format<'a>(matches: &ArgMatches<'a>, environment: &'a Environment) -> DiffFormat<'a>
+    ensures { IsDiffFormat environment.now (value_at (codes "format") (line_of matches.now))
+        result }
+{
+    match value(matches, "format") {
+        Some(word) => diff_format_by(word, environment),
+        None => DiffFormat::Text,
     }
+}
+
+/// The request of the command `diff` whose line has an option of the right side.
+fn sides_request<'a>(
+    alloc: Global,
+    matches: &ArgMatches<'a>,
+    environment: &'a Environment,
+) -> Result<DiffRequest<'a>, ParseStop>
+    ensures { IfOk result (IsDiffRequest environment.now (line_of matches.now)) }
+{
+    let (left, right) = both_options(alloc, matches, environment)?;
+    Ok(DiffRequest {
+        from: side_request(alloc, matches, environment, left)?,
+        to: side_request(alloc, matches, environment, right)?,
+        compared: compared(alloc, matches)?,
+        with_run: compares_run(matches),
+        with_origins: is_on(matches, "origins"),
+        lists_all: is_on(matches, "all"),
+        format: diff_format(matches, environment),
+        paper: paper(matches, environment),
+        shows_progress: environment.is_error_terminal && !environment.is_terminal,
+    })
 }
 
 /// The request of the command `diff`.
@@ -222,25 +185,40 @@ fn diff_request<'a>(
     alloc: Global,
     matches: &ArgMatches<'a>,
     environment: &'a Environment,
-) -> Result<DiffRequest<'a>, ParseStop> {
+) -> Result<DiffRequest<'a>, ParseStop>
+    ensures ok { IfOk result (λ request. (has_right_side (line_of matches.now) ≡ true)
+        × IsDiffRequest environment.now (line_of matches.now) request) }
+    ensures err { has_right_side (line_of matches.now) ≡ false → IfErr result LacksRightSide }
+{
     if !has_right_side(matches) {
-        let message = "`diff` needs an option of the right side, such as `--to-config-file`";
-        return Err(usage(alloc, message, None)?);
+        return Err(no_right_side(alloc)?);
     }
-    let left = left_options(alloc, matches, environment)?;
-    let mode = left.mode;
-    let right = right_options(alloc, matches, left_options(alloc, matches, environment)?)?;
-    Ok(DiffRequest {
-        from: side_request(alloc, matches, environment, left)?,
-        to: side_request(alloc, matches, environment, right)?,
-        compared: compared_settings(alloc, explained_rows(alloc, matches, mode)?)?,
-        with_run: compares_run(matches),
-        with_origins: matches.get_flag("origins"),
-        lists_all: matches.get_flag("all"),
-        format: diff_format(matches, environment),
-        paper: paper(matches, environment),
-        shows_progress: environment.is_error_terminal && !environment.is_terminal,
-    })
+    sides_request(alloc, matches, environment)
+}
+
+/// What a command line has behind the name of the command `diff`, if that is its command.
+fn diff_line<'m, 'a>(matches: &'m ArgMatches<'a>) -> Option<&'m ArgMatches<'a>>
+    ensures { MatchOption result (IsNoDiff (subcommand_rows_of matches.now))
+        (λ found. subcommand_rows_of matches.now ≡ Some (codes "diff", line_of found.now)) }
+{
+    match matches.subcommand() {
+        Some((name, found)) => { if name == "diff" { Some(found) } else { None } }
+        None => None,
+    }
+}
+
+/// The command of a command line that clap accepts.
+fn any_command_of<'a>(
+    alloc: Global,
+    matches: &ArgMatches<'a>,
+    environment: &'a Environment,
+) -> Result<AnyCommand<'a>, ParseStop>
+    ensures { IfOk result (IsAnyCommandOf environment.now (subcommand_rows_of matches.now)) }
+{
+    match diff_line(matches) {
+        Some(line) => Ok(AnyCommand::Diff(diff_request(alloc, line, environment)?)),
+        None => Ok(AnyCommand::Other(command_of(alloc, matches, environment)?)),
+    }
 }
 
 /// Reads the command line, and the environment for options that it lacks.
@@ -248,16 +226,14 @@ pub fn parse_all<'a>(
     alloc: Global,
     words: &'a [String],
     environment: &'a Environment,
-) -> Result<AnyCommand<'a>, ParseStop> {
-    let program = program(alloc)?.subcommand(diff_command(alloc)?)?;
-    let matches = match program.try_get_matches_from(words) {
-        Ok(matches) => matches,
-        Err(error) => return Err(stop_of(alloc, &error)?),
-    };
-    match matches.subcommand() {
-        Some(("diff", matches)) => {
-            Ok(AnyCommand::Diff(diff_request(alloc, matches, environment)?))
-        }
-        _ => Ok(AnyCommand::Other(command_of(alloc, &matches, environment)?)),
+) -> Result<AnyCommand<'a>, ParseStop>
+    ensures { IfOk result (λ command. (choices : AllChoices) × AreAllChoices choices
+        × IsAnyCommandOf environment.now
+        (subcommand_of (whole_app choices) (map string_bytes words.now)) command) }
+{
+    let whole = program(alloc)?.subcommand(diff_command(alloc)?)?;
+    match whole.try_get_matches_from(words) {
+        Ok(matches) => any_command_of(alloc, &matches, environment),
+        Err(error) => Err(stop_of(alloc, &error)?),
     }
 }

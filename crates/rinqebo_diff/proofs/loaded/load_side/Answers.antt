@@ -1,5 +1,26 @@
+use Rattle.std.proofs.Common.{◌≡◌, ◌∙◌, ◌++◌, List, [], ap, subst}
+use Rattle.nextest_sources.specs.Warnings.{Warning}
+use Rattle.rinqebo_request.specs.declared.files.layers.Layer.{Layer}
+use Rattle.rinqebo_load.specs.Warned.{warnings_met}
+use Rattle.rinqebo_load.specs.declared.session.Session.{Session}
+use Rattle.rinqebo_findings.specs.Shown.{AreReported}
+use Rattle.rinqebo_findings.specs.Warnings.{ReportWarnings}
+use Rattle.rinqebo_report.specs.declared.finding.Finding.{Finding}
+use Rattle.rinqebo_report.specs.declared.report.Report.{Report}
+use Rattle.rinqebo_diff.specs.Loaded.{ShowsWarningsAlone}
 use Rattle.rinqebo_diff.proofs.Failing.{begins_not, session_fails, side_wants}
 use Rattle.rinqebo_diff.proofs.loaded.load_side.Goals as goal
+
+-- a report shows the findings for the warnings that a load adds to none
+warned_alone : (session : Session) (layers : List Layer) (old new : List Warning) (found : List Finding)
+    (report : Report) → layers ≡ session.layers.items → old ≡ [] → new ≡ old ++ warnings_met session
+    → ReportWarnings layers new found → AreReported found report.findings.items → ShowsWarningsAlone session report
+warned_alone session layers old new found report same none added reports shows = record {
+  found = found;
+  reports = subst (λ ws. ReportWarnings session.layers.items ws found)
+      (added ∙ ap (λ ws. ws ++ warnings_met session) none) (subst (λ ls. ReportWarnings ls new found) same reports);
+  shows = shows;
+}
 
 pub returns-clause-ok : goal.returns-clause-ok
 returns-clause-ok c = record {
@@ -9,6 +30,9 @@ returns-clause-ok c = record {
   known = c.in_ok-config.ensures.known;
   looked_up = c.in_ok-config.ensures.looked_up;
   about = c.in_ok-report.ensures.about;
+  warned = warned_alone c.in_ok-session.session _ _ _ c.in_ok-findings.findings.items c.in_ok-report.report
+      c.deref.ensures.value c.new-warnings.ensures c.in_ok-config.ensures.warnings c.in_ok-findings.ensures
+      c.in_ok-report.ensures.findings;
 }
 
 pub returns-in_err-session-clause-err : goal.returns-in_err-session-clause-err

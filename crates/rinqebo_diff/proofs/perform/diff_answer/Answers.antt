@@ -1,3 +1,4 @@
+use Rattle.std.proofs.Common.{refl}
 use Rattle.rinqebo_diff.proofs.Failing.{diff_wants, left_fails, right_fails}
 use Rattle.rinqebo_diff.proofs.Evaluating.{differs_as_loaded}
 use Rattle.rinqebo_diff.proofs.perform.diff_answer.Goals as goal
@@ -26,3 +27,10 @@ returns-in_err-right-clause-err g c =
 pub returns-in_err-diff-clause-err : goal.returns-in_err-diff-clause-err
 returns-in_err-diff-clause-err g c =
     diff_wants c.args.request.now c.args.from.now c.args.to.now _ c.from_residual-in_err-diff.ensures.1
+
+pub returns-clause-report : goal.returns-clause-report
+returns-clause-report g c = record {
+  loaded = c.in_ok-right.right;
+  is_loaded = c.in_ok-right.ensures.ok;
+  is_report = refl;
+}

@@ -1,4 +1,6 @@
 use Rattle.rinqebo_diff.proofs.Failing.{answer_cause, answer_low, answer_quiet, failure_cause, failure_high, failure_low, failure_quiet, has_result, result_or_refusal}
+use Rattle.rinqebo_diff.proofs.Errors.{of_answer, of_reason}
+use Rattle.rinqebo_diff.proofs.Received.{answer_begun, failure_begun}
 use Rattle.std.proofs.Common.{arith}
 use Rattle.rinqebo_diff.proofs.perform.perform_diff.Goals as goal
 
@@ -45,3 +47,23 @@ returns-in-Err-clause-refusal g c json ends = record {
   fails = c.in-Err.ensures.err;
   document = c.refuse_diff.ensures.document json ends;
 }
+
+pub returns-in-Ok-clause-begun : goal.returns-in-Ok-clause-begun
+returns-in-Ok-clause-begun g c =
+    answer_begun c.args.request.now c.args.from.now c.args.to.now _ _ c.in-Ok.answer.diff c.in-Ok.ensures.ok
+    c.print_answer.ensures.begun
+
+pub returns-in-Err-clause-begun : goal.returns-in-Err-clause-begun
+returns-in-Err-clause-begun g c =
+    failure_begun c.args.request.now c.args.from.now c.args.to.now _ _ c.in-Err.failure c.in-Err.ensures.err
+    c.refuse_diff.ensures.begun
+
+pub returns-in-Ok-clause-errors : goal.returns-in-Ok-clause-errors
+returns-in-Ok-clause-errors g c quiet =
+    of_answer c.args.request.now c.args.from.now c.args.to.now c.in-Ok.answer.diff c.in-Ok.answer.report _ _ _ _
+    (c.in-Ok.ensures.errors quiet) c.in-Ok.ensures.report c.print_answer.ensures.errors
+
+pub returns-in-Err-clause-errors : goal.returns-in-Err-clause-errors
+returns-in-Err-clause-errors g c quiet =
+    of_reason c.args.request.now c.args.from.now c.args.to.now c.in-Err.failure _ _ _ _ (c.in-Err.ensures.errors quiet)
+    c.in-Err.ensures.err c.refuse_diff.ensures.errors
