@@ -9,7 +9,7 @@ use Rattle.nextest_tables.specs.Written.{Name}
 use Rattle.platform_language.specs.Expressions.{Spec}
 use Rattle.platform_language.specs.declared.platforms.Platform.{Platform}
 use Rattle.rinqebo_request.specs.declared.files.gathering.Gathered.{Gathered}
-use Rattle.rinqebo_laws.proofs.Files.{one_layer}
+use Rattle.rinqebo_laws.proofs.Files.{are_files}
 use Rattle.rinqebo_laws.proofs.Listed.{from_kept}
 use Rattle.rinqebo_laws.proofs.Profiles.{BothReport, both_report, reports_agree, reports_same}
 use Rattle.rinqebo_laws.specs.Rows.{AgreeOnTest, AreOneTest, ListsTest, SaySameOfTest}
@@ -103,7 +103,7 @@ list_agrees request gathered session profile test requested asked listed explain
       test = both.listed;
       there = both.there;
       holds = reports_agree (meets_of session) (matches_of session) session.engines.platforms (root_of session)
-          (config_meant session) session.layers.items profile (one_layer request gathered session is explains.acceptance)
+          (config_meant session) session.layers.items profile (are_files request gathered session is explains.acceptance)
           explains.scripts lists.scripts both.chain both.names (found_view test) test.mode asked requested rows both.listed
           both.is both.are;
     })
@@ -121,7 +121,7 @@ list_same request gathered session profile test asked listed explained n is list
       test = both.listed;
       there = both.there;
       holds = reports_same (meets_of session) (matches_of session) session.engines.platforms (root_of session)
-          (config_meant session) session.layers.items profile (one_layer request gathered session is explains.acceptance)
+          (config_meant session) session.layers.items profile (are_files request gathered session is explains.acceptance)
           explains.scripts lists.scripts both.chain both.names (found_view test) test.mode asked rows both.listed
           both.is both.are;
     })

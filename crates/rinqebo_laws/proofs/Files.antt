@@ -1,17 +1,22 @@
--- The layers of a session are different files.
-use Rattle.std.proofs.Common.{◌≡◌, ◌≢◌, ◌⊎◌, inl, inr, ◌∙◌, ℕ, zero, suc, List, [], ◌∷◌, ◌++◌, Option, None, Some, map, option_map, option_and_then, reverse, slice_get, refl, sym, ap, subst, append_assoc}
+-- The layers of a session are different files, with texts of characters.
+use Rattle.std.proofs.Common.{◌≡◌, ◌≢◌, ◌⊎◌, inl, inr, ◌∙◌, ℕ, zero, suc, List, [], ◌∷◌, ◌++◌, Option, None, Some, IfSome, map, option_map, option_and_then, reverse, slice_get, refl, sym, ap, subst, append_assoc}
 use Rattle.std.proofs.lemmas.List.{reverse-append}
+use Rattle.std.proofs.lemmas.Str.{IsUtf8-string_bytes}
 use Rattle.std.specs.List.{AllByRecursion}
 use Rattle.std.specs.Option.{option_map_or}
+use Rattle.std.specs.Str.{IsUtf8}
 use Rattle.nextest_sources.specs.InputFaults.{HaveOneFileEach}
 use Rattle.nextest_sources.specs.Sources.{Source, SourceKind, ToolFile, explicit_file, discovered_file, organisation_file, tool_file, tool_file_view}
 use Rattle.nextest_sources.specs.declared.sources.FileInput.{FileInput}
+use Rattle.nextest_sources.specs.declared.sources.ReadOutcome.{ReadOutcome}
+use Rattle.nextest_sources.specs.declared.sources.ReadOutcome.TheVariants as outcomes
 use Rattle.nextest_sources.specs.declared.sources.ToolConfigFile.{ToolConfigFile}
 use Rattle.nextest_elements.specs.IdentifierText.{tool_name_text}
-use Rattle.rinqebo_request.specs.Files.Layers.{LayerRead, file_layer, layer_view, layers_read, organisation_layers, repository_layer, tool_layer}
+use Rattle.rinqebo_request.specs.Files.Layers.{LayerRead, file_layer, layer_view, layers_read, organisation_layers, repository_layer, text_read, tool_layer}
 use Rattle.rinqebo_request.specs.Files.Origins.{IsFileAt}
 use Rattle.rinqebo_request.specs.declared.files.gathering.Gathered.{Gathered}
 use Rattle.rinqebo_request.specs.declared.files.layers.Layer.{Layer}
+use Rattle.rinqebo_laws.proofs.Ranges.{AreFiles, HasCharacters}
 use Rattle.rinqebo_load.specs.Accepted.{AreAccepted}
 use Rattle.rinqebo_load.specs.SessionOf.{IsSessionOf}
 use Rattle.rinqebo_load.specs.Sessions.{files_view}
@@ -220,7 +225,7 @@ read_apart gathered one =
     )
 
 -- a file is one layer of a session
-pub one_layer : (request : Request) (gathered : Gathered) (session : Session) → IsSessionOf request gathered session
+one_layer : (request : Request) (gathered : Gathered) (session : Session) → IsSessionOf request gathered session
     → AreAccepted session → (file : Source) (n m : ℕ) → IsFileAt session.layers.items file n
     → IsFileAt session.layers.items file m → n ≡ m
 one_layer request gathered session is accepted file n m one other =
@@ -230,3 +235,53 @@ one_layer request gathered session is accepted file n m one other =
     subst AreApart (sym is.layers) (read_apart gathered (one_each gathered.tools.items tools)) in
     one_by (map layer_view session.layers.items) file.kind n m apart (file_there session.layers.items n file one)
     (file_there session.layers.items m file other)
+
+-- ---- texts
+
+-- the text of a layer as it was read, if it has one, is one of characters
+abbrev ReadsCharacters : LayerRead → Type 0
+ReadsCharacters layer = IfSome layer.text IsUtf8
+
+text_characters : (outcome : ReadOutcome) → IfSome (text_read outcome) IsUtf8
+text_characters (outcomes.Text text) = IsUtf8-string_bytes text
+text_characters outcomes.NotFound = tt
+text_characters outcomes.NotADirectory = tt
+text_characters (outcomes.Failed message) = tt
+
+tools_characters : (tools : List ToolConfigFile) → AllByRecursion ReadsCharacters (map tool_layer tools)
+tools_characters [] = tt
+tools_characters (tool ∷ tools) = (text_characters tool.config_file.outcome, tools_characters tools)
+
+organisation_characters : (o : Option FileInput) → AllByRecursion ReadsCharacters (organisation_layers o)
+organisation_characters None = tt
+organisation_characters (Some file) = (text_characters file.outcome, tt)
+
+repository_characters : (o : Option FileInput) (shared : FileInput)
+    → ReadsCharacters (option_map_or (file_layer (Some explicit_file)) o (file_layer (Some discovered_file) shared))
+repository_characters None shared = text_characters shared.outcome
+repository_characters (Some file) shared = text_characters file.outcome
+
+read_characters : (gathered : Gathered) → AllByRecursion ReadsCharacters (layers_read gathered)
+read_characters gathered =
+    let tools = map tool_layer (reverse gathered.tools.items) in
+    let organisation = organisation_layers gathered.organisation_file in (
+      tt,
+      all_joined ReadsCharacters (tools ++ organisation) (repository_layer gathered ∷ [])
+          (all_joined ReadsCharacters tools organisation (tools_characters (reverse gathered.tools.items))
+          (organisation_characters gathered.organisation_file))
+          (repository_characters gathered.config_file gathered.paths.shared, tt),
+    )
+
+have_characters : (layers : List Layer) → AllByRecursion ReadsCharacters (map layer_view layers)
+    → AllByRecursion HasCharacters layers
+have_characters [] all = tt
+have_characters (layer ∷ layers) all = (all.0, have_characters layers all.1)
+
+-- the layers of a session are files
+pub are_files : (request : Request) (gathered : Gathered) (session : Session) → IsSessionOf request gathered session
+    → AreAccepted session → AreFiles session.layers.items
+are_files request gathered session is accepted = record {
+  one = λ file n m one other. one_layer request gathered session is accepted file n m one other;
+  characters = have_characters session.layers.items
+      (subst (AllByRecursion ReadsCharacters) (sym is.layers) (read_characters gathered));
+}

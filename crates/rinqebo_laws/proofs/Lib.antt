@@ -6,6 +6,7 @@ pub mod Lists
 pub mod Files
 pub mod Places
 pub mod Origins
+pub mod Ranges
 pub mod Texts
 pub mod Keys
 pub mod Deciding

@@ -27,7 +27,7 @@ use Rattle.rinqebo_origins.specs.TestOrigins.{AreOriginsBy, wrapping_places}
 use Rattle.rinqebo_origins.specs.Trees.{trees_of}
 
 -- a path in a profile has a step
-has_steps : (path : List Step) (profile : Name) (part : Part) (rest : List PathStep)
+pub has_steps : (path : List Step) (profile : Name) (part : Part) (rest : List PathStep)
     → map step_view path ≡ profile_steps profile part ++ rest → path ≡ [] → ⊥
 has_steps path profile part rest is none =
     let empty : [] ≡ key (codes "profile") ∷ (key profile ∷ (part_steps part ++ rest)) =

@@ -49,7 +49,7 @@ none_is_document : (text : List ℕ) (n : ℕ) → tree_of (first_lines n text) 
 none_is_document text n none is = let no : is_some (tree_of (first_lines n text)) ≡ false = ap is_some none in absurd cc
 
 -- and have one place
-one_place : (ps qs : List Step) (text : List ℕ) (a b : Lines) → map step_view ps ≡ map step_view qs
+pub one_place : (ps qs : List Step) (text : List ℕ) (a b : Lines) → map step_view ps ≡ map step_view qs
     → IsPlaceOfPath ps text a → IsPlaceOfPath qs text b → (a.first ≡ b.first) × (a.last ≡ b.last)
 one_place ps qs text a b same one other =
     let last : a.last ≡ b.last =
@@ -65,7 +65,7 @@ one_place ps qs text a b same one other =
     (one.first ∙ ap suc shorter ∙ sym other.first, last)
 
 -- a path with a step has no place where it has one
-no_place : (ps qs : List Step) (text : List ℕ) (b : Lines) → map step_view ps ≡ map step_view qs → (ps ≡ [] → ⊥)
+pub no_place : (ps qs : List Step) (text : List ℕ) (b : Lines) → map step_view ps ≡ map step_view qs → (ps ≡ [] → ⊥)
     → HasNoPlace ps text → IsPlaceOfPath qs text b → ⊥
 no_place ps qs text b same some (inl empty) place = some empty
 no_place ps qs text b same some (inr never) place =

@@ -9,14 +9,13 @@ use Rattle.nextest_load.specs.Config.{ConfigModel, ScriptTables}
 use Rattle.nextest_settings.specs.Profile.{EarlyModel, EvaluatableModel}
 use Rattle.nextest_settings.specs.Queries.{fallback_origin, query_in, setting_origin, setting_value}
 use Rattle.nextest_elements.specs.declared.setting.Setting.{Setting}
-use Rattle.nextest_sources.specs.Sources.{Source}
 use Rattle.nextest_tables.specs.Written.{Name}
-use Rattle.rinqebo_request.specs.Files.Origins.{IsFileAt}
 use Rattle.rinqebo_request.specs.declared.files.layers.Layer.{Layer}
 use Rattle.rinqebo_laws.proofs.Keys.{one_key}
 use Rattle.rinqebo_laws.proofs.Listed.{listed_if_passes, passes_if_listed, some_or_none}
 use Rattle.rinqebo_laws.proofs.Lists.{place_of}
 use Rattle.rinqebo_laws.proofs.Profiles.{Reports, early, on}
+use Rattle.rinqebo_laws.proofs.Ranges.{AreFiles}
 use Rattle.rinqebo_laws.proofs.Rows.{row_of}
 use Rattle.rinqebo_laws.proofs.Runs.{by_chain, by_filter, chain_origins, no_fallback_there}
 use Rattle.rinqebo_laws.proofs.Why.{all_before, before_or_last, by_fallback, by_rule, fallback_origins, never_fallback, no_rule_of, rule_of}
@@ -89,7 +88,7 @@ module _ {M K P : Type 0} (meets : K → P → Option Bool) (matches : M → Tes
       all_before (λ (rule : Rule). rule.verdict ≡ verdicts.Decides → ⊥) front (fallback ∷ [])
       (subst (AllByRecursion (λ (rule : Rule). rule.verdict ≡ verdicts.Decides → ⊥)) are none)
 
-  module _ (one : (file : Source) (n m : ℕ) → IsFileAt layers file n → IsFileAt layers file m → n ≡ m)
+  module _ (files : AreFiles layers)
       (asked : RequestedSettings) where
     pub row_agrees : (s : Setting) (row : SettingRow) → Reasons s → Told asked → (key : List ℕ)
         → key ≡ key_text s test.mode → Contains rows.settings.items row → string_bytes row.key ≡ key
@@ -100,7 +99,7 @@ module _ {M K P : Type 0} (meets : K → P → Option Bool) (matches : M → Tes
         let mode = test.mode in
         let query = query_in matches q (found_view test).test in
         let origin = setting_origin query mode q in
-        let is = row_of layers one names (wrapping_id query q) (setting_value query mode q) origin mode s key
+        let is = row_of layers files names (wrapping_id query q) (setting_value query mode q) origin mode s key
         (reported_settings asked origin) rows.settings.items row reported.settings_reported has same keyed in
         let front = reasons.before in
         let fallback = reasons.fallback in
@@ -110,7 +109,7 @@ module _ {M K P : Type 0} (meets : K → P → Option Bool) (matches : M → Tes
               (let place = place_of rules rule in_rules in
               elim (before_or_last front fallback rule place.0
               (subst (λ rs. slice_get rs place.0 ≡ Some rule) reasons.are place.1)) [
-                | inl there ↦ by_rule layers one names meets platforms query mode p.overrides p.script_rules p.facts.fields s
+                | inl there ↦ by_rule layers files names meets platforms query mode p.overrides p.script_rules p.facts.fields s
                     front all row is place.0 rule there decides
                     (All-contains (IsRuleAsWritten layers (key_steps (key_table s mode) (key_name s))) rules rule
                     reasons.as_written in_rules)
@@ -123,7 +122,7 @@ module _ {M K P : Type 0} (meets : K → P → Option Bool) (matches : M → Tes
                 | inl there ↦ absurd (never_fallback layers meets platforms query
                     (rules_for s mode p.overrides p.script_rules) front all place.0 rule there falls)
                 | inr last ↦ subst (λ (r : Rule). IsByFallback s r row) last
-                    (by_fallback layers one names meets platforms query mode p.overrides p.script_rules p.facts.fields s front
+                    (by_fallback layers files names meets platforms query mode p.overrides p.script_rules p.facts.fields s front
                     all row is fallback reasons.fallback_value reasons.fallback_origins
                     (subst (λ (r : Rule). IsRuleAsWritten layers (key_steps (key_table s mode) (key_name s)) r)
                     (sym last)
@@ -131,7 +130,7 @@ module _ {M K P : Type 0} (meets : K → P → Option Bool) (matches : M → Tes
                     reasons.as_written in_rules))
                     (none_before front fallback reasons.are none))
               ]);
-          origins = λ none. fallback_origins layers one names meets platforms query mode p.overrides p.script_rules
+          origins = λ none. fallback_origins layers files names meets platforms query mode p.overrides p.script_rules
               p.facts.fields s front all row is (none_before front fallback reasons.are none);
         }
 
@@ -150,7 +149,7 @@ module _ {M K P : Type 0} (meets : K → P → Option Bool) (matches : M → Tes
               (let place = place_of rules rule in_rules in
               elim (before_or_last front fallback rule place.0
               (subst (λ rs. slice_get rs place.0 ≡ Some rule) reasons.are place.1)) [
-                | inl there ↦ by_filter layers meets platforms p.overrides selected front all one names test.ignored rows.runs
+                | inl there ↦ by_filter layers meets platforms p.overrides selected front all files names test.ignored rows.runs
                     is place.0 rule there decides
                 | inr last ↦ absurd (not_both fallback rule last reasons.fallback_reported decides)
               ]);
@@ -161,11 +160,11 @@ module _ {M K P : Type 0} (meets : K → P → Option Bool) (matches : M → Tes
                 | inl there ↦ absurd (no_fallback_there layers meets platforms p.overrides selected front all place.0 rule
                     there falls)
                 | inr last ↦ subst (λ (r : Rule). IsByChain test.ignored r rows.runs) last
-                    (by_chain layers meets platforms p.overrides selected front all one names test.ignored rows.runs is
+                    (by_chain layers meets platforms p.overrides selected front all files names test.ignored rows.runs is
                     fallback reasons.fallback_value reasons.fallback_origins
                     (none_before front fallback reasons.are none))
               ]);
-          origins = λ none. chain_origins layers meets platforms p.overrides selected front all one names test.ignored
+          origins = λ none. chain_origins layers meets platforms p.overrides selected front all files names test.ignored
               rows.runs is (none_before front fallback reasons.are none);
         }
 

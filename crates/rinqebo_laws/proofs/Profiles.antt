@@ -11,11 +11,10 @@ use Rattle.nextest_load.specs.Config.{ConfigModel, ScriptTables, config_parents}
 use Rattle.nextest_settings.specs.Profiles.Profiles.{IsChainAndDefault}
 use Rattle.nextest_settings.specs.Profile.{Configured, EarlyModel, EvaluatableModel, profile_of, profile_on}
 use Rattle.nextest_settings.specs.Queries.{query_in, setting_origin, setting_value}
-use Rattle.nextest_sources.specs.Sources.{Source}
 use Rattle.nextest_tables.specs.Written.{Name}
-use Rattle.rinqebo_request.specs.Files.Origins.{IsFileAt}
 use Rattle.rinqebo_request.specs.declared.files.layers.Layer.{Layer}
 use Rattle.rinqebo_laws.proofs.Lists.{right_of}
+use Rattle.rinqebo_laws.proofs.Ranges.{AreFiles}
 use Rattle.rinqebo_laws.proofs.Rows.{all_say_same, keyed_say_same, runs_say_same}
 use Rattle.rinqebo_laws.specs.Rows.{AgreeOnTest, AreOneTest, SaySameOfTest}
 use Rattle.rinqebo_load.specs.FoundTests.{found_view}
@@ -87,7 +86,7 @@ module _ {M K P : Type 0} (meets : K → P → Option Bool) (matches : M → Tes
       (subst (λ t. Reports scripts chain names t other.mode asked rows) (sym same.test) reports)
 
   -- two reports of a test agree
-  module _ (one : (file : Source) (n m : ℕ) → IsFileAt layers file n → IsFileAt layers file m → n ≡ m)
+  module _ (files : AreFiles layers)
       (scripts others : ScriptTables) (chain names : List Name) (test : ListTest) (mode : NextestRunMode) where
     pub reports_agree : (asked requested : RequestedSettings) (x y : TestRows)
         → Reports scripts chain names test mode asked x → Reports others chain names test mode requested y
@@ -101,11 +100,11 @@ module _ {M K P : Type 0} (meets : K → P → Option Bool) (matches : M → Tes
           binary = is.binary ∙ sym are.binary;
           name = is.name ∙ sym are.name;
           platform = is.platform ∙ sym are.platform;
-          runs = runs_say_same layers one names (filtering_place p) (runs_if (is_selected query p) test.ignored) x.runs
+          runs = runs_say_same layers files names (filtering_place p) (runs_if (is_selected query p) test.ignored) x.runs
               y.runs is.run_reported are.run_reported;
           ignored = is.ignored_reported ∙ sym are.ignored_reported;
           settings = λ left right has there same.
-              keyed_say_same layers one names (wrapping_id query p) value origin mode (reported_settings asked origin)
+              keyed_say_same layers files names (wrapping_id query p) value origin mode (reported_settings asked origin)
               (reported_settings requested origin) x.settings.items y.settings.items is.settings_reported
               are.settings_reported left right has there same;
         }
@@ -121,7 +120,7 @@ module _ {M K P : Type 0} (meets : K → P → Option Bool) (matches : M → Tes
         record {
           agree = reports_agree asked asked x y is are;
           runs_shown = is.run_shown ∙ sym are.run_shown;
-          settings = all_say_same layers one names (wrapping_id query p) value origin mode (reported_settings asked origin)
+          settings = all_say_same layers files names (wrapping_id query p) value origin mode (reported_settings asked origin)
               x.settings.items y.settings.items is.settings_reported are.settings_reported;
         }
 

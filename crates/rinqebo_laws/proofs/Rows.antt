@@ -1,21 +1,19 @@
 -- Rows of one setting say the same.
-use Rattle.std.proofs.Common.{◌≡◌, ◌∙◌, ℕ, Bool, List, Option, None, Contains, IfSome, codes, map, option_map, string_bytes, refl, sym, subst}
+use Rattle.std.proofs.Common.{◌≡◌, ◌∙◌, ℕ, Bool, List, Option, None, Contains, IfSome, codes, option_map, string_bytes, refl, sym, subst}
 use Rattle.std.specs.List.{AllZip}
 use Rattle.nextest_elements.specs.declared.run_mode.NextestRunMode.{NextestRunMode}
 use Rattle.nextest_rules.specs.Rules.{RuleId}
 use Rattle.nextest_settings.specs.Queries.{Origin as Decider}
 use Rattle.nextest_settings.specs.Settings.{ValueOf}
 use Rattle.nextest_elements.specs.declared.setting.Setting.{Setting}
-use Rattle.nextest_sources.specs.Sources.{Source}
 use Rattle.nextest_tables.specs.Written.{Name}
-use Rattle.rinqebo_request.specs.Files.Origins.{IsFileAt}
 use Rattle.rinqebo_request.specs.declared.files.layers.Layer.{Layer}
 use Rattle.rinqebo_laws.proofs.Keys.{one_key}
 use Rattle.rinqebo_laws.proofs.Lists.{beside_same, left_of, place_of}
-use Rattle.rinqebo_laws.proofs.Origins.{decided_shown, placed_shown}
+use Rattle.rinqebo_laws.proofs.Ranges.{AreFiles, decided_alike, placed_alike}
 use Rattle.rinqebo_laws.proofs.Texts.{boolean_texts, same_alone, texts_alike}
 use Rattle.rinqebo_laws.specs.Rows.{SaySame}
-use Rattle.rinqebo_laws.specs.Shown.{origin_shown}
+use Rattle.rinqebo_laws.specs.Shown.{AreShownAlike}
 use Rattle.rinqebo_report.specs.declared.report.SettingRow.{SettingRow}
 use Rattle.rinqebo_keys.specs.Keys.{key_name, key_table, key_text}
 use Rattle.rinqebo_origins.specs.AsWritten.{IsValueAsWritten, node_alone}
@@ -27,7 +25,7 @@ use Rattle.rinqebo_origins.specs.Settings.{IsSettingReported}
 use Rattle.rinqebo_origins.specs.TestOrigins.{Basis}
 
 module _ (layers : List Layer)
-    (one_layer : (file : Source) (n m : ℕ) → IsFileAt layers file n → IsFileAt layers file m → n ≡ m)
+    (files : AreFiles layers)
     (chain : List Name) where
   abbrev basis : Basis
   basis = record { layers = layers; chain = chain }
@@ -41,7 +39,7 @@ module _ (layers : List Layer)
       value = is.value_reported ∙ sym are.value_reported;
       texts = boolean_texts one.value runs is.value_reported ∙ sym (boolean_texts other.value runs are.value_reported);
     };
-    origins = placed_shown layers one_layer chain place None (codes "default-filter") one.origins.items
+    origins = placed_alike layers files chain place None (codes "default-filter") one.origins.items
         other.origins.items is.origins_reported are.origins_reported;
   }
 
@@ -54,14 +52,14 @@ module _ (layers : List Layer)
     rows_say_same : (s : Setting) (one other : SettingRow) → Is s one → Is s other → SaySame one other
     rows_say_same s one other is are =
         let steps = key_steps (key_table s mode) (key_name s) in
-        let origins : map origin_shown one.origins.items ≡ map origin_shown other.origins.items =
-        decided_shown layers one_layer chain wrapping (key_table s mode) (key_name s) (origin s) one.origins.items
+        let origins : AreShownAlike one.origins.items other.origins.items =
+        decided_alike layers files chain wrapping (key_table s mode) (key_name s) (origin s) one.origins.items
         other.origins.items is.origins_reported are.origins_reported in
         let values : option_map value_view one.value ≡ option_map value_view other.value =
         is.value_reported ∙ sym are.value_reported in
         let written : IfSome other.value (IsValueAsWritten (node_alone layers steps one.origins.items)) =
         subst (λ node. IfSome other.value (IsValueAsWritten node))
-        (sym (same_alone layers steps one.origins.items other.origins.items origins)) are.value_as_written in
+        (sym (same_alone layers steps one.origins.items other.origins.items origins.shown)) are.value_as_written in
         record {
           key = is.key ∙ sym are.key;
           value = record {

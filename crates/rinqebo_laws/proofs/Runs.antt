@@ -6,12 +6,11 @@ use Rattle.nextest_engines.specs.declared.queries.BuildPlatforms.{BuildPlatforms
 use Rattle.nextest_rules.specs.Rules.{Compiled, OverrideUse}
 use Rattle.nextest_settings.specs.Chains.{first_of}
 use Rattle.nextest_settings.specs.Platforms.{platforms_hold, rule_on}
-use Rattle.nextest_sources.specs.Sources.{Source}
 use Rattle.nextest_tables.specs.Written.{Name}
-use Rattle.rinqebo_request.specs.Files.Origins.{IsFileAt}
 use Rattle.rinqebo_request.specs.declared.files.layers.Layer.{Layer}
 use Rattle.rinqebo_laws.proofs.Lists.{left_of, pair_at}
-use Rattle.rinqebo_laws.proofs.Origins.{profile_shown, rule_part}
+use Rattle.rinqebo_laws.proofs.Origins.{rule_part}
+use Rattle.rinqebo_laws.proofs.Ranges.{AreFiles, profile_alike}
 use Rattle.rinqebo_laws.proofs.Why.{alone, before_or_last, decides_told, not_fallback}
 use Rattle.rinqebo_laws.specs.Reasons.{DecidesAt, HaveOneResult, NoneDecides, origins_of}
 use Rattle.rinqebo_laws.specs.Runs.{IsByChain, IsByFilter}
@@ -185,7 +184,7 @@ module _ {M K P : Type 0} (layers : List Layer) (meets : K → P → Option Bool
       ∙ ap (option_map (λ (rule : FilterRule). rule.place))
       (none_found meets platforms (filter has_default overrides) (no_decision none))
 
-  module _ (one_layer : (file : Source) (n m : ℕ) → IsFileAt layers file n → IsFileAt layers file m → n ≡ m)
+  module _ (files : AreFiles layers)
       (chain : List Name) (is_ignored : Bool) (row : SettingRow)
       (is : IsRunsRow (record { layers = layers; chain = chain }) counted (runs_if matches is_ignored) row) where
     pub by_filter : (n : ℕ) (rule : Rule) → slice_get front n ≡ Some rule → rule.verdict ≡ told.Decides
@@ -215,7 +214,7 @@ module _ {M K P : Type 0} (layers : List Layer) (meets : K → P → Option Bool
             place = it.written.place;
             rule_is = it.is.origin;
             origin_is = single.2;
-            same_part = rule_part layers one_layer it.written.place steps [] single.0 rule.origin single.2 it.is.origin;
+            same_part = rule_part layers files.one it.written.place steps [] single.0 rule.origin single.2 it.is.origin;
           };
         }
 
@@ -235,7 +234,7 @@ module _ {M K P : Type 0} (layers : List Layer) (meets : K → P → Option Bool
         rule_says = value ∙ ap (λ b. default_value (not b) matches) (no_decision none);
         row_says = is.value_reported;
       };
-      origins = profile_shown layers chain None (codes "default-filter") (origins_of fallback) row.origins.items origins
+      origins = profile_alike layers files chain None (codes "default-filter") (origins_of fallback) row.origins.items origins
           (chain_origins none);
     }
 

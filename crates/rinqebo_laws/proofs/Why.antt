@@ -10,14 +10,13 @@ use Rattle.nextest_settings.specs.Platforms.{rule_on}
 use Rattle.nextest_settings.specs.Queries.{fallback_origin}
 use Rattle.nextest_settings.specs.Settings.{fallback_of}
 use Rattle.nextest_elements.specs.declared.setting.Setting.{Setting}
-use Rattle.nextest_sources.specs.Sources.{Source}
 use Rattle.nextest_tables.specs.Written.{Name, WrittenFields}
-use Rattle.rinqebo_request.specs.Files.Origins.{IsFileAt}
 use Rattle.rinqebo_request.specs.declared.files.layers.Layer.{Layer}
 use Rattle.rinqebo_laws.proofs.Deciding.{about, any_wrapping, given, has_fallback, has_rule, mapped_back, not_ruled, one_decides, rule_with, some_mapped, source, wrapping}
 use Rattle.rinqebo_laws.proofs.Fallbacks.{fallback_agrees, fallback_node}
 use Rattle.rinqebo_laws.proofs.Lists.{all_contains, contains_at, left_of, pair_at, pair_from, right_of}
 use Rattle.rinqebo_laws.proofs.Origins.{rule_part}
+use Rattle.rinqebo_laws.proofs.Ranges.{AreFiles}
 use Rattle.rinqebo_laws.proofs.Texts.{same_node, texts_alike}
 use Rattle.rinqebo_laws.specs.Reasons.{DecidesAt, HasOriginsOf, HaveOneResult, IsByFallback, IsByRule, NoneDecides, origins_of}
 use Rattle.rinqebo_report.specs.declared.report.Rule.{Rule}
@@ -185,7 +184,7 @@ module _ {M K P : Type 0} (layers : List Layer) (meets : K → P → Option Bool
 -- ---- the row of a setting
 
 module _ {M K P : Type 0} (layers : List Layer)
-    (one_layer : (file : Source) (n m : ℕ) → IsFileAt layers file n → IsFileAt layers file m → n ≡ m)
+    (files : AreFiles layers)
     (chain : List Name) (meets : K → P → Option Bool) (platforms : BuildPlatforms P) (query : QueryContext M)
     (mode : NextestRunMode) (overrides : List (Compiled M K (OverrideUse M))) (scripts : List (Compiled M K ScriptRuleUse))
     (fields : List WrittenFields) (s : Setting) (front : List Rule)
@@ -209,7 +208,7 @@ module _ {M K P : Type 0} (layers : List Layer)
       let found = alone (λ place. IsOriginOf layers place steps) it.written.writes.place row.origins.items
       (has.origins (record { layers = layers; chain = chain }) (key_table s mode) (key_name s) row.origins.items
       is.origins_reported) in
-      let part = rule_part layers one_layer it.written.writes.place steps [] found.0 rule.origin found.2 it.is.origin in
+      let part = rule_part layers files.one it.written.writes.place steps [] found.0 rule.origin found.2 it.is.origin in
       let values : option_map value_view rule.value ≡ option_map value_view row.value =
       it.is.value ∙ sym (is.value_reported ∙ has.value) in
       let of_rule : IfSome rule.value (IsValueAsWritten (origin_node layers steps rule.origin)) =
@@ -259,7 +258,7 @@ module _ {M K P : Type 0} (layers : List Layer)
       let values : option_map value_view fallback.value ≡ option_map value_view row.value =
       value ∙ sym (is.value_reported ∙ ap (option_map (reported_of s)) both.0) in
       let agree : HasOriginsOf s fallback row =
-      fallback_agrees layers chain s mode fallback row origins (fallback_origins none) in
+      fallback_agrees layers files chain s mode fallback row origins (fallback_origins none) in
       let of_row : IfSome row.value (IsValueAsWritten (node_alone layers steps (origins_of fallback))) =
       subst (λ node. IfSome row.value (IsValueAsWritten node)) (sym (fallback_node layers steps s fallback row agree))
       is.value_as_written in

@@ -8,7 +8,7 @@ use Rattle.nextest_settings.specs.Queries.{query_in}
 use Rattle.nextest_elements.specs.declared.setting.Setting.{Setting}
 use Rattle.nextest_tables.specs.Written.{Name}
 use Rattle.rinqebo_request.specs.declared.files.gathering.Gathered.{Gathered}
-use Rattle.rinqebo_laws.proofs.Files.{one_layer}
+use Rattle.rinqebo_laws.proofs.Files.{are_files}
 use Rattle.rinqebo_laws.specs.Reasons.{AgreesWithRules, HaveKeyIfDecided, HaveOneResult}
 use Rattle.rinqebo_laws.specs.Rows.{AreOneTest}
 use Rattle.rinqebo_laws.specs.Runs.{AgreesWithFilters}
@@ -122,7 +122,7 @@ why_agrees request gathered session profile test other s asked why explained is 
     reports.chain other asked told it.is_profile.is_chain reports.is_chain reports) in
     let agrees = row_agrees meets matches platforms (root_of session) (config_meant session) layers profile test
     reasons.scripts explains.scripts chain reports.chain rules told
-    (one_layer request gathered session is explains.acceptance) asked s row
+    (are_files request gathered session is explains.acceptance) asked s row
     (reasons_on session profile test s reasons.scripts reports.chain rules it reports.is_chain) rows key
     has.1 in_rows same in
     record {
@@ -188,7 +188,7 @@ why_runs_agrees request gathered session profile test other asked why explained 
     reports.chain other asked told it.is_profile.is_chain reports.is_chain reports) in
     let agrees = subst (λ b. RunsAgree layers reports.chain b rules told.runs) (sym has.2)
     (runs_agree meets matches platforms (root_of session) (config_meant session) layers profile test reasons.scripts
-    explains.scripts chain reports.chain rules told (one_layer request gathered session is explains.acceptance) asked
+    explains.scripts chain reports.chain rules told (are_files request gathered session is explains.acceptance) asked
     (runs_reasons_on session profile test reasons.scripts reports.chain rules it reports.is_chain) rows) in
     record {
       decided = agrees.decided;

@@ -1,5 +1,5 @@
 -- Rules of a setting that agree with the value that is reported of it.
-use Rattle.std.specs.Prelude.{◌≡◌, ◌≢◌, ◌↔◌, ℕ, List, [], ◌∷◌, ◌++◌, Contains, IsSome, None, Some, map, slice_get, string_bytes}
+use Rattle.std.specs.Prelude.{◌≡◌, ◌≢◌, ◌↔◌, ℕ, List, [], ◌∷◌, ◌++◌, Contains, IsSome, None, Some, slice_get, string_bytes}
 use Rattle.std.specs.List.{AllByRecursion}
 use Rattle.nextest_elements.specs.declared.run_mode.NextestRunMode.{NextestRunMode}
 use Rattle.nextest_inheritance.specs.Parents.{parents_in}
@@ -10,7 +10,7 @@ use Rattle.nextest_elements.specs.declared.setting.Setting.{Setting}
 use Rattle.nextest_elements.specs.declared.setting.Setting.TheVariants as at
 use Rattle.nextest_tables.specs.Written.{Name}
 use Rattle.rinqebo_request.specs.declared.files.layers.Layer.{Layer}
-use Rattle.rinqebo_laws.specs.Shown.{AreAlike, origin_shown, part_of}
+use Rattle.rinqebo_laws.specs.Shown.{AreAlike, AreShownAlike, part_of}
 use Rattle.rinqebo_load.specs.Meant.{config_meant}
 use Rattle.rinqebo_load.specs.declared.session.Session.{Session}
 use Rattle.rinqebo_report.specs.declared.origin.Origin.{Origin}
@@ -75,13 +75,12 @@ pub record IsByRule (layers : List Layer) (steps : List PathStep) (rule : Rule) 
 abbrev pub origins_of : Rule → List Origin
 origins_of rule = rule.origin ∷ rule.others.items
 
--- A row has the origins of the fallback of a setting. That of a run wrapper is not written, and a
--- row of it has no origins.
+-- A row has the origins of the fallback of a setting, shown alike. That of a run wrapper is not
+-- written, and a row of it has no origins.
 abbrev pub HasOriginsOf : Setting → Rule → SettingRow → Type 0
 HasOriginsOf at.RunWrapper fallback row =
     (origins_of fallback ≡ kinds.BuiltIn ∷ []) × (row.origins.items ≡ [])
-HasOriginsOf s fallback row =
-    map origin_shown (origins_of fallback) ≡ map origin_shown row.origins.items
+HasOriginsOf s fallback row = AreShownAlike (origins_of fallback) row.origins.items
 
 -- A row has what the fallback of a setting is: its value, and its origins.
 pub record IsByFallback (s : Setting) (fallback : Rule) (row : SettingRow) : Type 0 where

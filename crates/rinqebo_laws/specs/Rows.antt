@@ -1,17 +1,17 @@
 -- Reports that agree on a test.
-use Rattle.std.specs.Prelude.{◌≡◌, ℕ, List, Contains, Some, map, slice_get, string_bytes}
+use Rattle.std.specs.Prelude.{◌≡◌, ℕ, List, Contains, Some, slice_get, string_bytes}
 use Rattle.std.specs.List.{AllZip}
-use Rattle.rinqebo_laws.specs.Shown.{AreAlike, origin_shown}
+use Rattle.rinqebo_laws.specs.Shown.{AreAlike, AreShownAlike}
 use Rattle.rinqebo_load.specs.FoundTests.{found_view}
 use Rattle.rinqebo_load.specs.declared.found_test.FoundTest.{FoundTest}
 use Rattle.rinqebo_report.specs.declared.report.SettingRow.{SettingRow}
 use Rattle.rinqebo_report.specs.declared.report.TestRows.{TestRows}
 
--- Two rows say the same: of one key the same value, from the same origins.
+-- Two rows say the same: of one key the same value, from the same origins, shown alike.
 pub record SaySame (one other : SettingRow) : Type 0 where
   pub key : string_bytes one.key ≡ string_bytes other.key
   pub value : AreAlike one.value other.value
-  pub origins : map origin_shown one.origins.items ≡ map origin_shown other.origins.items
+  pub origins : AreShownAlike one.origins.items other.origins.items
 
 -- Two reports agree on a test: they name it alike, and agree on its platform, on whether it runs,
 -- and on each setting that both report.

@@ -1,12 +1,12 @@
 -- Why a test runs, and whether it does, that agree.
-use Rattle.std.specs.Prelude.{◌≡◌, ◌∷◌, [], Bool, List, Contains, None, Some, codes, map, option_map}
+use Rattle.std.specs.Prelude.{◌≡◌, ◌∷◌, [], Bool, List, Contains, None, Some, codes, option_map}
 use Rattle.nextest_inheritance.specs.Parents.{parents_in}
 use Rattle.nextest_load.specs.Config.{config_parents}
 use Rattle.nextest_settings.specs.Profiles.Profiles.{IsChainAndDefault}
 use Rattle.nextest_tables.specs.Written.{Name}
 use Rattle.rinqebo_request.specs.declared.files.layers.Layer.{Layer}
 use Rattle.rinqebo_laws.specs.Reasons.{IsWithin, NoneDecides, origins_of}
-use Rattle.rinqebo_laws.specs.Shown.{origin_shown}
+use Rattle.rinqebo_laws.specs.Shown.{AreShownAlike}
 use Rattle.rinqebo_load.specs.Meant.{config_meant}
 use Rattle.rinqebo_load.specs.declared.session.Session.{Session}
 use Rattle.rinqebo_report.specs.declared.origin.Origin.{Origin}
@@ -36,10 +36,10 @@ pub record IsByFilter (layers : List Layer) (is_ignored : Bool) (rule : Rule) (r
   pub within : IsWithin layers (key_steps None (codes "default-filter")) rule.origin origin
 
 -- A row comes from the default filter of a chain of profiles, if no override decides: it says
--- whether that filter matches, with the origins of the filter.
+-- whether that filter matches, with the origins of the filter, shown alike.
 pub record IsByChain (is_ignored : Bool) (fallback : Rule) (row : SettingRow) : Type 0 where
   pub says : SaysByRule is_ignored fallback row
-  pub origins : map origin_shown (origins_of fallback) ≡ map origin_shown row.origins.items
+  pub origins : AreShownAlike (origins_of fallback) row.origins.items
 
 -- Origins are those of the default filter of the chain of a profile.
 pub record AreFilterOrigins (session : Session) (profile : Name) (origins : List Origin) : Type 0
