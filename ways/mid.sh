@@ -1,0 +1,2 @@
+#!/bin/bash
+exec setsid bash -c 'echo 8 > /proc/$$/autogroup; exec "$@"' mid "$@"
