@@ -1,4 +1,5 @@
 pub mod Columns
+pub mod EditedTexts
 pub mod FirstChars
 pub mod FirstDefinitions
 pub mod FirstNamings

@@ -1,4 +1,5 @@
 pub mod Checks
+pub mod Edited
 pub mod Edits
 pub mod ElementRepairs
 pub mod Elements
