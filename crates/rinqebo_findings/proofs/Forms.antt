@@ -1,17 +1,22 @@
 -- Findings of what nextest refuses in files, one after another.
 use Rattle.std.proofs.Common.{◌≡◌, ◌+◌, ◌<◌, ℕ, Bool, true, false, List, [], ◌∷◌, ◌++◌, length, map, drop, get_or, Option, Some, if◌then◌else◌, refl, sym, ap, ◌∙◌, subst, append_assoc, append-nil}
 use Rattle.std.proofs.lemmas.List.{drop_more, map-append}
-use Rattle.nextest_places.specs.Spans.Paths.{path_step}
+use Rattle.nextest_places.specs.Spans.Paths.{path_step, PathStep}
 use Rattle.nextest_places.specs.declared.step.Step.{Step}
 use Rattle.nextest_places.specs.declared.step.Step.TheVariants as steps
 use Rattle.nextest_tree.specs.Node.{array, as_bool, as_text, bool, int, Node, opaque, table, text}
 use Rattle.nextest_tree.specs.View.{nodes_view, tree_view}
 use Rattle.nextest_tree.specs.declared.tree.Tree.{Tree}
+use Rattle.rinqebo_report.specs.declared.codes.code.Code.{Code}
 use Rattle.rinqebo_report.specs.declared.finding.Finding.{Finding}
 use Rattle.rinqebo_request.specs.declared.files.layers.Layer.{Layer}
+use Rattle.rinqebo_request.specs.declared.files.places.SpanPart.{SpanPart}
 use Rattle.rinqebo_findings.specs.Each.{AreOfEach}
-use Rattle.rinqebo_findings.specs.Later.{AddsLater, IsLaterFinding, LaterFault}
-use Rattle.rinqebo_findings.specs.NextestForms.{AddsForms, each_position, FormFault, IsFormFinding, key_in, refused}
+use Rattle.rinqebo_findings.specs.Later.{AddsLater, at, IsLaterFinding}
+use Rattle.rinqebo_findings.specs.LaterWords.{Said}
+use Rattle.rinqebo_findings.specs.NextestForms.{AddsForms, each_position, FormFault, IsFormError, IsFormFinding, key_in, refused}
+use Rattle.rinqebo_findings.specs.Placed.{IsPlacedAt}
+use Rattle.rinqebo_findings.specs.Subjects.{error_at, subject}
 use Rattle.rinqebo_findings.proofs.Each.{of_both}
 
 module _ (layers : List Layer) (source : Option ℕ) where
@@ -27,19 +32,30 @@ module _ (layers : List Layer) (source : Option ℕ) where
       record { more = finding ∷ []; whole = whole; are = (is, tt) }
 
   -- the finding of one fault is an error
-  one_refused : (fault : LaterFault) (more : List Finding)
-      → AreOfEach (IsLaterFinding layers source) (fault ∷ []) more
-      → AreOfEach (IsFormFinding layers source) (refused fault ∷ []) more
-  one_refused fault [] h = absurd h
-  one_refused fault (finding ∷ []) h = h
-  one_refused fault (finding ∷ other ∷ more) h = absurd h.1
+  one_refused : (part : SpanPart) (code : Code) (path : List PathStep) (said : Said) (more : List Finding)
+      → AreOfEach (IsLaterFinding layers source) (at part code path said ∷ []) more
+      → AreOfEach (IsFormFinding layers source) (refused part code path ∷ []) more
+  one_refused part code path said [] h = absurd h
+  one_refused part code path said (finding ∷ []) h =
+      let on = h.0 in
+      (record { steps = on.steps; are = on.are; is = on.is }, tt)
+  one_refused part code path said (finding ∷ other ∷ more) h = absurd h.1
 
   -- the error of a fault is added
-  pub forms_later : (fault : LaterFault) (old new : List Finding)
-      → AddsLater layers source (fault ∷ []) old new
-      → AddsForms layers source (refused fault ∷ []) old new
-  forms_later fault old new h =
-      record { more = h.more; whole = h.whole; are = one_refused fault h.more h.are }
+  pub forms_later : (part : SpanPart) (code : Code) (path : List PathStep) (said : Said) (old new : List Finding)
+      → AddsLater layers source (at part code path said ∷ []) old new
+      → AddsForms layers source (refused part code path ∷ []) old new
+  forms_later part code path said old new h =
+      record { more = h.more; whole = h.whole; are = one_refused part code path said h.more h.are }
+
+  -- an error at a path is added
+  pub forms_at : (part : SpanPart) (code : Code) (path : List Step) (finding : Finding) (old new : List Finding)
+      → subject finding ≡ error_at code path → IsPlacedAt part layers source path finding.place
+      → new ≡ old ++ finding ∷ [] → AddsForms layers source (refused part code (map path_step path) ∷ []) old new
+  forms_at part code path finding old new about place whole =
+      let is : IsFormError layers source part code (map path_step path) finding =
+      record { steps = path; are = refl; is = record { about = about; place = place } } in
+      forms_one (refused part code (map path_step path)) finding old new whole is
 
   -- the same faults
   pub forms_same : (faults others : List FormFault) (old new : List Finding) → faults ≡ others

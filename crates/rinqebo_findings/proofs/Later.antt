@@ -13,8 +13,10 @@ use Rattle.rinqebo_report.specs.declared.origin.FilePlace.{FilePlace}
 use Rattle.rinqebo_request.specs.declared.files.layers.Layer.{Layer}
 use Rattle.rinqebo_request.specs.declared.files.places.SpanPart.{SpanPart}
 use Rattle.rinqebo_findings.specs.Later.{AddsLater, at, IsErrorOn, IsFileError, IsLaterFinding, LaterFault, of_file, whole_place}
+use Rattle.rinqebo_findings.specs.LaterWords.{Said, Says}
 use Rattle.rinqebo_findings.specs.Placed.{IsPlacedAt}
 use Rattle.rinqebo_findings.specs.Subjects.{error_at, IsErrorAt, subject}
+use Rattle.rinqebo_findings.specs.Words.{words_of}
 use Rattle.rinqebo_findings.proofs.Each.{of_both}
 
 -- the source of the place of a whole source
@@ -34,26 +36,28 @@ module _ (layers : List Layer) (source : Option ℕ) where
   adds_one fault finding old new whole is = record { more = finding ∷ []; whole = whole; are = (is, tt) }
 
   -- the finding of a fault at a path is added
-  pub adds_part : (part : SpanPart) (code : Code) (path : List Step) (finding : Finding)
+  pub adds_part : (part : SpanPart) (code : Code) (path : List Step) (said : Said) (finding : Finding)
       (old new : List Finding)
       → subject finding ≡ error_at code path → IsPlacedAt part layers source path finding.place
-      → new ≡ old ++ finding ∷ []
-      → AddsLater layers source (at part code (map path_step path) ∷ []) old new
-  adds_part part code path finding old new about place whole =
+      → Says layers source said (words_of finding) → new ≡ old ++ finding ∷ []
+      → AddsLater layers source (at part code (map path_step path) said ∷ []) old new
+  adds_part part code path said finding old new about place says whole =
       let is : IsErrorAt layers source code part path finding =
       record { about = about; place = place } in
-      let on : IsErrorOn layers source code part (map path_step path) finding =
-      record { steps = path; are = refl; is = is } in
-      adds_one (at part code (map path_step path)) finding old new whole on
+      let on : IsErrorOn layers source code part (map path_step path) said finding =
+      record { steps = path; are = refl; is = is; says = says } in
+      adds_one (at part code (map path_step path) said) finding old new whole on
 
   -- the finding of a fault of a whole source is added
-  pub adds_file : (code : Code) (finding : Finding) (old new : List Finding)
+  pub adds_file : (code : Code) (said : Said) (finding : Finding) (old new : List Finding)
       → subject finding ≡ record { level = levels.Error; code = code_word code; path = None }
-      → option_map (λ (place : FilePlace). place.source) finding.place ≡ source → new ≡ old ++ finding ∷ []
-      → AddsLater layers source (of_file code ∷ []) old new
-  adds_file code finding old new about place whole =
-      let is : IsFileError source code finding = record { about = about; place = place } in
-      adds_one (of_file code) finding old new whole is
+      → option_map (λ (place : FilePlace). place.source) finding.place ≡ source
+      → Says layers source said (words_of finding) → new ≡ old ++ finding ∷ []
+      → AddsLater layers source (of_file code said ∷ []) old new
+  adds_file code said finding old new about place says whole =
+      let is : IsFileError layers source code said finding =
+      record { about = about; place = place; says = says } in
+      adds_one (of_file code said) finding old new whole is
 
   -- the same faults
   pub adds_same : (faults others : List LaterFault) (old new : List Finding) → faults ≡ others
@@ -61,11 +65,20 @@ module _ (layers : List Layer) (source : Option ℕ) where
   adds_same faults others old new same h = subst (λ fs. AddsLater layers source fs old new) same h
 
   -- the fault at the same path
-  pub adds_at : (part : SpanPart) (code : Code) (path other : List PathStep) (old new : List Finding)
-      → path ≡ other → AddsLater layers source (at part code path ∷ []) old new
-      → AddsLater layers source (at part code other ∷ []) old new
-  adds_at part code path other old new same h =
-      subst (λ p. AddsLater layers source (at part code p ∷ []) old new) same h
+  pub adds_at : (part : SpanPart) (code : Code) (path other : List PathStep) (said : Said)
+      (old new : List Finding)
+      → path ≡ other → AddsLater layers source (at part code path said ∷ []) old new
+      → AddsLater layers source (at part code other said ∷ []) old new
+  adds_at part code path other said old new same h =
+      subst (λ p. AddsLater layers source (at part code p said ∷ []) old new) same h
+
+  -- the fault of which the same is said
+  pub adds_said : (part : SpanPart) (code : Code) (path : List PathStep) (said other : Said)
+      (old new : List Finding)
+      → said ≡ other → AddsLater layers source (at part code path said ∷ []) old new
+      → AddsLater layers source (at part code path other ∷ []) old new
+  adds_said part code path said other old new same h =
+      subst (λ s. AddsLater layers source (at part code path s ∷ []) old new) same h
 
   -- the findings of some faults are added, and then those of others
   pub adds_both : (faults others : List LaterFault) (old mid new : List Finding)

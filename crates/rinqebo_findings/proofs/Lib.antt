@@ -1,9 +1,13 @@
+pub mod AddsAll
 pub mod Each
 pub mod Forms
 pub mod InCycles
 pub mod LayerForms
 pub mod Later
+pub mod LaterWords
 pub mod LeftOut
+pub mod Profiles
+pub mod SameWords
 pub mod Values
 pub mod Versions
 pub mod Warned

@@ -17,6 +17,7 @@ use Rattle.rinqebo_request.specs.Files.RuleTables.{host_spec, profile_node, rule
 use Rattle.rinqebo_request.specs.declared.files.places.SpanPart.TheVariants as parts
 use Rattle.rinqebo_faults.specs.Paths.{section_path}
 use Rattle.rinqebo_findings.specs.Later.{at, in_text, LaterFault}
+use Rattle.rinqebo_findings.specs.LaterWords.{says, says_alone}
 
 -- the table of a section in a tree: that of the profile, or of a rule of it
 abbrev pub section_in : List ℕ → ConfigCompileSection → Node → Option Node
@@ -41,17 +42,19 @@ abbrev pub target_keys : Option (List ℕ) → List PathStep
 target_keys (Some text) = paths.key (codes "platform") ∷ []
 target_keys None = paths.key (codes "platform") ∷ paths.key (codes "target") ∷ []
 
--- a text at a path that an engine refuses: the part of it that is refused, if the engine names one
-abbrev pub refused_part : Code → List PathStep → List ℕ → Option LabeledSpan → LaterFault
-refused_part code path text None = at parts.Value code path
-refused_part code path text (Some span) =
-    in_text code path text span.bytes.start span.bytes.end
+-- a text at a path that an engine refuses with a message: the part of it that is refused, if the
+-- engine names one
+abbrev pub refused_part :
+    Code → List PathStep → (text message : List ℕ) → Option LabeledSpan → LaterFault
+refused_part code path text message None = at parts.Value code path (says message None None)
+refused_part code path text message (Some span) = in_text code path text span
 
 -- a text at a path, if there is one and an engine refuses it
 abbrev pub text_fault : Code → List PathStep → Option (List ℕ) → Option Refusal → List LaterFault
 text_fault code path None refusal = []
 text_fault code path (Some text) None = []
-text_fault code path (Some text) (Some refusal) = refused_part code path text refusal.span ∷ []
+text_fault code path (Some text) (Some refusal) =
+    refused_part code path text (string_bytes refusal.message) refusal.span ∷ []
 
 -- the host of a section
 abbrev pub host_fault : List PathStep → Option Node → Option Refusal → List LaterFault
@@ -99,11 +102,11 @@ section_code (kinds.ConstraintsNotSpecified has_default) = RuleWithoutCondition
 section_code kinds.FilterAndDefaultFilterSpecified = TwoFilters
 section_code (kinds.Parse host target filter default_filter) = InvalidFilter
 
--- a whole section
+-- a whole section: no contract says how its kind of error is displayed
 abbrev pub section_fault : ConfigCompileError → LaterFault
 section_fault error =
     at parts.Value (section_code error.kind)
-    (section_path (string_bytes error.profile_name) error.section)
+    (section_path (string_bytes error.profile_name) error.section) says_alone
 
 -- the faults there are, or else another one
 abbrev pub or_else : List LaterFault → LaterFault → List LaterFault

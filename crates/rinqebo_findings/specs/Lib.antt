@@ -2,8 +2,10 @@ pub mod Compile
 pub mod Each
 pub mod Files
 pub mod Later
+pub mod LaterWords
 pub mod NextestForms
 pub mod Placed
+pub mod Profiles
 pub mod Shown
 pub mod Sources
 pub mod Subjects

@@ -5,8 +5,9 @@ use Rattle.std.specs.List.{enumerate_from, list_all, slice_split}
 use Rattle.std.specs.Option.{option_and_then}
 use Rattle.std.specs.Str.{bytes_eq}
 use Rattle.std.specs.Str.Parse.{digits_value}
-use Rattle.nextest_places.specs.Spans.Paths.{PathStep}
+use Rattle.nextest_places.specs.Spans.Paths.{path_step, PathStep}
 use Rattle.nextest_places.specs.Spans.Paths as paths
+use Rattle.nextest_places.specs.declared.step.Step.{Step}
 use Rattle.nextest_tree.specs.Node.{array, bool, Entries, get, int, keys, member_of, no_nodes, Node, node, Nodes, table, text}
 use Rattle.nextest_tree.specs.Schema.{each_entry, is_one_of}
 use Rattle.rinqebo_faults.specs.Paths.{profile_path}
@@ -16,19 +17,29 @@ use Rattle.rinqebo_report.specs.declared.codes.code.Code.TheVariants.{InvalidVal
 use Rattle.rinqebo_report.specs.declared.finding.Finding.{Finding}
 use Rattle.rinqebo_request.specs.Files.Layers.{layer_tree}
 use Rattle.rinqebo_request.specs.declared.files.layers.Layer.{Layer}
+use Rattle.rinqebo_request.specs.declared.files.places.SpanPart.{SpanPart}
 use Rattle.rinqebo_request.specs.declared.files.places.SpanPart.TheVariants as parts
 use Rattle.rinqebo_findings.specs.Each.{AreOfEach}
-use Rattle.rinqebo_findings.specs.Later.{at, IsLaterFinding, LaterFault}
+use Rattle.rinqebo_findings.specs.Subjects.{IsErrorAt}
 use Rattle.rinqebo_findings.specs.Warnings.{WarnsOf}
 
--- What is wrong with a file: a value or a key that is refused, or an unknown key, at a path.
+-- What is wrong with a file: a value or a key that is refused, with the code of its kind, or an
+-- unknown key, at a path. No contract says what its finding says.
 pub data FormFault : Type 0 where
-  refused : LaterFault → FormFault
+  refused : SpanPart → Code → List PathStep → FormFault
   unknown : List PathStep → FormFault
+
+-- A finding is an error of a code at a path, and at the place of its value or its key.
+pub record IsFormError (layers : List Layer) (source : Option ℕ) (part : SpanPart) (code : Code)
+    (path : List PathStep) (finding : Finding) : Type 0 where
+  pub steps : List Step
+  pub are : map path_step steps ≡ path
+  pub is : IsErrorAt layers source code part steps finding
 
 -- a finding is that of a fault in a source: an error, or the warning of an unknown key
 abbrev pub IsFormFinding : List Layer → Option ℕ → FormFault → Finding → Type 0
-IsFormFinding layers source (refused fault) finding = IsLaterFinding layers source fault finding
+IsFormFinding layers source (refused part code path) finding =
+    IsFormError layers source part code path finding
 IsFormFinding layers source (unknown path) finding = WarnsOf layers source UnknownKey path finding
 
 -- The findings of faults are added, one of each, in their order, and nothing else.
@@ -42,7 +53,7 @@ pub record AddsForms (layers : List Layer) (source : Option ℕ) (faults : List 
 
 -- the value at a path is refused
 abbrev pub refused_value : Code → List PathStep → List FormFault
-refused_value code path = refused (at parts.Value code path) ∷ []
+refused_value code path = refused parts.Value code path ∷ []
 
 -- it is of a kind that it may not have
 abbrev pub wrong_kind : List PathStep → List FormFault
@@ -163,7 +174,7 @@ features_path = paths.key (codes "experimental") ∷ []
 
 -- there is no feature of the name at a path
 abbrev pub no_feature : List PathStep → List FormFault
-no_feature path = refused (at parts.Key InvalidValue path) ∷ []
+no_feature path = refused parts.Key InvalidValue path ∷ []
 
 -- an item of an array of features has to be the name of one
 abbrev pub listed_faults : ℕ → Node → List FormFault

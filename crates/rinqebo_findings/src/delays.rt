@@ -110,7 +110,7 @@ fn writes(refused: &Refused<'_, '_>, path: &[Step<'_>]) -> bool {
 }
 
 /// Whether a place is in the file of the refused source.
-fn is_own(refused: &Refused<'_, '_>, place: FilePlace) -> bool
+pub fn is_own(refused: &Refused<'_, '_>, place: FilePlace) -> bool
     ensures { result ≡ is_in refused.now.source.position place }
 {
     match refused.source.position {

@@ -1,13 +1,16 @@
 //! Filters and platforms that are refused, with the part that is wrong.
-ghost use Rattle.std.specs.Prelude.{◌≡◌, ◌∷◌, ◌++◌, [], IfOk, OnOk, codes, map, option_map};
+ghost use Rattle.std.specs.Prelude.{◌≡◌, ◌∷◌, ◌++◌, [], IfOk, None, OnOk, codes, map, option_map, string_bytes};
 ghost use Rattle.nextest_places.specs.Spans.Paths.{path_step};
 ghost use Rattle.nextest_places.specs.Spans.Paths as paths;
 ghost use Rattle.nextest_tree.specs.View.{tree_view};
 ghost use Rattle.rinqebo_request.specs.Files.RuleTables.{text_in};
 ghost use Rattle.rinqebo_findings.specs.Compile.{filter_fault, host_fault, parsed_faults, refused_part, refused_texts, section_in, section_node, table_path, target_fault, target_keys, text_fault, texts_of};
+ghost use Rattle.rinqebo_faults.specs.Filters.{filter_help};
 ghost use Rattle.rinqebo_findings.specs.Later.{AddsLater, document_at, in_text};
+ghost use Rattle.rinqebo_findings.specs.LaterWords.{AreTableWords, plain_words, SaysOfText, table_words};
 ghost use Rattle.rinqebo_findings.specs.Placed.{file_and_lines, IsOnLines};
 ghost use Rattle.rinqebo_findings.specs.Subjects.{error_at, subject};
+ghost use Rattle.rinqebo_findings.specs.Words.{words_of};
 
 use crate::refused::Refused;
 use nextest_engines::{LabeledSpan, Refusal};
@@ -57,11 +60,10 @@ fn fault_range(
 }
 
 /// What is wrong with a refused text, in words: there are none for what its reader words well.
-fn text_words(
-    alloc: Global,
-    code: Code,
-    stopped: Stopped<'_>,
-) -> Result<Option<Worded>, AllocError> {
+fn text_words(alloc: Global, code: Code, stopped: Stopped<'_>) -> Result<Option<Worded>, AllocError>
+    ensures { IfOk result (λ words. AreTableWords code stopped.entry.text.now
+        stopped.entry.label.now stopped.entry.start words) }
+{
     match code {
         Code::InvalidFilter => filter_words(alloc, stopped),
         _ => platform_words(alloc, stopped),
@@ -78,6 +80,7 @@ fn with_part(
 ) -> Result<Finding, AllocError>
     ensures about { IfOk result (λ shown. subject shown ≡ subject found) }
     ensures place { IfOk result (λ shown. file_and_lines shown.place ≡ file_and_lines found.place) }
+    ensures words { IfOk result (λ shown. words_of shown ≡ words_of found) }
 {
     let Some(FilePlace { source, lines, .. }) = found.place else {
         return Ok(found);
@@ -105,6 +108,7 @@ fn worded_finding(
     ensures about { IfOk result (λ found. subject found ≡ error_at code path.now) }
     ensures place { IfOk result (λ found. IsOnLines refused.now.source.layers.now
         refused.now.source.position path.now found.place) }
+    ensures words { IfOk result (λ found. words_of found ≡ table_words worded) }
 {
     let Worded {
         start,
@@ -130,6 +134,8 @@ fn labelled_finding(
     ensures about { IfOk result (λ found. subject found ≡ error_at code path.now) }
     ensures place { IfOk result (λ found. IsOnLines refused.now.source.layers.now
         refused.now.source.position path.now found.place) }
+    ensures words { IfOk result (λ found. words_of found
+        ≡ plain_words stopped.entry.label.now None (filter_help stopped.entry.label.now)) }
 {
     let help = owned(refused.alloc, filter_help(stopped.label))?;
     let span = char_span(stopped.text, stopped.start, stopped.end);
@@ -149,6 +155,8 @@ fn stopped_finding(
     ensures about { IfOk result (λ found. subject found ≡ error_at code path.now) }
     ensures place { IfOk result (λ found. IsOnLines refused.now.source.layers.now
         refused.now.source.position path.now found.place) }
+    ensures words { IfOk result (λ found. SaysOfText code stopped.entry.text.now
+        stopped.entry.label.now stopped.entry.start (words_of found)) }
 {
     match text_words(refused.alloc, code, stopped)? {
         Some(worded) => Ok(worded_finding(refused, code, path, stopped.text, worded)?),
@@ -166,8 +174,8 @@ fn add_part(
     span: &LabeledSpan,
 ) -> Result<(), AllocError>
     ensures { OnOk result (AddsLater refused.now.source.layers.now refused.now.source.position
-        (in_text code (map path_step path.now) text.now span.now.bytes.start span.now.bytes.end
-        ∷ []) findings.old.items findings.new.items) }
+        (in_text code (map path_step path.now) text.now span.now ∷ []) findings.old.items
+        findings.new.items) }
 {
     let stopped = Stopped {
         text,
@@ -192,8 +200,9 @@ fn add_text(
     refusal: &Refusal,
 ) -> Result<(), AllocError>
     ensures { OnOk result (AddsLater refused.now.source.layers.now refused.now.source.position
-        (refused_part code (map path_step path.now) text.now refusal.now.span ∷ [])
-        findings.old.items findings.new.items) }
+        (refused_part code (map path_step path.now) text.now
+        (string_bytes refusal.now.message) refusal.now.span ∷ []) findings.old.items
+        findings.new.items) }
 {
     match &refusal.span {
         Some(span) => add_part(refused, findings, code, path, text, span),

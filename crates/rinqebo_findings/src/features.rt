@@ -19,8 +19,8 @@ fn add_feature(
     ensures { let layers = refused.now.source.layers.now in
         let position = refused.now.source.position in
         OnOk result (AddsLater layers position
-        (feature_fault (document_at layers position) name.now ∷ []) findings.old.items
-        findings.new.items) }
+        (feature_fault (document_at layers position) missing.now name.now ∷ [])
+        findings.old.items findings.new.items) }
 {
     let alloc = refused.alloc;
     let tree = refused.source.tree();

@@ -1,8 +1,9 @@
 //! Findings of groups and scripts that a file may not define.
-ghost use Rattle.std.specs.Prelude.{◌∷◌, [], OnOk, map};
+ghost use Rattle.std.specs.Prelude.{◌≡◌, ◌∷◌, [], IfOk, None, OnOk, Some, map, option_map, string_bytes};
 ghost use Rattle.nextest_places.specs.Spans.Paths.{path_step};
 ghost use Rattle.rinqebo_request.specs.declared.files.places.SpanPart.TheVariants as parts;
-ghost use Rattle.rinqebo_findings.specs.Later.{AddsLater, at, document_at, group_fault, group_faults, script_code, script_fault, script_faults};
+ghost use Rattle.rinqebo_findings.specs.Later.{AddsLater, at, document_at, group_fault, group_faults, says_script, script_code, script_fault, script_faults};
+ghost use Rattle.rinqebo_findings.specs.LaterWords.{own_prefix, owner_words, prefix_help, prefix_of, says_foreign, says_twice};
 
 use crate::refused::Refused;
 use nextest_elements::CustomTestGroup;
@@ -13,19 +14,40 @@ use rinqebo_report::{Code, Finding, SourceKind};
 use std::alloc::{AllocError, Global};
 use std::collections::BTreeSet;
 
-/// What names of the refused source begin with, if it is one whose names begin with something.
-fn own_prefix(refused: &Refused<'_, '_>) -> Result<Option<String>, AllocError> {
-    let alloc = refused.alloc;
-    let Some(position) = refused.source.position else {
-        return Ok(None);
-    };
-    let Some(layer) = refused.source.layers.get(position) else {
-        return Ok(None);
-    };
-    match &layer.source.kind {
+/// What the names begin with that a source of a kind defines, if they begin with something.
+fn prefix_of(alloc: Global, kind: &SourceKind) -> Result<Option<String>, AllocError>
+    ensures { IfOk result (λ prefix. option_map string_bytes prefix ≡ prefix_of kind.now) }
+{
+    match kind {
         SourceKind::Tool(tool) => Ok(Some(format!(in alloc; "@tool:{tool}:")?)),
         SourceKind::Organisation => Ok(Some(String::from_str(alloc, "@org:")?)),
         SourceKind::Default | SourceKind::Explicit | SourceKind::Discovered => Ok(None),
+    }
+}
+
+/// What names of the refused source begin with, if it is one whose names begin with something.
+fn own_prefix(refused: &Refused<'_, '_>) -> Result<Option<String>, AllocError>
+    ensures { IfOk result (λ prefix. option_map string_bytes prefix
+        ≡ own_prefix refused.now.source.layers.now refused.now.source.position) }
+{
+    let Some(position) = refused.source.position else {
+        return Ok(None);
+    };
+    match refused.source.layers.get(position) {
+        Some(layer) => prefix_of(refused.alloc, &layer.source.kind),
+        None => Ok(None),
+    }
+}
+
+/// The owner of a name that begins as one of a tool or of the organisation does.
+#[tactic(auto, using(std::proofs::lemmas::Str::Pattern::starts_text))]
+fn owner_words(name: &str) -> &'static str
+    ensures { result.now ≡ owner_words name.now }
+{
+    if name.starts_with("@org:") {
+        "the organisation"
+    } else {
+        "a tool"
     }
 }
 
@@ -40,25 +62,57 @@ fn add_owned(
     name: &str,
 ) -> Result<(), AllocError>
     ensures { OnOk result (AddsLater refused.now.source.layers.now refused.now.source.position
-        (at parts.Key code (map path_step path.now) ∷ []) findings.old.items
-        findings.new.items) }
+        (at parts.Key code (map path_step path.now) (says_foreign what.now name.now None) ∷ [])
+        findings.old.items findings.new.items) }
 {
-    let owner = if name.starts_with("@org:") {
-        "the organisation"
-    } else {
-        "a tool"
-    };
+    let owner = owner_words(name);
     let wrong = format!(in refused.alloc; "`{name}` is a {what} of {owner}")?;
     let expected = "a name that begins neither with `@tool:` nor with `@org:`";
-    refused.add_key(findings, code, path, wrong.as_str(), expected, None)
+    refused.add_key(findings, code, path, wrong.as_str(), expected, None)?;
+    Ok(())
 }
 
 /// What to do about a name that does not begin as those of its source do.
-fn prefix_help(alloc: Global, prefix: &str, name: &str) -> Result<Option<String>, AllocError> {
-    if name.starts_with('@') {
+#[tactic(auto, using(std::proofs::lemmas::Str::Pattern::starts_text))]
+fn prefix_help(alloc: Global, prefix: &str, name: &str) -> Result<Option<String>, AllocError>
+    ensures { IfOk result (λ help. option_map string_bytes help
+        ≡ prefix_help prefix.now name.now) }
+{
+    if name.starts_with("@") {
         return Ok(None);
     }
     Ok(Some(format!(in alloc; "write `{prefix}{name}`")?))
+}
+
+/// Adds that the name at the end of a path is not that of a group or a script of the source's own,
+/// as a word says, in a source whose names have to begin with a prefix.
+fn add_unprefixed(
+    refused: &Refused<'_, '_>,
+    findings: &mut Vec<Finding>,
+    code: Code,
+    path: &[Step<'_>],
+    what: &str,
+    name: &str,
+    prefix: &str,
+) -> Result<(), AllocError>
+    ensures { OnOk result (AddsLater refused.now.source.layers.now refused.now.source.position
+        (at parts.Key code (map path_step path.now)
+        (says_foreign what.now name.now (Some prefix.now)) ∷ []) findings.old.items
+        findings.new.items) }
+{
+    let alloc = refused.alloc;
+    let wrong = format!(in alloc; "`{name}` is not a {what} of this file's own")?;
+    let expected = format!(in alloc; "a name that begins with `{prefix}`")?;
+    let help = prefix_help(alloc, prefix, name)?;
+    refused.add_key(
+        findings,
+        code,
+        path,
+        wrong.as_str(),
+        expected.as_str(),
+        help,
+    )?;
+    Ok(())
 }
 
 /// Adds that a group or a script, as a word says, may not be defined at the key at the end of a
@@ -71,25 +125,22 @@ fn add_foreign(
     what: &str,
     name: &str,
 ) -> Result<(), AllocError>
-    ensures { OnOk result (AddsLater refused.now.source.layers.now refused.now.source.position
-        (at parts.Key code (map path_step path.now) ∷ []) findings.old.items
+    ensures { let layers = refused.now.source.layers.now in
+        let position = refused.now.source.position in
+        OnOk result (AddsLater layers position (at parts.Key code (map path_step path.now)
+        (says_foreign what.now name.now (own_prefix layers position)) ∷ []) findings.old.items
         findings.new.items) }
 {
-    let alloc = refused.alloc;
-    let Some(prefix) = own_prefix(refused)? else {
-        return add_owned(refused, findings, code, path, what, name);
-    };
-    let wrong = format!(in alloc; "`{name}` is not a {what} of this file's own")?;
-    let expected = format!(in alloc; "a name that begins with `{prefix}`")?;
-    let help = prefix_help(alloc, prefix.as_str(), name)?;
-    refused.add_key(
-        findings,
-        code,
-        path,
-        wrong.as_str(),
-        expected.as_str(),
-        help,
-    )
+    match own_prefix(refused)? {
+        Some(prefix) => {
+            add_unprefixed(refused, findings, code, path, what, name, prefix.as_str())?;
+            Ok(())
+        }
+        None => {
+            add_owned(refused, findings, code, path, what, name)?;
+            Ok(())
+        }
+    }
 }
 
 /// Adds that a source may not define the group of a name.
@@ -98,8 +149,11 @@ fn add_group(
     findings: &mut Vec<Finding>,
     name: &str,
 ) -> Result<(), AllocError>
-    ensures { OnOk result (AddsLater refused.now.source.layers.now refused.now.source.position
-        (group_fault name.now ∷ []) findings.old.items findings.new.items) }
+    ensures { let layers = refused.now.source.layers.now in
+        let position = refused.now.source.position in
+        OnOk result (AddsLater layers position
+        (group_fault (own_prefix layers position) name.now ∷ []) findings.old.items
+        findings.new.items) }
 {
     let path = [Step::Key("test-groups"), Step::Key(name)];
     add_foreign(refused, findings, Code::ForeignGroup, &path, "group", name)
@@ -111,8 +165,11 @@ pub fn add_groups(
     findings: &mut Vec<Finding>,
     groups: &BTreeSet<CustomTestGroup>,
 ) -> Result<(), AllocError>
-    ensures { OnOk result (AddsLater refused.now.source.layers.now refused.now.source.position
-        (group_faults groups.now.keys) findings.old.items findings.new.items) }
+    ensures { let layers = refused.now.source.layers.now in
+        let position = refused.now.source.position in
+        OnOk result (AddsLater layers position
+        (group_faults (own_prefix layers position) groups.now.keys) findings.old.items
+        findings.new.items) }
 {
     for group in groups.iter() {
         add_group(refused, findings, group.as_str())?;
@@ -128,13 +185,14 @@ fn add_twice(
     name: &str,
 ) -> Result<(), AllocError>
     ensures { OnOk result (AddsLater refused.now.source.layers.now refused.now.source.position
-        (at parts.Key Code.DuplicateScript (map path_step path.now) ∷ []) findings.old.items
-        findings.new.items) }
+        (at parts.Key Code.DuplicateScript (map path_step path.now) (says_twice name.now) ∷ [])
+        findings.old.items findings.new.items) }
 {
     let wrong = format!(in refused.alloc; "`{name}` is a setup script and a wrapper script")?;
     let expected = "a name of its own for each script";
     let code = Code::DuplicateScript;
-    refused.add_key(findings, code, path, wrong.as_str(), expected, None)
+    refused.add_key(findings, code, path, wrong.as_str(), expected, None)?;
+    Ok(())
 }
 
 /// Why a source may not define scripts.
@@ -154,8 +212,11 @@ fn add_script_at(
     name: &str,
     fault: ScriptFault,
 ) -> Result<(), AllocError>
-    ensures { OnOk result (AddsLater refused.now.source.layers.now refused.now.source.position
-        (at parts.Key (script_code fault) (map path_step path.now) ∷ []) findings.old.items
+    ensures { let layers = refused.now.source.layers.now in
+        let position = refused.now.source.position in
+        OnOk result (AddsLater layers position
+        (at parts.Key (script_code fault) (map path_step path.now)
+        (says_script fault name.now (own_prefix layers position)) ∷ []) findings.old.items
         findings.new.items) }
 {
     match fault {
@@ -176,8 +237,8 @@ fn add_script(
     ensures { let layers = refused.now.source.layers.now in
         let position = refused.now.source.position in
         OnOk result (AddsLater layers position
-        (script_fault (document_at layers position) fault name.now ∷ []) findings.old.items
-        findings.new.items) }
+        (script_fault (document_at layers position) (own_prefix layers position) fault name.now
+        ∷ []) findings.old.items findings.new.items) }
 {
     let path = script_path(refused.alloc, refused.source.tree(), name)?;
     add_script_at(refused, findings, &path, name, fault)?;
@@ -194,8 +255,8 @@ pub fn add_scripts(
     ensures { let layers = refused.now.source.layers.now in
         let position = refused.now.source.position in
         OnOk result (AddsLater layers position
-        (script_faults (document_at layers position) fault scripts.now.keys) findings.old.items
-        findings.new.items) }
+        (script_faults (document_at layers position) (own_prefix layers position) fault
+        scripts.now.keys) findings.old.items findings.new.items) }
 {
     let alloc = refused.alloc;
     for script in scripts.iter() {

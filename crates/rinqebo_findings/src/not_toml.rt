@@ -1,7 +1,9 @@
 //! Findings of texts that are not TOML.
 ghost use Rattle.std.specs.Prelude.{◌≡◌, ◌∷◌, [], OnOk, option_map};
-ghost use Rattle.rinqebo_findings.specs.Later.{AddsLater, of_file};
+ghost use Rattle.rinqebo_findings.specs.Later.{AddsLater, no_toml, of_file};
+ghost use Rattle.rinqebo_findings.specs.LaterWords.{says_no_toml};
 ghost use Rattle.rinqebo_findings.specs.Subjects.{subject};
+ghost use Rattle.rinqebo_findings.specs.Words.{words_of};
 
 use crate::findings::with_note;
 use crate::refused::Refused;
@@ -18,6 +20,7 @@ fn placed(found: Finding, start: Position, len: usize) -> Finding
     ensures about { subject result ≡ subject found }
     ensures place { option_map (λ place. place.source) result.place
         ≡ option_map (λ place. place.source) found.place }
+    ensures words { words_of result ≡ words_of found }
 {
     let Some(FilePlace { source, .. }) = found.place else {
         return found;
@@ -40,6 +43,7 @@ fn placed_at(found: Finding, position: Option<TextPosition>) -> Finding
     ensures about { subject result ≡ subject found }
     ensures place { option_map (λ place. place.source) result.place
         ≡ option_map (λ place. place.source) found.place }
+    ensures words { words_of result ≡ words_of found }
 {
     match position {
         Some(position) => placed(found, start_of(position), 1),
@@ -56,7 +60,8 @@ fn add_bad_line(
     bad: BadLine<'_>,
 ) -> Result<(), AllocError>
     ensures { OnOk result (AddsLater refused.now.source.layers.now refused.now.source.position
-        (of_file Code.NotToml ∷ []) findings.old.items findings.new.items) }
+        (of_file Code.NotToml (says_no_toml bad.entry.reason.now) ∷ []) findings.old.items
+        findings.new.items) }
 {
     let alloc = refused.alloc;
     let LineWords {
@@ -88,7 +93,8 @@ fn add_reason(
     reason: &str,
 ) -> Result<(), AllocError>
     ensures { OnOk result (AddsLater refused.now.source.layers.now refused.now.source.position
-        (of_file Code.NotToml ∷ []) findings.old.items findings.new.items) }
+        (of_file Code.NotToml (says_no_toml reason.now) ∷ []) findings.old.items
+        findings.new.items) }
 {
     let message = on_one_line(refused.alloc, reason)?;
     let plain = refused.finding(Code::NotToml, message)?;
@@ -105,7 +111,8 @@ fn add_at(
     reason: &str,
 ) -> Result<(), AllocError>
     ensures { OnOk result (AddsLater refused.now.source.layers.now refused.now.source.position
-        (of_file Code.NotToml ∷ []) findings.old.items findings.new.items) }
+        (of_file Code.NotToml (says_no_toml reason.now) ∷ []) findings.old.items
+        findings.new.items) }
 {
     let (Some(text), Some(place)) = (refused.text, position) else {
         return add_reason(refused, findings, position, reason);
@@ -128,7 +135,8 @@ pub fn add_no_document(
     message: &str,
 ) -> Result<(), AllocError>
     ensures { OnOk result (AddsLater refused.now.source.layers.now refused.now.source.position
-        (of_file Code.NotToml ∷ []) findings.old.items findings.new.items) }
+        (no_toml refused.now.source.layers.now refused.now.source.position message.now ∷ [])
+        findings.old.items findings.new.items) }
 {
     match refused.source.fault() {
         Some(fault) => add_at(refused, findings, fault.position, fault.reason.as_str()),

@@ -1,34 +1,83 @@
 //! Findings of parents that profiles may not have.
-ghost use Rattle.std.specs.Prelude.{◌∷◌, [], OnOk};
+ghost use Rattle.std.specs.Prelude.{◌≡◌, ◌∷◌, [], ◌++◌, ℕ, List, IfOk, None, OnOk, Some};
+ghost use Rattle.nextest_tree.specs.Node.{keys};
+ghost use Rattle.nextest_tree.specs.View.{entries_view};
+ghost use Rattle.rinqebo_faults.specs.Hints.{texts};
 ghost use Rattle.rinqebo_findings.specs.Later.{AddsLater, cycle_faults, parent_fault, parent_faults, parent_faults_of};
+ghost use Rattle.rinqebo_findings.specs.LaterWords.{says, says_default_inherits, says_inherits_itself, says_unknown_parent};
+ghost use Rattle.rinqebo_findings.specs.Profiles.{AreNew, names_in, profile_names};
 
 use crate::cycles::add_cycle;
 use crate::refused::Refused;
 use nextest_inheritance::InheritsError;
-use rinqebo_faults::{near_hint, parent_path, profiles_of, quoted};
+use nextest_tree::Tree;
+use rinqebo_faults::{parent_path, profiles_of};
 use rinqebo_report::{Code, Finding};
 use rinqebo_request::Layer;
 use std::alloc::{AllocError, Global};
-use std::collections::BTreeSet;
+use std::collections::{BTreeMap, BTreeSet};
+
+/// Adds a name to those that are new, unless it came before.
+fn add_name<'l>(
+    names: &mut Vec<&'l str>,
+    seen: &mut BTreeSet<&'l str>,
+    name: &'l str,
+) -> Result<(), AllocError>
+    ensures { OnOk result ((came : List (List ℕ)) → AreNew came seen.old names.old.items
+        → AreNew (came ++ name.now ∷ []) seen.new names.new.items) }
+{
+    let is_new = seen.insert(name)?;
+    if !is_new {
+        return Ok(());
+    }
+    names.push(name)?;
+    Ok(())
+}
+
+/// Adds the names of profiles that did not come before.
+fn add_names<'l>(
+    names: &mut Vec<&'l str>,
+    seen: &mut BTreeSet<&'l str>,
+    profiles: &'l BTreeMap<String, Tree>,
+) -> Result<(), AllocError>
+    ensures { OnOk result ((came : List (List ℕ)) → AreNew came seen.old names.old.items
+        → AreNew (came ++ keys (entries_view profiles.now.entries)) seen.new
+        names.new.items) }
+{
+    for name in profiles.keys() {
+        add_name(names, seen, name.as_str())?;
+    }
+    Ok(())
+}
+
+/// Adds the names of the profiles of a layer that did not come before.
+fn add_layer<'l>(
+    names: &mut Vec<&'l str>,
+    seen: &mut BTreeSet<&'l str>,
+    layer: &'l Layer<'_>,
+) -> Result<(), AllocError>
+    ensures { OnOk result ((came : List (List ℕ)) → AreNew came seen.old names.old.items
+        → AreNew (came ++ names_in layer.now) seen.new names.new.items) }
+{
+    match profiles_of(layer.tree()) {
+        Some(profiles) => add_names(names, seen, profiles),
+        None => Ok(()),
+    }
+}
 
 /// The names of the profiles of all layers, each once.
-fn profile_names<'l>(alloc: Global, layers: &'l [Layer]) -> Result<Vec<&'l str>, AllocError> {
+fn profile_names<'l>(alloc: Global, layers: &'l [Layer<'_>]) -> Result<Vec<&'l str>, AllocError>
+    ensures { IfOk result (λ names. texts names.items ≡ profile_names layers.now) }
+{
     let mut names = Vec::new(alloc);
     let mut seen = BTreeSet::new(alloc);
     for layer in layers {
-        let Some(profiles) = profiles_of(layer.tree()) else {
-            continue;
-        };
-        for name in profiles.keys() {
-            if seen.insert(name.as_str())? {
-                names.push(name.as_str())?;
-            }
-        }
+        add_layer(&mut names, &mut seen, layer)?;
     }
     Ok(names)
 }
 
-/// Adds what is wrong with the parent of a profile, what is expected there, and what to do.
+/// Adds what is wrong with the parent of a profile, and what is expected there.
 fn add_parent_of(
     refused: &Refused<'_, '_>,
     findings: &mut Vec<Finding>,
@@ -36,14 +85,48 @@ fn add_parent_of(
     profile: &str,
     wrong: &str,
     expected: &str,
-    help: Option<String>,
 ) -> Result<(), AllocError>
     ensures { OnOk result (AddsLater refused.now.source.layers.now refused.now.source.position
-        (parent_fault code profile.now ∷ []) findings.old.items findings.new.items) }
+        (parent_fault code profile.now (says wrong.now (Some expected.now) None) ∷ [])
+        findings.old.items findings.new.items) }
 {
     let path = parent_path(profile);
-    refused.add_value(findings, code, &path, wrong, expected, help)?;
+    refused.add_value(findings, code, &path, wrong, expected, None)?;
     Ok(())
+}
+
+/// Adds that a profile has a parent which may not have one.
+fn add_default_parent(
+    refused: &Refused<'_, '_>,
+    findings: &mut Vec<Finding>,
+    profile: &str,
+) -> Result<(), AllocError>
+    ensures { OnOk result (AddsLater refused.now.source.layers.now refused.now.source.position
+        (parent_fault Code.DefaultInherits profile.now (says_default_inherits profile.now) ∷ [])
+        findings.old.items findings.new.items) }
+{
+    let wrong = format!(in refused.alloc;
+        "profile `{profile}` has `inherits`, but may not inherit from another profile"
+    )?;
+    let expected = "no `inherits` in this profile";
+    let code = Code::DefaultInherits;
+    add_parent_of(refused, findings, code, profile, wrong.as_str(), expected)
+}
+
+/// Adds that a profile is its own parent.
+fn add_own_parent(
+    refused: &Refused<'_, '_>,
+    findings: &mut Vec<Finding>,
+    profile: &str,
+) -> Result<(), AllocError>
+    ensures { OnOk result (AddsLater refused.now.source.layers.now refused.now.source.position
+        (parent_fault Code.InheritsItself profile.now (says_inherits_itself profile.now) ∷ [])
+        findings.old.items findings.new.items) }
+{
+    let wrong = format!(in refused.alloc; "profile `{profile}` inherits from itself")?;
+    let expected = "the name of another profile";
+    let code = Code::InheritsItself;
+    add_parent_of(refused, findings, code, profile, wrong.as_str(), expected)
 }
 
 /// Adds that the parent of a profile is none of the profiles with some names.
@@ -53,39 +136,19 @@ fn add_unknown_parent(
     names: &[&str],
     profile: &str,
     parent: &str,
-    wrong: &str,
 ) -> Result<(), AllocError>
     ensures { OnOk result (AddsLater refused.now.source.layers.now refused.now.source.position
-        (parent_fault Code.UnknownParent profile.now ∷ []) findings.old.items findings.new.items) }
+        (parent_fault Code.UnknownParent profile.now
+        (says_unknown_parent profile.now parent.now (texts names.now)) ∷ [])
+        findings.old.items findings.new.items) }
 {
-    let help = near_hint(refused.alloc, parent, names)?;
-    let expected = quoted(refused.alloc, names, " or ")?;
+    let wrong = format!(in refused.alloc;
+        "profile `{profile}` inherits from `{parent}`, which is not known"
+    )?;
+    let path = parent_path(profile);
     let code = Code::UnknownParent;
-    add_parent_of(
-        refused,
-        findings,
-        code,
-        profile,
-        wrong,
-        expected.as_str(),
-        help,
-    )
-}
-
-/// What is wrong with a parent, in words.
-fn parent_text(alloc: Global, error: &InheritsError) -> Result<String, AllocError> {
-    match error {
-        InheritsError::DefaultProfileInheritance(profile) => {
-            let profile = profile.as_str();
-            format!(in alloc;
-                "profile `{profile}` has `inherits`, but may not inherit from another profile"
-            )
-        }
-        InheritsError::SelfReferentialInheritance(_) | InheritsError::UnknownInheritance(..) => {
-            error.to_string(alloc)
-        }
-        InheritsError::InheritanceCycle(_) => Ok(String::new(alloc)),
-    }
+    refused.add_none_of(findings, code, &path, wrong.as_str(), parent, names)?;
+    Ok(())
 }
 
 /// Adds that profiles inherit in cycles.
@@ -111,40 +174,18 @@ fn add_parent(
     error: &InheritsError,
 ) -> Result<(), AllocError>
     ensures { OnOk result (AddsLater refused.now.source.layers.now refused.now.source.position
-        (parent_faults_of error.now) findings.old.items findings.new.items) }
+        (parent_faults_of (texts names.now) error.now) findings.old.items findings.new.items) }
 {
-    let text = parent_text(refused.alloc, error)?;
-    let wrong = text.as_str();
     match error {
         InheritsError::DefaultProfileInheritance(profile) => {
-            let code = Code::DefaultInherits;
-            let expected = "no `inherits` in this profile";
-            add_parent_of(
-                refused,
-                findings,
-                code,
-                profile.as_str(),
-                wrong,
-                expected,
-                None,
-            )
+            add_default_parent(refused, findings, profile.as_str())
         }
         InheritsError::SelfReferentialInheritance(profile) => {
-            let code = Code::InheritsItself;
-            let expected = "the name of another profile";
-            add_parent_of(
-                refused,
-                findings,
-                code,
-                profile.as_str(),
-                wrong,
-                expected,
-                None,
-            )
+            add_own_parent(refused, findings, profile.as_str())
         }
         InheritsError::UnknownInheritance(profile, parent) => {
             let profile = profile.as_str();
-            add_unknown_parent(refused, findings, names, profile, parent.as_str(), wrong)
+            add_unknown_parent(refused, findings, names, profile, parent.as_str())
         }
         InheritsError::InheritanceCycle(cycles) => add_cycles(refused, findings, cycles),
     }
@@ -157,7 +198,8 @@ pub fn add_parents(
     errors: &[InheritsError],
 ) -> Result<(), AllocError>
     ensures { OnOk result (AddsLater refused.now.source.layers.now refused.now.source.position
-        (parent_faults errors.now) findings.old.items findings.new.items) }
+        (parent_faults (profile_names refused.now.source.layers.now) errors.now)
+        findings.old.items findings.new.items) }
 {
     let names = profile_names(refused.alloc, refused.source.layers)?;
     for error in errors {

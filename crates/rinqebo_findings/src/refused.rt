@@ -1,8 +1,11 @@
 //! The findings of a refused source.
-ghost use Rattle.std.specs.Prelude.{◌≡◌, ℕ, IfOk, IfSome, Option, OnOk, None, ◌++◌, ◌∷◌, [], map, option_map};
+ghost use Rattle.std.specs.Prelude.{◌≡◌, ℕ, IfOk, IfSome, Option, OnOk, None, Some, ◌++◌, ◌∷◌, [], map, option_map, string_bytes};
+ghost use Rattle.std.specs.Option.{option_copied};
 ghost use Rattle.rinqebo_request.specs.Files.Origins.{IsPartPlace};
 ghost use Rattle.rinqebo_findings.specs.Placed.{IsPlaceIn, IsPlacedAt};
 ghost use Rattle.rinqebo_findings.specs.Subjects.{error_at, subject};
+ghost use Rattle.rinqebo_faults.specs.Hints.{texts};
+ghost use Rattle.rinqebo_findings.specs.LaterWords.{one_of, says, says_none_of};
 ghost use Rattle.rinqebo_findings.specs.Words.{message_alone, words_of};
 ghost use Rattle.rinqebo_report.specs.Codes.Codes.{code_word};
 ghost use Rattle.rinqebo_report.specs.declared.finding.Finding.{Finding};
@@ -11,7 +14,7 @@ ghost use Rattle.rinqebo_findings.specs.Later.{AddsLater, at, of_file, whole_pla
 
 use crate::findings::{Label, SourceAt, finding, finding_at, with_note};
 use nextest_places::Step;
-use rinqebo_faults::{LeftOut, owned};
+use rinqebo_faults::{LeftOut, near_hint, owned, quoted};
 use rinqebo_report::{Code, FilePlace, Finding, Level};
 use rinqebo_request::{Layer, SpanPart, part_place};
 use std::alloc::{AllocError, Global};
@@ -89,6 +92,8 @@ impl Refused<'_, '_> {
             ≡ record { level = Level.Error; code = code_word code; path = None }) }
         ensures place { IfOk result (λ found. found.place
             ≡ option_map whole_place self.now.source.position) }
+        ensures words { IfOk result (λ found. words_of found
+            ≡ message_alone (string_bytes message)) }
     {
         let label = self.label(code);
         Ok(finding(self.alloc, Level::Error, label, self.source, message)?)
@@ -107,10 +112,37 @@ impl Refused<'_, '_> {
         help: Option<String>,
     ) -> Result<(), AllocError>
         ensures { OnOk result (AddsLater self.now.source.layers.now self.now.source.position
-            (at part code (map path_step path.now) ∷ []) findings.old.items findings.new.items) }
+            (at part code (map path_step path.now)
+            (says wrong.now (option_copied expected.entry) (option_map string_bytes help)) ∷ [])
+            findings.old.items findings.new.items) }
     {
         let expected = owned(self.alloc, expected)?;
         let mut found = self.part_at(code, path, part, wrong)?;
+        found.expected = expected;
+        found.help = help;
+        self.add_finding(findings, found)?;
+        Ok(())
+    }
+
+    /// Adds that a name, which is the value at a path, is none of some known ones: these are
+    /// expected, and the one that is meant is the help.
+    pub fn add_none_of(
+        &self,
+        findings: &mut Vec<Finding>,
+        code: Code,
+        path: &[Step<'_>],
+        wrong: &str,
+        name: &str,
+        known: &[&str],
+    ) -> Result<(), AllocError>
+        ensures { OnOk result (AddsLater self.now.source.layers.now self.now.source.position
+            (at SpanPart.Value code (map path_step path.now)
+            (says_none_of wrong.now name.now (texts known.now)) ∷ []) findings.old.items
+            findings.new.items) }
+    {
+        let help = near_hint(self.alloc, name, known)?;
+        let expected = one_of(self.alloc, known)?;
+        let mut found = self.at(code, path, wrong)?;
         found.expected = expected;
         found.help = help;
         self.add_finding(findings, found)?;
@@ -128,8 +160,9 @@ impl Refused<'_, '_> {
         help: Option<String>,
     ) -> Result<(), AllocError>
         ensures { OnOk result (AddsLater self.now.source.layers.now self.now.source.position
-            (at SpanPart.Value code (map path_step path.now) ∷ []) findings.old.items
-            findings.new.items) }
+            (at SpanPart.Value code (map path_step path.now)
+            (says wrong.now (Some expected.now) (option_map string_bytes help)) ∷ [])
+            findings.old.items findings.new.items) }
     {
         self.add_fault(
             findings,
@@ -153,8 +186,9 @@ impl Refused<'_, '_> {
         help: Option<String>,
     ) -> Result<(), AllocError>
         ensures { OnOk result (AddsLater self.now.source.layers.now self.now.source.position
-            (at SpanPart.Key code (map path_step path.now) ∷ []) findings.old.items
-            findings.new.items) }
+            (at SpanPart.Key code (map path_step path.now)
+            (says wrong.now (Some expected.now) (option_map string_bytes help)) ∷ [])
+            findings.old.items findings.new.items) }
     {
         self.add_fault(
             findings,
@@ -205,12 +239,24 @@ impl Refused<'_, '_> {
         wrong: &str,
     ) -> Result<(), AllocError>
         ensures { OnOk result (AddsLater self.now.source.layers.now self.now.source.position
-            (of_file code ∷ []) findings.old.items findings.new.items) }
+            (of_file code (says wrong.now None None) ∷ []) findings.old.items
+            findings.new.items) }
     {
         let found = self.finding(code, String::from_str(self.alloc, wrong)?)?;
         self.add_finding(findings, found)?;
         Ok(())
     }
+}
+
+/// One of the known names, in words, if there are some.
+fn one_of(alloc: Global, known: &[&str]) -> Result<Option<String>, AllocError>
+    ensures { IfOk result (λ expected. option_map string_bytes expected
+        ≡ one_of (texts known.now)) }
+{
+    if known.is_empty() {
+        return Ok(None);
+    }
+    Ok(Some(quoted(alloc, known, " or ")?))
 }
 
 /// The place of the value at a path, or of its key: the one that is given, if it has lines, or else

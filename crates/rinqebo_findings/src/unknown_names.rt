@@ -1,17 +1,17 @@
 //! Findings of rules that name groups and scripts which they may not.
-ghost use Rattle.std.specs.Prelude.{◌∷◌, [], OnOk, flat_map, map};
-ghost use Rattle.nextest_places.specs.Spans.Paths.{path_step};
+ghost use Rattle.std.specs.Prelude.{◌≡◌, IfOk, OnOk, flat_map, map, string_bytes};
 ghost use Rattle.rinqebo_faults.specs.Edits.{names_view};
-ghost use Rattle.rinqebo_request.specs.declared.files.places.SpanPart.TheVariants as parts;
-ghost use Rattle.rinqebo_findings.specs.Later.{AddsLater, AddsScriptErrors, AddsUnknownGroups, at, list_wrapper_faults, unknown_group_faults, unknown_script_faults, wrong_kind_faults};
+ghost use Rattle.rinqebo_faults.specs.Hints.{texts};
+ghost use Rattle.rinqebo_findings.specs.Later.{AddsLater, AddsScriptErrors, AddsUnknownGroups, list_wrapper_faults, unknown_group_faults, unknown_script_faults, wrong_kind_faults};
+ghost use Rattle.rinqebo_findings.specs.LaterWords.{group_names, needed_words, other_use};
 
 use crate::refused::Refused;
-use nextest_places::Step;
+use nextest_scripts::ProfileScriptType;
 use nextest_sources::{
     ProfileListScriptUsesRunFiltersError, ProfileScriptErrors, ProfileUnknownScriptError,
     ProfileWrongConfigScriptTypeError, UnknownTestGroupError,
 };
-use rinqebo_faults::{Namings, is_among, names_of, near_hint, quoted};
+use rinqebo_faults::{Namings, is_among, names_of};
 use rinqebo_report::{Code, Finding};
 use std::alloc::{AllocError, Global};
 use std::collections::BTreeSet;
@@ -26,42 +26,16 @@ const SCRIPT_USES: [&str; 3] = ["setup", "list-wrapper", "run-wrapper"];
 const GLOBAL_GROUP: &str = "@global";
 
 /// The names of groups that a rule may set.
-fn group_names<'k>(alloc: Global, known: &'k BTreeSet<String>) -> Result<Vec<&'k str>, AllocError> {
-    let mut names = names_of(alloc, known)?;
-    if !is_among(&names, GLOBAL_GROUP) {
-        names.push(GLOBAL_GROUP)?;
-    }
-    Ok(names)
-}
-
-/// The known names, in words, if there are some.
-fn one_of(alloc: Global, known: &[&str]) -> Result<Option<String>, AllocError> {
-    if known.is_empty() {
-        return Ok(None);
-    }
-    Ok(Some(quoted(alloc, known, " or ")?))
-}
-
-/// Adds that a name at a path is none of some known ones.
-fn add_unknown(
-    refused: &Refused<'_, '_>,
-    findings: &mut Vec<Finding>,
-    code: Code,
-    path: &[Step<'_>],
-    wrong: &str,
-    name: &str,
-    known: &[&str],
-) -> Result<(), AllocError>
-    ensures { OnOk result (AddsLater refused.now.source.layers.now refused.now.source.position
-        (at parts.Value code (map path_step path.now) ∷ []) findings.old.items findings.new.items) }
+fn group_names<'k>(alloc: Global, known: &'k BTreeSet<String>) -> Result<Vec<&'k str>, AllocError>
+    ensures { IfOk result (λ names. texts names.items
+        ≡ group_names (map string_bytes known.entry.now.keys)) }
 {
-    let alloc = refused.alloc;
-    let help = near_hint(alloc, name, known)?;
-    let expected = one_of(alloc, known)?;
-    let mut found = refused.at(code, path, wrong)?;
-    found.expected = expected;
-    found.help = help;
-    refused.add_finding(findings, found)
+    let mut names = names_of(alloc, known)?;
+    if is_among(&names, GLOBAL_GROUP) {
+        return Ok(names);
+    }
+    names.push(GLOBAL_GROUP)?;
+    Ok(names)
 }
 
 /// Adds that a group is not known, which rules name, unless its definition may be refused.
@@ -73,8 +47,8 @@ fn add_unknown_group(
     known: &BTreeSet<String>,
 ) -> Result<(), AllocError>
     ensures { OnOk result (AddsLater refused.now.source.layers.now refused.now.source.position
-        (unknown_group_faults namings.now (names_view refused.now.left_out.now.groups) error.now)
-        findings.old.items findings.new.items) }
+        (unknown_group_faults namings.now (names_view refused.now.left_out.now.groups)
+        (map string_bytes known.now.keys) error.now) findings.old.items findings.new.items) }
 {
     let alloc = refused.alloc;
     let profile = error.profile_name.as_str();
@@ -86,7 +60,7 @@ fn add_unknown_group(
     let wrong = format!(in alloc; "unknown group `{name}`")?;
     let names = group_names(alloc, known)?;
     let code = Code::UnknownGroup;
-    add_unknown(refused, findings, code, &path, wrong.as_str(), name, &names)?;
+    refused.add_none_of(findings, code, &path, wrong.as_str(), name, &names)?;
     Ok(())
 }
 
@@ -98,8 +72,8 @@ pub fn add_unknown_groups(
     known: &BTreeSet<String>,
 ) -> Result<(), AllocError>
     ensures { OnOk result (AddsUnknownGroups refused.now.source.layers.now
-        refused.now.source.position (names_view refused.now.left_out.now.groups) errors.now
-        findings.old.items findings.new.items) }
+        refused.now.source.position (names_view refused.now.left_out.now.groups)
+        (map string_bytes known.now.keys) errors.now findings.old.items findings.new.items) }
 {
     let tree = refused.source.tree();
     let namings = Namings::of(refused.alloc, tree, "overrides", &GROUP_USES)?;
@@ -118,8 +92,8 @@ fn add_unknown_script(
     known: &[&str],
 ) -> Result<(), AllocError>
     ensures { OnOk result (AddsLater refused.now.source.layers.now refused.now.source.position
-        (unknown_script_faults namings.now (names_view refused.now.left_out.now.scripts) error.now)
-        findings.old.items findings.new.items) }
+        (unknown_script_faults namings.now (names_view refused.now.left_out.now.scripts)
+        (texts known.now) error.now) findings.old.items findings.new.items) }
 {
     let profile = error.profile_name.as_str();
     let id = error.name.to_string(refused.alloc)?;
@@ -130,7 +104,7 @@ fn add_unknown_script(
     let path = namings.path_of(profile, &SCRIPT_USES, name)?;
     let wrong = format!(in refused.alloc; "unknown script `{name}`")?;
     let code = Code::UnknownScript;
-    add_unknown(refused, findings, code, &path, wrong.as_str(), name, known)?;
+    refused.add_none_of(findings, code, &path, wrong.as_str(), name, known)?;
     Ok(())
 }
 
@@ -143,8 +117,8 @@ fn add_unknown_scripts(
     known: &BTreeSet<String>,
 ) -> Result<(), AllocError>
     ensures { OnOk result (AddsLater refused.now.source.layers.now refused.now.source.position
-        (flat_map (unknown_script_faults namings.now (names_view refused.now.left_out.now.scripts))
-        errors.now) findings.old.items findings.new.items) }
+        (flat_map (unknown_script_faults namings.now (names_view refused.now.left_out.now.scripts)
+        (map string_bytes known.now.keys)) errors.now) findings.old.items findings.new.items) }
 {
     let names = names_of(refused.alloc, known)?;
     for error in errors {
@@ -153,15 +127,28 @@ fn add_unknown_scripts(
     Ok(())
 }
 
-/// What is expected of the script that a rule names at a key, and what to do with one of another
-/// kind.
-fn other_use(alloc: Global, key: &str, name: &str) -> Result<(&'static str, String), AllocError> {
-    if key == "setup" {
-        let help = format!(in alloc; "name `{name}` at `run-wrapper` or `list-wrapper`")?;
-        return Ok(("a setup script", help));
+/// The kind of script that a use needs, in words.
+fn needed_words(attempted: ProfileScriptType) -> &'static str
+    ensures { result.now ≡ needed_words attempted }
+{
+    match attempted {
+        ProfileScriptType::Setup => "a setup script",
+        ProfileScriptType::ListWrapper | ProfileScriptType::RunWrapper => "a wrapper script",
     }
-    let help = format!(in alloc; "name `{name}` at `setup`")?;
-    Ok(("a wrapper script", help))
+}
+
+/// Where a rule may name a script of another kind than a use needs.
+fn other_use(alloc: Global, attempted: ProfileScriptType, name: &str) -> Result<String, AllocError>
+    ensures { IfOk result (λ help. string_bytes help ≡ other_use attempted name.now) }
+{
+    match attempted {
+        ProfileScriptType::Setup => {
+            format!(in alloc; "name `{name}` at `run-wrapper` or `list-wrapper`")
+        }
+        ProfileScriptType::ListWrapper | ProfileScriptType::RunWrapper => {
+            format!(in alloc; "name `{name}` at `setup`")
+        }
+    }
 }
 
 /// Adds that a rule names a script of the wrong kind, unless its definition may be refused.
@@ -185,7 +172,8 @@ fn add_wrong_kind(
     let attempted = error.attempted.to_string(alloc)?;
     let key = attempted.as_str();
     let path = namings.path_of(profile, &[key], name)?;
-    let (expected, help) = other_use(alloc, key, name)?;
+    let expected = needed_words(error.attempted);
+    let help = other_use(alloc, error.attempted, name)?;
     let wrong = format!(in alloc; "`{name}` is a {} script", error.actual)?;
     let code = Code::WrongScriptKind;
     refused.add_value(findings, code, &path, wrong.as_str(), expected, Some(help))?;
@@ -258,8 +246,8 @@ pub fn add_script_errors(
     known: &BTreeSet<String>,
 ) -> Result<(), AllocError>
     ensures { OnOk result (AddsScriptErrors refused.now.source.layers.now
-        refused.now.source.position (names_view refused.now.left_out.now.scripts) errors.now
-        findings.old.items findings.new.items) }
+        refused.now.source.position (names_view refused.now.left_out.now.scripts)
+        (map string_bytes known.now.keys) errors.now findings.old.items findings.new.items) }
 {
     let tree = refused.source.tree();
     let namings = Namings::of(refused.alloc, tree, "scripts", &SCRIPT_USES)?;

@@ -15,9 +15,10 @@ loop-feature-preserved c =
     let index = c.loop-feature.feature-index in
     let feature = get_or c.args.features.now index SetupScripts in
     let name : c.as_str.result.now ≡ experimental_text feature = c.as_str.ensures.value ∙ c.in_ok-name.ensures.ok in
-    adds_next layers position (λ (f : ConfigExperimental). feature_fault file (experimental_text f) ∷ [])
+    adds_next layers position
+    (λ (f : ConfigExperimental). feature_fault file c.args.features.now (experimental_text f) ∷ [])
     c.args.features.now index feature _ _ _ (take_more c.args.features.now index SetupScripts c.loop-feature-test.true)
     c.loop-feature.invariant
     (subst
-    (λ n. AddsLater layers position (feature_fault file n ∷ []) c.loop-feature.findings.items
+    (λ n. AddsLater layers position (feature_fault file c.args.features.now n ∷ []) c.loop-feature.findings.items
     c.add_feature.new.findings.items) name c.in_ok-add_feature.ensures)

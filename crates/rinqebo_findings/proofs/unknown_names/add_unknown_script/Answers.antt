@@ -1,13 +1,16 @@
-use Rattle.std.proofs.Common.{◌≡◌, [], ◌∙◌, ap, List, ℕ, map, string_bytes, sym, true, false}
+use Rattle.std.proofs.Common.{◌≡◌, [], ◌++◌, ◌∙◌, ap, codes, List, ℕ, map, refl, string_bytes, sym, true, false}
 use Rattle.nextest_places.specs.Spans.Paths.{path_step}
 use Rattle.nextest_scripts.specs.ScriptId.{script_text}
 use Rattle.rinqebo_report.specs.declared.codes.code.Code.TheVariants.{UnknownScript}
 use Rattle.rinqebo_request.specs.declared.files.places.SpanPart.TheVariants as parts
 use Rattle.rinqebo_faults.specs.Edits.{may_be, names_view}
+use Rattle.rinqebo_faults.specs.Hints.{texts}
 use Rattle.rinqebo_faults.specs.Namings.{naming_path}
 use Rattle.rinqebo_findings.specs.Later.{name_fault, script_uses}
-use Rattle.rinqebo_findings.proofs.Later.{adds_at, adds_none, adds_same}
+use Rattle.rinqebo_findings.specs.LaterWords.{says_unknown_script}
+use Rattle.rinqebo_findings.proofs.Later.{adds_none, adds_same}
 use Rattle.rinqebo_findings.proofs.LeftOut.{kept, left_out}
+use Rattle.rinqebo_findings.proofs.SameWords.{adds_as, same_none_of}
 use Rattle.rinqebo_findings.proofs.unknown_names.add_unknown_script.Goals as goal
 
 pub returns-then-has : goal.returns-then-has
@@ -17,9 +20,12 @@ returns-then-has c =
     let names = names_view c.args.refused.now.left_out.now.scripts in
     let name = script_text error.name in
     let profile = string_bytes error.profile_name in
-    let is : may_be names name ≡ true = ap (may_be names) (sym (c.as_str-name.ensures.value ∙ c.in_ok-id.ensures.ok)) ∙ sym c.has.ensures ∙ c.if-has.true in
+    let is : may_be names name ≡ true =
+    ap (may_be names) (sym (c.as_str-name.ensures.value ∙ c.in_ok-id.ensures.ok)) ∙ sym c.has.ensures
+    ∙ c.if-has.true in
     adds_same source.layers.now source.position [] _ _ _
-    (left_out names name (name_fault UnknownScript c.args.namings.now profile script_uses name) is)
+    (left_out names name (name_fault UnknownScript c.args.namings.now profile script_uses name
+    (says_unknown_script name (texts c.args.known.now))) is)
     (adds_none source.layers.now source.position _)
 
 pub returns : goal.returns
@@ -29,11 +35,18 @@ returns c =
     let names = names_view c.args.refused.now.left_out.now.scripts in
     let name = script_text error.name in
     let profile = string_bytes error.profile_name in
-    let is : may_be names name ≡ false = ap (may_be names) (sym (c.as_str-name.ensures.value ∙ c.in_ok-id.ensures.ok)) ∙ sym c.has.ensures ∙ c.if-has.false in
+    let same : c.as_str-name.result.now ≡ name = c.as_str-name.ensures.value ∙ c.in_ok-id.ensures.ok in
+    let is : may_be names name ≡ false = ap (may_be names) (sym same) ∙ sym c.has.ensures ∙ c.if-has.false in
     adds_same source.layers.now source.position _ _ _ _
-    (kept names name (name_fault UnknownScript c.args.namings.now profile script_uses name) is)
-    (adds_at source.layers.now source.position parts.Value UnknownScript _ _ _ _
+    (kept names name (name_fault UnknownScript c.args.namings.now profile script_uses name
+    (says_unknown_script name (texts c.args.known.now))) is)
+    (adds_as source.layers.now source.position parts.Value UnknownScript _ _ _ _ _ _
     (ap (map path_step) c.deref.ensures.value ∙ c.in_ok-path.ensures
-    ∙ ap (λ (p : List ℕ). naming_path c.args.namings.now p script_uses c.as_str-name.result.now) c.as_str-profile.ensures.value
-    ∙ ap (λ (n : List ℕ). naming_path c.args.namings.now profile script_uses n) (c.as_str-name.ensures.value ∙ c.in_ok-id.ensures.ok))
-    c.in_ok-add_unknown.ensures)
+    ∙ ap (λ (p : List ℕ). naming_path c.args.namings.now p script_uses c.as_str-name.result.now)
+    c.as_str-profile.ensures.value
+    ∙ ap (λ (n : List ℕ). naming_path c.args.namings.now profile script_uses n) same)
+    (same_none_of _ _ _ _ _ _
+    (c.as_str.ensures.value ∙ c.in_ok-wrong.ensures.ok
+    ∙ ap (λ (n : List ℕ). codes "unknown script `" ++ (n ++ codes "`")) same)
+    same refl)
+    c.in_ok-add_none_of.ensures)

@@ -1,4 +1,4 @@
-use Rattle.std.proofs.Common.{take}
+use Rattle.std.proofs.Common.{map, string_bytes, take}
 use Rattle.std.specs.Prelude.{flat_map}
 use Rattle.rinqebo_faults.specs.Edits.{names_view}
 use Rattle.rinqebo_findings.specs.Later.{AddsLater, unknown_script_faults}
@@ -8,4 +8,7 @@ use Rattle.rinqebo_findings.proofs.unknown_names.add_unknown_scripts.Given as go
 abbrev pub invariant-loop-error : goal.invariant-loop-error
 invariant-loop-error l =
     AddsLater l.refused.source.layers.now l.refused.source.position
-    (flat_map (unknown_script_faults l.namings (names_view l.refused.left_out.now.scripts)) (take l.error-index l.errors)) l.initial.findings.items l.findings.items
+    (flat_map
+    (unknown_script_faults l.namings (names_view l.refused.left_out.now.scripts) (map string_bytes l.known.keys))
+    (take l.error-index l.errors))
+    l.initial.findings.items l.findings.items

@@ -7,7 +7,9 @@ use Rattle.rinqebo_findings.proofs.unknown_names.add_wrong_kinds.Goals as goal
 pub loop-error-preserved : goal.loop-error-preserved
 loop-error-preserved c =
     let source = c.args.refused.now.source in
-    adds_next source.layers.now source.position (wrong_kind_faults c.args.namings.now (names_view c.args.refused.now.left_out.now.scripts)) c.args.errors.now c.loop-error.error-index
+    adds_next source.layers.now source.position
+    (wrong_kind_faults c.args.namings.now (names_view c.args.refused.now.left_out.now.scripts))
+    c.args.errors.now c.loop-error.error-index
     c.error-item.result _ _ _ (taken _ _ _ c.loop-error-test.true c.error-item.is)
     c.loop-error.invariant
     c.in_ok-add_wrong_kind.ensures

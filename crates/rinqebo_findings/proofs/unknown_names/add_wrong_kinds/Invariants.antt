@@ -8,4 +8,5 @@ use Rattle.rinqebo_findings.proofs.unknown_names.add_wrong_kinds.Given as goal
 abbrev pub invariant-loop-error : goal.invariant-loop-error
 invariant-loop-error l =
     AddsLater l.refused.source.layers.now l.refused.source.position
-    (flat_map (wrong_kind_faults l.namings (names_view l.refused.left_out.now.scripts)) (take l.error-index l.errors)) l.initial.findings.items l.findings.items
+    (flat_map (wrong_kind_faults l.namings (names_view l.refused.left_out.now.scripts))
+    (take l.error-index l.errors)) l.initial.findings.items l.findings.items
