@@ -1,8 +1,13 @@
 pub mod Choosing
 pub mod Compiling
+pub mod Erring
 pub mod Featured
 pub mod Joining
+pub mod LeavingOutValues
+pub mod LeftOutAfter
 pub mod Loads
+pub mod Naming
 pub mod Placing
+pub mod ReadAgain
 pub mod Reporting
 pub mod Rounds

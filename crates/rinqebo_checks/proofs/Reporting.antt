@@ -1,17 +1,23 @@
 -- Findings that report faults.
-use Rattle.std.proofs.Common.{◌≡◌, ◌<◌, ◌≤◌, ℕ, List, [], ◌∷◌, ◌++◌, ◌+◌, length, map, take, get_or, Some, inl, inr, refl, sym, ap, ◌∙◌, subst, arith}
-use Rattle.std.proofs.lemmas.List.{append_assoc, append-nil, length-take, take_all, take_more}
+use Rattle.std.proofs.Common.{◌≡◌, ◌<◌, ◌≤◌, ℕ, List, [], ◌∷◌, ◌++◌, ◌+◌, length, map, take, get_or, None, Some, String, inl, inr, refl, sym, ap, ◌∙◌, subst, arith}
+use Rattle.std.proofs.lemmas.List.{append_assoc, append-nil, length-take, map-append, take_all, take_more}
+use Rattle.std.proofs.lemmas.List.Elements.{All-push}
+use Rattle.std.specs.List.{All}
+use Rattle.std.specs.declared.alloc.Global.{Global}
 use Rattle.nextest_documents.specs.Merge.{over}
-use Rattle.nextest_shape.specs.Faults.Found.{Adds, found_view, refused_at}
+use Rattle.nextest_places.specs.declared.step.Step.{Step}
 use Rattle.nextest_shape.specs.declared.faults.found.FoundFault.{FoundFault}
+use Rattle.nextest_shape.specs.Faults.Found.{Adds, found_view, refused_at}
 use Rattle.nextest_tables.specs.Defaults.{defaults}
 use Rattle.nextest_tables.specs.Tables.{a_file}
+use Rattle.nextest_tree.specs.declared.fault.ElementCause.TheVariants as causes
+use Rattle.nextest_tree.specs.declared.fault.ElementCause.{ElementCause}
 use Rattle.nextest_tree.specs.Node.{Node}
 use Rattle.nextest_tree.specs.Schema as schema
-use Rattle.rinqebo_request.specs.declared.files.layers.Layer.{Layer}
 use Rattle.rinqebo_report.specs.declared.finding.Finding.{Finding}
+use Rattle.rinqebo_request.specs.declared.files.layers.Layer.{Layer}
 use Rattle.rinqebo_checks.specs.declared.value_faults.ValueFault.{ValueFault}
-use Rattle.rinqebo_checks.specs.Faults.{IsFindingOf, IsInPlace, IsJoined, IsKeyFinding, ReportDocument, ReportFiles, ReportValues, ReportFaults, document_in}
+use Rattle.rinqebo_checks.specs.Faults.{HasStray, IsFindingOf, IsInPlace, IsJoined, IsKeyFinding, IsStrayBelow, ReportDocument, ReportFiles, ReportValues, ReportFaults, document_in}
 
 module _ {Fault : Type 0} (IsOf : Fault → Finding → Type 0) (Joined : Fault → Type 0) where
   -- one more fault, which is joined
@@ -69,20 +75,48 @@ module _ {Fault : Type 0} (IsOf : Fault → Finding → Type 0) (Joined : Fault 
   up_to_end faults place findings no_more reported =
       subst (λ fs. ReportFaults IsOf Joined fs findings) (take_all place faults no_more) reported
 
+-- a fault that is not that of a table which lacks a key has no stray key
+pub no_stray_below : (tree : Node) (cause : ElementCause) (path : List Step)
+    → ((key : String Global) → cause ≡ causes.Missing key → ⊥) → IsStrayBelow tree path cause None
+no_stray_below tree causes.WrongKind path other = refl
+no_stray_below tree (causes.Missing key) path other = absurd (other key refl)
+no_stray_below tree (causes.BadValue given expected) path other = refl
+no_stray_below tree causes.OutOfRange path other = refl
+no_stray_below tree causes.UnknownField path other = refl
+no_stray_below tree causes.Memory path other = refl
+
+-- one more fault of those that are left
+pub faults_more : (made all : List ValueFault) (fault : ValueFault) (left rest found : List FoundFault)
+    → all ≡ made ++ fault ∷ [] → left ≡ fault.fault ∷ rest → map (λ f. f.fault) made ++ left ≡ found
+    → map (λ f. f.fault) all ++ rest ≡ found
+faults_more made all fault left rest found all_is left_is so_far =
+    ap (λ fs. map (λ (f : ValueFault). f.fault) fs ++ rest) all_is
+    ∙ ap (λ fs. fs ++ rest) (map-append (λ (f : ValueFault). f.fault) made (fault ∷ []))
+    ∙ append_assoc (map (λ (f : ValueFault). f.fault) made) (fault.fault ∷ []) rest
+    ∙ ap (λ fs. map (λ (f : ValueFault). f.fault) made ++ fs) (sym left_is) ∙ so_far
+
+-- one more fault, with its stray key
+pub strays_more : (tree : Node) (made all : List ValueFault) (fault : ValueFault) → all ≡ made ++ fault ∷ []
+    → All (HasStray tree) made → HasStray tree fault → All (HasStray tree) all
+strays_more tree made all fault all_is strays has =
+    subst (All (HasStray tree)) (sym all_is) (All-push (HasStray tree) made fault strays has)
+
 -- the findings of the values of a document over the defaults, and of its unknown keys
 pub of_values_found : (layers : List Layer) (source : ℕ) (document laid : Node) (found keys keys_given : List FoundFault)
     (made given again : List ValueFault) (of_faults of_keys findings : List Finding) → laid ≡ over document defaults
     → Adds [] found (schema.faults a_file [] laid) → Adds [] keys (refused_at (schema.unknown a_file [] laid))
-    → map (λ f. f.fault) made ≡ found → given ≡ made → again ≡ made → keys_given ≡ keys
+    → map (λ f. f.fault) made ≡ found → All (HasStray laid) made → given ≡ made → again ≡ made → keys_given ≡ keys
     → ReportFaults (IsFindingOf layers source) (IsJoined given) given of_faults
     → ReportFaults (λ key. IsKeyFinding layers source key.path.items) (λ key. IsInPlace again key.path.items) keys_given of_keys
     → findings ≡ of_faults ++ of_keys → ReportValues layers source document findings
-of_values_found layers source document laid found keys keys_given made given again of_faults of_keys findings laid_is are_all are_keys same same_made same_again same_keys reported keys_reported whole =
+of_values_found layers source document laid found keys keys_given made given again of_faults of_keys findings laid_is are_all are_keys same strays same_made same_again same_keys reported keys_reported whole =
     record {
       found = given;
       are_all = subst (λ fs. Adds [] fs (schema.faults a_file [] (over document defaults)))
           (sym (ap (map (λ f. f.fault)) same_made ∙ same))
           (subst (λ node. Adds [] found (schema.faults a_file [] node)) laid_is are_all);
+      have_strays = subst (All (HasStray (over document defaults))) (sym same_made)
+          (subst (λ node. All (HasStray node) made) laid_is strays);
       of_faults = of_faults;
       reported = reported;
       keys = keys;

@@ -15,35 +15,51 @@ use Rattle.rinqebo_faults.specs.declared.edits.Edits.{Edits}
 use Rattle.rinqebo_load.specs.Sessions.{readings}
 use Rattle.rinqebo_load.specs.declared.session.Session.{Session}
 use Rattle.rinqebo_report.specs.declared.finding.Finding.{Finding}
-use Rattle.rinqebo_checks.specs.Rounds.{IsRound, ReportOneRound, ReportRound, ReportRounds, ReportSomeRounds}
+use Rattle.rinqebo_checks.specs.ReadAgain.{ReadingView}
+use Rattle.rinqebo_checks.specs.Rounds.{IsLeftOutAfterAny, IsRound, ReportOneRound, ReportRound, ReportRounds, ReportSomeRounds}
 use Rattle.rinqebo_checks.specs.declared.edited_files.Round.{Round}
 
 module _ (session : Session) where
-  with_round : (rounds : List Round) (findings own : List Finding) (round : Round) → IsRound session round
-      → ReportRound session.layers.items round own → ReportRounds session rounds findings
-      → ReportRounds session (rounds ++ round ∷ []) (findings ++ own)
-  with_round [] findings own round is reports none =
-      (own, [], ap (λ fs. fs ++ own) none ∙ sym (append-nil own), is, reports, refl)
-  with_round (r ∷ rs) findings own round is reports some = (
+  with_round : (rounds : List Round) (first last next : ReadingView) (findings own : List Finding) (round : Round)
+      → IsRound session last round → ReportRound session.layers.items last.edits.left_out round own
+      → IsLeftOutAfterAny session.layers.items round.refusal last next
+      → ReportRounds session first last rounds findings
+      → ReportRounds session first next (rounds ++ round ∷ []) (findings ++ own)
+  with_round [] first last next findings own round is reports left_out none = (
+    own,
+    [],
+    next,
+    ap (λ fs. fs ++ own) none.1 ∙ sym (append-nil own),
+    subst (λ reading. IsRound session reading round) none.0 is,
+    subst (λ (reading : ReadingView). ReportRound session.layers.items reading.edits.left_out round own) none.0 reports,
+    subst (λ reading. IsLeftOutAfterAny session.layers.items round.refusal reading next) none.0 left_out,
+    (refl, refl),
+  )
+  with_round (r ∷ rs) first last next findings own round is reports left_out some = (
     some.0,
     some.1 ++ own,
-    ap (λ fs. fs ++ own) some.2 ∙ append_assoc some.0 some.1 own,
-    some.3,
+    some.2,
+    ap (λ fs. fs ++ own) some.3 ∙ append_assoc some.0 some.1 own,
     some.4,
-    with_round rs some.1 own round is reports some.5,
+    some.5,
+    some.6,
+    with_round rs some.2 last next some.1 own round is reports left_out some.7,
   )
 
   -- no round yet
-  pub no_round : (findings : List Finding) → findings ≡ [] → ReportSomeRounds session findings
-  no_round findings none = record { rounds = []; reported = none }
+  pub no_round : (reading : ReadingView) (findings : List Finding) → findings ≡ []
+      → ReportSomeRounds session reading reading findings
+  no_round reading findings none = record { rounds = []; reported = (refl, none) }
 
   -- one more round
-  pub one_round : (findings own all : List Finding) → all ≡ findings ++ own
-      → ReportSomeRounds session findings → ReportOneRound session own → ReportSomeRounds session all
-  one_round findings own all whole some one =
-      subst (ReportSomeRounds session) (sym whole) (record {
+  pub one_round : (first last next : ReadingView) (findings own all : List Finding) → all ≡ findings ++ own
+      → ReportSomeRounds session first last findings → ReportOneRound session last next own
+      → ReportSomeRounds session first next all
+  one_round first last next findings own all whole some one =
+      subst (ReportSomeRounds session first next) (sym whole) (record {
         rounds = some.rounds ++ one.round ∷ [];
-        reported = with_round some.rounds findings own one.round one.is one.reported some.reported;
+        reported = with_round some.rounds first last next findings own one.round one.is one.reported one.left_out
+            some.reported;
       })
 
 -- a load with engines, features, files and an ending that are the same

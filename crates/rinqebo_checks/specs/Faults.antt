@@ -1,6 +1,6 @@
 -- Which findings report which faults.
-use Rattle.std.specs.List.{All}
-use Rattle.std.specs.Prelude.{◌≡◌, ◌⊎◌, ℕ, List, [], ◌∷◌, ◌++◌, ◌+◌, Bool, true, false, Contains, IfSome, IsTrue, Option, None, Some, String, map, slice_get, slice_index_or}
+use Rattle.std.specs.List.{All, flat_map}
+use Rattle.std.specs.Prelude.{◌≡◌, ◌⊎◌, ℕ, List, [], ◌∷◌, ◌++◌, ◌+◌, Bool, true, false, Contains, IfSome, IsTrue, Option, None, Some, String, map, slice_get, slice_index_or, string_bytes}
 use Rattle.std.specs.Option.{option_and_then}
 use Rattle.std.specs.Borrow.{Bor}
 use Rattle.std.specs.declared.alloc.Global.{Global}
@@ -9,14 +9,16 @@ use Rattle.nextest_documents.specs.Text.{tree_of}
 use Rattle.nextest_shape.specs.Faults.Found.{Adds, refused_at}
 use Rattle.nextest_shape.specs.declared.faults.found.FoundFault.{FoundFault}
 use Rattle.nextest_places.specs.declared.step.Step.{Step}
+use Rattle.nextest_places.specs.Path.{stands_at}
 use Rattle.nextest_places.specs.Spans.Paths.{path_step}
 use Rattle.nextest_places.specs.Spans.Paths as paths
 use Rattle.nextest_sources.specs.Warnings.{Warning}
 use Rattle.nextest_sources.specs.declared.error.ConfigParseError.{ConfigParseError}
 use Rattle.nextest_tables.specs.Defaults.{defaults}
 use Rattle.nextest_tables.specs.Tables.{a_file}
-use Rattle.nextest_tree.specs.Node.{Node}
+use Rattle.nextest_tree.specs.Node.{Node, as_table}
 use Rattle.nextest_tree.specs.Schema as schema
+use Rattle.nextest_tree.specs.declared.fault.ElementCause.{ElementCause}
 use Rattle.nextest_tree.specs.declared.fault.ElementCause.TheVariants as causes
 use Rattle.rinqebo_load.specs.Warned.{IsRefusedLoad}
 use Rattle.rinqebo_load.specs.declared.session.Session.{Session}
@@ -26,14 +28,29 @@ use Rattle.rinqebo_request.specs.declared.files.layers.Layer.{Layer}
 use Rattle.rinqebo_request.specs.declared.files.places.SpanPart.TheVariants as parts
 use Rattle.rinqebo_report.specs.declared.finding.Finding.{Finding}
 use Rattle.rinqebo_report.specs.declared.finding.Level.TheVariants as levels
+use Rattle.rinqebo_faults.specs.Edits.{Edit, EditsView, mark_of, no_edits, remove, with_edits}
+use Rattle.rinqebo_faults.specs.ElementRepairs.{element_edits}
 use Rattle.rinqebo_faults.specs.Paths.{shown_path}
+use Rattle.rinqebo_faults.specs.Tables.{IsStray}
 use Rattle.rinqebo_checks.specs.declared.value_faults.ValueFault.{ValueFault}
 use Rattle.rinqebo_findings.specs.NextestForms.{ReportForms}
 use Rattle.rinqebo_findings.specs.Placed.{IsPlaceIn}
 use Rattle.rinqebo_findings.specs.Shown.{AreReported}
 use Rattle.rinqebo_findings.specs.Subjects.{IsElementFinding, subject}
 use Rattle.rinqebo_findings.specs.Words.{SaysUnknownKey, words_of}
+use Rattle.rinqebo_checks.specs.Reports.{HasError}
 use Rattle.rinqebo_checks.specs.Rounds.{ReportLoads}
+
+-- a key is the one that a table of a tree has in place of one that it lacks, if a fault is that it
+-- lacks one: the one that the table does not know and that is nearest, if one is near
+abbrev pub IsStrayBelow : Node → List Step → ElementCause → Option (Bor (List ℕ)) → Type 0
+IsStrayBelow tree table (causes.Missing key) stray =
+    IsStray table (option_and_then as_table (stands_at table tree)) (string_bytes key) stray
+IsStrayBelow tree table cause stray = stray ≡ None
+
+-- the key that a fault of a tree has with it is that one
+abbrev pub HasStray : Node → ValueFault → Type 0
+HasStray tree fault = IsStrayBelow tree fault.fault.path.items fault.fault.cause fault.stray
 
 -- a path is that of a key of the table at another one
 abbrev pub IsKeyIn : List Step → List Step → List ℕ → Type 0
@@ -107,12 +124,14 @@ ReportFaults IsOf Joined (fault ∷ faults) (finding ∷ findings) =
 
 -- Findings report what is wrong with the values of a document, which is a source: exactly the
 -- faults that the definitions list of it, over the table of defaults, each in turn, and then
--- exactly its unknown keys.
+-- exactly its unknown keys. A fault that a table lacks a key is reported with the key that the
+-- table has in place of it, if one is near.
 pub record ReportValues (layers : List Layer) (source : ℕ) (document : Node)
     (findings : List Finding) : Type 0 where
   pub found : List ValueFault
   pub are_all : Adds [] (map (λ f. f.fault) found)
       (schema.faults a_file [] (over document defaults))
+  pub have_strays : All (HasStray (over document defaults)) found
   pub of_faults : List Finding
   pub reported : ReportFaults (IsFindingOf layers source) (IsJoined found) found of_faults
   pub keys : List FoundFault
@@ -148,10 +167,44 @@ IsSound layer =
 abbrev pub AreSound : List Layer → Type 0
 AreSound layers = All IsSound layers
 
+-- what is left out for the key that a table has in place of one that it lacks
+abbrev pub stray_edits : ℕ → List Step → Option (Bor (List ℕ)) → List Edit
+stray_edits place table None = []
+stray_edits place table (Some key) =
+    remove (mark_of place (map path_step table ++ paths.key key.now ∷ [])) ∷ []
+
+-- what is left out for a fault of a value: this key, and the value
+abbrev pub fault_edits : ℕ → ValueFault → List Edit
+fault_edits place found =
+    stray_edits place found.fault.path.items found.stray
+    ++ element_edits place found.fault.cause found.fault.path.items
+
+-- What is left out of a document, which is a source: what the definitions list for each fault of
+-- its values, over the table of defaults.
+pub record LeavesOutValues (place : ℕ) (document : Node) (before after : EditsView) : Type 0 where
+  pub found : List ValueFault
+  pub are_all : Adds [] (map (λ f. f.fault) found)
+      (schema.faults a_file [] (over document defaults))
+  pub have_strays : All (HasStray (over document defaults)) found
+  pub edits : after ≡ with_edits before (flat_map (fault_edits place) found)
+
+-- the same of a document, if there is one
+abbrev pub LeavesOutDocument : ℕ → Option Node → (before after : EditsView) → Type 0
+LeavesOutDocument place (Some document) before after =
+    LeavesOutValues place document before after
+LeavesOutDocument place None before after = after ≡ before
+
+-- the same of the files of some of the layers, from a place on
+abbrev pub LeavesOutFiles : ℕ → List Layer → (before after : EditsView) → Type 0
+LeavesOutFiles place [] before after = after ≡ before
+LeavesOutFiles place (layer ∷ layers) before after =
+    (next : EditsView) × LeavesOutDocument place (document_in layer) before next
+    × LeavesOutFiles (place + 1) layers next after
+
 -- Some of the findings report what is wrong with the values in the files of a session, and their
 -- unknown keys. The others report a load of these files, with its warnings and its refusal, and
--- then loads without what is refused. If no value is refused, the first load is one of the whole
--- files.
+-- then loads without what is refused: all refused values, and what these loads refuse. If no value
+-- is refused, the first load is one of the whole files.
 pub record ReportAll (session : Session) (warnings : List Warning) (error : ConfigParseError)
     (findings : List Finding) : Type 0 where
   pub of_values : List Finding
@@ -160,6 +213,8 @@ pub record ReportAll (session : Session) (warnings : List Warning) (error : Conf
   pub of_sound : AreSound session.layers.items → IsTrue is_whole
   pub others : List Finding
   pub loads : ReportLoads is_whole session warnings error others
+  pub left_out : LeavesOutFiles 0 session.layers.items no_edits loads.before.edits
+  pub all_read : (place : ℕ) → loads.before.unread place ≡ false
   pub whole : findings ≡ of_values ++ others
 
 -- A report shows what is wrong with the files of a session: what its findings report is all that is
@@ -180,9 +235,10 @@ pub record ShowsChecked (session : Session) (warnings : List Warning) (error : C
   pub shows : AreReported (found ++ of_nextest) shown
 
 -- A report of a check shows what is wrong with files that are refused: what their load warns of and
--- refuses, and what later loads report.
+-- refuses, and what later loads report. Some of it is an error.
 pub record ShowsRefused (session : Session) (shown : List Finding) : Type 0 where
   pub warnings : List Warning
   pub error : ConfigParseError
   pub refused : IsRefusedLoad session [] warnings error
   pub shows : ShowsChecked session warnings error shown
+  pub has_error : HasError shown

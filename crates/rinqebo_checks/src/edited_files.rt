@@ -1,21 +1,29 @@
 //! The files of a run with edits, and the load of these.
-ghost use Rattle.std.specs.BTreeSet.{contains};
-ghost use Rattle.std.specs.Ordering.{nat_cmp};
-ghost use Rattle.std.specs.Prelude.{◌≡◌, [], IfOk, Some, false, is_some, map, option_map, string_bytes, true};
+ghost use Rattle.std.specs.Prelude.{◌≡◌, ◌+◌, [], IfOk, IfSome, None, OnOk, Some, length, map, option_map, string_bytes};
+ghost use Rattle.nextest_documents.specs.Text.{tree_of};
 ghost use Rattle.nextest_rules.specs.KnownView.{features_view};
 ghost use Rattle.nextest_sources.specs.Endings.{IsMemory};
 ghost use Rattle.nextest_sources.specs.Inputs.{inputs_view};
 ghost use Rattle.nextest_sources.specs.Sources.{file_view, outcome_view, tool_file_view};
+ghost use Rattle.nextest_tree.specs.View.{tree_view};
+ghost use Rattle.rinqebo_faults.specs.Edits.{edits_view, with_edits};
 ghost use Rattle.rinqebo_findings.specs.Later.{document_at};
 ghost use Rattle.rinqebo_load.specs.Sessions.{files_view};
-ghost use Rattle.rinqebo_checks.specs.Rounds.{AreAmong, AreReadAgain, AreSomeOf, IsNamedAgain, IsOutcomeAgain, IsReadAgain, IsRound, IsToolAgain, edited_view};
+ghost use Rattle.rinqebo_checks.specs.LeavingOut.{LeavesOutSettings, refused_edits};
+ghost use Rattle.rinqebo_checks.specs.ReadAgain.{file_again, files_again, reading_view, text_in_place, text_or, tool_again, tools_again};
+ghost use Rattle.rinqebo_checks.specs.Rounds.{AreAmong, IsRound, edited_view};
 
+use crate::leaving_out::{leave_out_refused, leave_out_settings, switch_on};
+use nextest_documents::{TextFault, lay_over, tree_from_text};
 use nextest_elements::ConfigExperimental;
 use nextest_load::LoadedConfig;
+use nextest_shape::file_faults;
 use nextest_sources::{
-    ConfigFileSelection, ConfigInputs, ConfigParseError, ConfigPath, DefaultConfigWarnings,
-    FileInput, ReadOutcome, ToolConfigFile,
+    ConfigFileSelection, ConfigInputs, ConfigParseError, ConfigParseErrorKind, ConfigPath,
+    DefaultConfigWarnings, FileInput, ReadOutcome, ToolConfigFile,
 };
+use nextest_tables::default_tree;
+use nextest_tree::Tree;
 use rinqebo_faults::{Edits, edited_document};
 use rinqebo_findings::SourceAt;
 use rinqebo_load::Session;
@@ -91,6 +99,26 @@ fn copy_outcome(alloc: Global, outcome: &ReadOutcome) -> Result<ReadOutcome, All
     }
 }
 
+/// The document that a text is, if it is one.
+fn document_of(alloc: Global, text: &str) -> Result<Option<Tree>, AllocError>
+    ensures { IfOk result (λ found. IfSome found
+        (λ tree. tree_of text.now ≡ Some (tree_view tree))) }
+{
+    match tree_from_text(alloc, text) {
+        Ok(tree) => Ok(Some(tree)),
+        Err(TextFault::NotDocument(_)) => Ok(None),
+        Err(TextFault::Memory) => Err(AllocError),
+    }
+}
+
+/// The place of the organisation's file among the layers: above the defaults and the files of
+/// tools.
+fn organisation_place(tools: &[ToolConfigFile]) -> usize
+    ensures { result ≡ length tools.now + 1 }
+{
+    tools.len() + 1
+}
+
 /// Returns why files are refused, if it is not that memory ran out.
 fn not_memory(error: ConfigParseError) -> Result<ConfigParseError, AllocError>
     ensures same { IfOk result (λ same. same ≡ error) }
@@ -136,16 +164,14 @@ impl Reading {
 
     /// The text of the source at a place among the layers, if it is a document: with the edits, and
     /// empty if it is not read.
-    pub fn text_at(
+    fn text_at(
         &self,
         alloc: Global,
         layers: &[Layer],
         place: usize,
     ) -> Result<Option<String>, AllocError>
-        ensures unread { contains nat_cmp self.now.unread place ≡ true
-            → IfOk result (λ text. option_map string_bytes text ≡ Some []) }
-        ensures read { contains nat_cmp self.now.unread place ≡ false
-            → IfOk result (λ text. is_some text ≡ is_some (document_at layers.now (Some place))) }
+        ensures { IfOk result (λ text. option_map string_bytes text
+            ≡ text_in_place (reading_view self.now) layers.now place) }
     {
         if self.unread.contains(&place) {
             return Ok(Some(String::new(alloc)));
@@ -160,6 +186,56 @@ impl Reading {
         }
     }
 
+    /// Leaves out what a check of a source refuses. Returns whether that is new.
+    pub fn leave_out(
+        &mut self,
+        alloc: Global,
+        layers: &[Layer],
+        place: usize,
+        kind: &ConfigParseErrorKind,
+    ) -> Result<bool, AllocError>
+        ensures edits { OnOk result (edits_view self.new.edits
+            ≡ with_edits (edits_view self.old.edits) (refused_edits place (length layers.now)
+            (document_at layers.now (Some place)) kind.now)) }
+        ensures unread { self.new.unread ≡ self.old.unread }
+    {
+        if let ConfigParseErrorKind::ExperimentalFeaturesNotEnabled { missing_features } = kind {
+            return Ok(switch_on(&mut self.switched_on, missing_features)?);
+        }
+        let before = self.edits.count();
+        leave_out_refused(alloc, &mut self.edits, layers, place, kind)?;
+        Ok(self.edits.count() > before)
+    }
+
+    /// Leaves out the settings with the faults of the document that is read in place of a source.
+    /// Returns whether they are new. `None` if this document has no faults.
+    pub fn leave_out_values(
+        &mut self,
+        alloc: Global,
+        layers: &[Layer],
+        place: usize,
+    ) -> Result<Option<bool>, AllocError>
+        ensures edits { OnOk result (LeavesOutSettings layers.now place (reading_view self.old)
+            (edits_view self.new.edits)) }
+        ensures none { IfOk result (λ are_new. are_new ≡ None → self.new.edits ≡ self.old.edits) }
+        ensures unread { self.new.unread ≡ self.old.unread }
+    {
+        let Some(text) = self.text_at(alloc, layers, place)? else {
+            return Ok(Some(false));
+        };
+        let Some(tree) = document_of(alloc, text.as_str())? else {
+            return Ok(Some(false));
+        };
+        let laid = lay_over(alloc, &tree, default_tree(alloc)?)?;
+        let faults = file_faults(alloc, &laid)?;
+        if faults.is_empty() {
+            return Ok(None);
+        }
+        let before = self.edits.count();
+        leave_out_settings(&mut self.edits, place, &faults)?;
+        Ok(Some(self.edits.count() > before))
+    }
+
     /// What is read in place of an outcome, of the source at a place among the layers.
     fn outcome_at(
         &self,
@@ -168,8 +244,8 @@ impl Reading {
         place: usize,
         outcome: &ReadOutcome,
     ) -> Result<ReadOutcome, AllocError>
-        ensures { IfOk result
-            (λ read. IsOutcomeAgain (outcome_view outcome.now) (outcome_view read)) }
+        ensures { IfOk result (λ read. outcome_view read ≡ text_or
+            (text_in_place (reading_view self.now) layers.now place) (outcome_view outcome.now)) }
     {
         match self.text_at(alloc, layers, place)? {
             Some(text) => Ok(ReadOutcome::Text(text)),
@@ -185,7 +261,8 @@ impl Reading {
         place: usize,
         file: &FileInput,
     ) -> Result<FileInput, AllocError>
-        ensures { IfOk result (λ read. IsReadAgain (file_view file.now) (file_view read)) }
+        ensures { IfOk result (λ read. file_view read
+            ≡ file_again (reading_view self.now) layers.now place (file_view file.now)) }
     {
         let path = ConfigPath::new(alloc, file.path.absolute_path())?;
         let outcome = self.outcome_at(alloc, layers, place, &file.outcome)?;
@@ -200,8 +277,8 @@ impl Reading {
         place: usize,
         tool: &ToolConfigFile,
     ) -> Result<ToolConfigFile, AllocError>
-        ensures { IfOk result
-            (λ read. IsToolAgain (tool_file_view tool.now) (tool_file_view read)) }
+        ensures { IfOk result (λ read. tool_file_view read
+            ≡ tool_again (reading_view self.now) layers.now place (tool_file_view tool.now)) }
     {
         let name = tool.tool.clone()?;
         let config_file = self.file_at(alloc, layers, place, &tool.config_file)?;
@@ -219,8 +296,8 @@ impl Reading {
         layers: &[Layer],
         tools: &[ToolConfigFile],
     ) -> Result<Vec<ToolConfigFile>, AllocError>
-        ensures { IfOk result (λ read. AreSomeOf IsToolAgain (map tool_file_view tools.now)
-            (map tool_file_view read.items)) }
+        ensures { IfOk result (λ read. map tool_file_view read.items
+            ≡ tools_again (reading_view self.now) layers.now (map tool_file_view tools.now)) }
     {
         let mut read = Vec::new(alloc);
         for (index, tool) in tools.iter().enumerate() {
@@ -241,8 +318,9 @@ impl Reading {
         place: usize,
         file: &Option<FileInput>,
     ) -> Result<Option<FileInput>, AllocError>
-        ensures { IfOk result (λ read. IsNamedAgain (option_map file_view file.now)
-            (option_map file_view read)) }
+        ensures { IfOk result (λ read. option_map file_view read
+            ≡ option_map (file_again (reading_view self.now) layers.now place)
+            (option_map file_view file.now)) }
     {
         match file {
             Some(file) => Ok(Some(self.file_at(alloc, layers, place, file)?)),
@@ -252,13 +330,14 @@ impl Reading {
 
     /// The files of a session with the edits.
     fn files(&self, alloc: Global, session: &Session<'_>) -> Result<EditedFiles, AllocError>
-        ensures { IfOk result (λ files.
-            AreReadAgain (files_view session.now.gathered.now) (edited_view files)) }
+        ensures { IfOk result (λ files. edited_view files
+            ≡ files_again (reading_view self.now) session.now.layers.items
+            (files_view session.now.gathered.now)) }
     {
         let gathered = session.gathered;
         let layers = session.layers.as_slice();
         let own = layers.len().saturating_sub(1);
-        let organisation = gathered.tools.len().saturating_add(1);
+        let organisation = organisation_place(&gathered.tools);
         let shared = self.file_at(alloc, layers, own, &gathered.paths.shared)?;
         let config_file = self.named_file(alloc, layers, own, &gathered.config_file)?;
         let organisation_file = self.named_file(
@@ -293,7 +372,7 @@ impl Reading {
 
     /// Loads the files of a session with the edits.
     pub fn load(&self, alloc: Global, session: &Session<'_>) -> Result<Round, AllocError>
-        ensures { IfOk result (IsRound session.now) }
+        ensures { IfOk result (IsRound session.now (reading_view self.now)) }
     {
         let files = self.files(alloc, session)?;
         let features = self.features_with(&session.features)?;

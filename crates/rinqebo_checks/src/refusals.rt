@@ -4,8 +4,8 @@ ghost use Rattle.nextest_elements.specs.OwnerView.{owner_view};
 ghost use Rattle.nextest_sources.specs.Errors.{source_of};
 ghost use Rattle.nextest_sources.specs.Sources.{Source, owner_of_source};
 ghost use Rattle.rinqebo_findings.specs.Compile.{compile_fault, compile_faults, section_code, section_fault};
-ghost use Rattle.rinqebo_findings.specs.Later.{AddsLater, document_at, of_file};
-ghost use Rattle.rinqebo_checks.specs.Refusals.{AddsRefusal, outcome_faults, refused_position, two_tables};
+ghost use Rattle.rinqebo_findings.specs.Later.{AddsLater, document_at};
+ghost use Rattle.rinqebo_checks.specs.Refusals.{AddsRefusal, outcome_faults, refused_position, second_file, two_tables};
 
 use nextest_elements::{IdentifierOwner, ToolName};
 use nextest_places::Step;
@@ -107,7 +107,7 @@ fn add_second_file(
     first: &ConfigPath,
 ) -> Result<(), AllocError>
     ensures { OnOk result (AddsLater refused.now.source.layers.now refused.now.source.position
-        (of_file Code.SecondToolFile ∷ []) findings.old.items findings.new.items) }
+        (second_file tool.now first.now ∷ []) findings.old.items findings.new.items) }
 {
     let wrong = format!(in refused.alloc; "the tool `{tool}` provides `{first}`, too")?;
     refused.add_whole(findings, Code::SecondToolFile, wrong.as_str())

@@ -1,9 +1,10 @@
 //! Reports of a session.
-ghost use Rattle.std.specs.Prelude.{◌≡◌, IfOk};
-ghost use Rattle.rinqebo_checks.specs.Reports.{IsReportOf};
+ghost use Rattle.std.specs.Prelude.{◌≡◌, [], IfOk};
+ghost use Rattle.rinqebo_checks.specs.Reports.{HasError, IsReportOf};
 ghost use Rattle.rinqebo_findings.specs.Shown.{AreReported};
 ghost use Rattle.nextest_sources.specs.WarningsView.{warnings_view};
 ghost use Rattle.rinqebo_checks.specs.Faults.{ShowsChecked, ShowsFaults};
+ghost use Rattle.rinqebo_load.specs.Warned.{IsRefusedLoad};
 
 use crate::found::{Found, all_findings};
 use nextest_sources::{ConfigParseError, DefaultConfigWarnings};
@@ -39,7 +40,8 @@ pub fn report_of(
     })
 }
 
-/// The report of a refused load: its warnings, and all that is wrong with the files.
+/// The report of a refused load: its warnings, and all that is wrong with the files. It has an
+/// error.
 pub fn report_of_refusal(
     alloc: Global,
     session: &Session<'_>,
@@ -49,6 +51,9 @@ pub fn report_of_refusal(
     ensures about { IfOk result (IsReportOf session.now) }
     ensures faults { IfOk result (λ report. ShowsFaults session.now (warnings_view warnings.now)
         error.now report.findings.items) }
+    ensures error { IfOk result (λ report.
+        IsRefusedLoad session.now [] (warnings_view warnings.now) error.now
+        → HasError report.findings.items) }
 {
     let found = all_findings(alloc, session, warnings, error)?;
     let Found {
@@ -59,7 +64,7 @@ pub fn report_of_refusal(
 }
 
 /// The report of a check whose load refuses: what is wrong with the files, also what nextest
-/// refuses and a load does not look at.
+/// refuses and a load does not look at. It has an error.
 pub fn report_of_refused_check(
     alloc: Global,
     session: &Session<'_>,
@@ -69,6 +74,9 @@ pub fn report_of_refused_check(
     ensures about { IfOk result (IsReportOf session.now) }
     ensures faults { IfOk result (λ report. ShowsChecked session.now (warnings_view warnings.now)
         error.now report.findings.items) }
+    ensures error { IfOk result (λ report.
+        IsRefusedLoad session.now [] (warnings_view warnings.now) error.now
+        → HasError report.findings.items) }
 {
     let found = all_findings(alloc, session, warnings, error)?;
     let Found {

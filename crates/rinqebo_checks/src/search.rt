@@ -1,20 +1,20 @@
 //! What the load of files that are refused reports, and then loads without what is refused.
-ghost use Rattle.std.specs.Prelude.{◌≡◌, [], IfOk, IsTrue};
+ghost use Rattle.std.specs.BTreeSet.{Updates};
+ghost use Rattle.std.specs.Ordering.{nat_cmp};
+ghost use Rattle.std.specs.Prelude.{◌≡◌, [], IfOk, IsTrue, None, OnOk, Some, true};
 ghost use Rattle.nextest_sources.specs.WarningsView.{warnings_view};
-ghost use Rattle.rinqebo_faults.specs.Checks.{scope_of};
+ghost use Rattle.rinqebo_faults.specs.Checks.{check_of, scope_of};
+ghost use Rattle.rinqebo_faults.specs.Edits.{edits_view};
 ghost use Rattle.rinqebo_findings.specs.Warnings.{ReportWarnings, other_warnings};
-ghost use Rattle.rinqebo_checks.specs.Refusals.{ReportRefusal};
-ghost use Rattle.rinqebo_checks.specs.Rounds.{MayHaveNoFinding, ReportIfAny, ReportLoad, ReportLoadIf, ReportLoads, ReportOneRound, ReportSomeRounds, ReportSomeWarnings, ReportUnless};
+ghost use Rattle.rinqebo_checks.specs.LeavingOut.{IsLeftOutAfter};
+ghost use Rattle.rinqebo_checks.specs.ReadAgain.{reading_view};
+ghost use Rattle.rinqebo_checks.specs.Refusals.{ReportRefusal, refused_position};
+ghost use Rattle.rinqebo_checks.specs.Rounds.{IsLeftOutAfterAny, IsLeftOutIf, ReportIfAny, ReportLoad, ReportLoadIf, ReportLoads, ReportOneRound, ReportSomeRounds, ReportSomeWarnings, ReportUnless};
 
 use crate::edited_files::Reading;
-use crate::leaving_out::{leave_out_refused, leave_out_settings, switch_on};
 use crate::refusals::{refusal_findings, refused_place};
 use crate::warned::{new_ones, noted};
-use nextest_documents::{TextFault, lay_over, tree_from_text};
-use nextest_shape::file_faults;
 use nextest_sources::{ConfigParseError, ConfigParseErrorKind, DefaultConfigWarnings};
-use nextest_tables::default_tree;
-use nextest_tree::Tree;
 use rinqebo_faults::{Check, Edits, LeftOut, Scope, check_of, names_after, only, scope_of};
 use rinqebo_findings::{SourceAt, other_warning_findings};
 use rinqebo_load::Session;
@@ -72,19 +72,11 @@ fn is_document(layers: &[Layer], place: usize) -> bool {
     source.tree().is_some()
 }
 
-/// The document that a text is, if it is one.
-fn document_of(alloc: Global, text: &str) -> Result<Option<Tree>, AllocError> {
-    match tree_from_text(alloc, text) {
-        Ok(tree) => Ok(Some(tree)),
-        Err(TextFault::NotDocument(_)) => Ok(None),
-        Err(TextFault::Memory) => Err(AllocError),
-    }
-}
-
 impl Search {
     /// A search that has found nothing, in files with edits.
     pub fn new(alloc: Global, edits: Edits) -> Search
-        ensures { result.reading.edits ≡ edits }
+        ensures edits { result.reading.edits ≡ edits }
+        ensures unread { result.reading.unread.keys ≡ [] }
     {
         Search {
             alloc,
@@ -111,8 +103,8 @@ impl Search {
         session: &Session<'_>,
         error: &ConfigParseError,
     ) -> Result<Vec<Finding>, AllocError>
-        ensures { IfOk result
-            (λ findings. ReportUnless session.now.layers.items error.now findings.items) }
+        ensures { IfOk result (λ findings. ReportUnless session.now.layers.items
+            (edits_view self.now.reading.edits).left_out error.now findings.items) }
     {
         let left_out = &self.reading.edits.left_out;
         Ok(refused(self.alloc, session, left_out, error)?)
@@ -124,8 +116,8 @@ impl Search {
         session: &Session<'_>,
         error: &ConfigParseError,
     ) -> Result<Taken, AllocError>
-        ensures { IfOk result
-            (λ taken. ReportUnless session.now.layers.items error.now taken.findings.items) }
+        ensures { IfOk result (λ taken. ReportUnless session.now.layers.items
+            (edits_view self.now.reading.edits).left_out error.now taken.findings.items) }
     {
         let findings = self.refused(session, error)?;
         Ok(Taken {
@@ -135,7 +127,9 @@ impl Search {
     }
 
     /// Adds that a source does not reach the checks behind those that need no other source.
-    fn add_unreached(&mut self, layers: &[Layer], place: usize) -> Result<(), AllocError> {
+    fn add_unreached(&mut self, layers: &[Layer], place: usize) -> Result<(), AllocError>
+        ensures { self.new.reading ≡ self.old.reading }
+    {
         let reached = if is_document(layers, place) {
             Some(Check::Elements)
         } else {
@@ -150,26 +144,15 @@ impl Search {
     }
 
     /// Does not read a file again that is refused as a whole. Returns whether the search goes on.
-    fn leave_out_file(&mut self, layers: &[Layer], place: usize) -> Result<bool, AllocError> {
+    fn leave_out_file(&mut self, layers: &[Layer], place: usize) -> Result<bool, AllocError>
+        ensures edits { OnOk result (self.new.reading.edits ≡ self.old.reading.edits) }
+        ensures unread { OnOk result (Updates nat_cmp self.old.reading.unread
+            self.new.reading.unread place true) }
+    {
         self.reading.unread.insert(place)?;
         self.lowest_unread = Some(self.lowest_unread.unwrap_or(place).min(place));
         self.add_unreached(layers, place)?;
         Ok(true)
-    }
-
-    /// Leaves out what a check of a source refuses. Returns whether the search goes on.
-    fn leave_out(
-        &mut self,
-        layers: &[Layer],
-        place: usize,
-        kind: &ConfigParseErrorKind,
-    ) -> Result<bool, AllocError> {
-        if let ConfigParseErrorKind::ExperimentalFeaturesNotEnabled { missing_features } = kind {
-            return switch_on(&mut self.reading.switched_on, missing_features);
-        }
-        let before = self.reading.edits.count();
-        leave_out_refused(self.alloc, &mut self.reading.edits, layers, place, kind)?;
-        Ok(self.reading.edits.count() > before)
     }
 
     /// Reports that a file is refused as a whole, and does not read it again.
@@ -179,9 +162,12 @@ impl Search {
         place: usize,
         error: &ConfigParseError,
     ) -> Result<Taken, AllocError>
-        requires { MayHaveNoFinding error.now.kind }
-        ensures { IfOk result
-            (λ taken. ReportUnless session.now.layers.items error.now taken.findings.items) }
+        requires at { refused_position session.now.layers.items error.now ≡ Some place }
+        requires whole { check_of error.now.kind ≡ None }
+        ensures findings { IfOk result (λ taken. ReportUnless session.now.layers.items
+            (edits_view self.old.reading.edits).left_out error.now taken.findings.items) }
+        ensures left_out { OnOk result (IsLeftOutAfter session.now.layers.items error.now
+            (reading_view self.old.reading) (reading_view self.new.reading)) }
     {
         if self.reading.unread.contains(&place) {
             return Ok(self.nothing());
@@ -199,9 +185,12 @@ impl Search {
         place: usize,
         error: &ConfigParseError,
     ) -> Result<Taken, AllocError>
-        requires { MayHaveNoFinding error.now.kind }
-        ensures { IfOk result
-            (λ taken. ReportUnless session.now.layers.items error.now taken.findings.items) }
+        requires at { refused_position session.now.layers.items error.now ≡ Some place }
+        requires whole { check_of error.now.kind ≡ None }
+        ensures findings { IfOk result (λ taken. ReportUnless session.now.layers.items
+            (edits_view self.old.reading.edits).left_out error.now taken.findings.items) }
+        ensures left_out { OnOk result (IsLeftOutAfter session.now.layers.items error.now
+            (reading_view self.old.reading) (reading_view self.new.reading)) }
     {
         if !is_document(&session.layers, place) {
             return self.take_file(session, place, error);
@@ -218,28 +207,23 @@ impl Search {
         place: usize,
         error: &ConfigParseError,
     ) -> Result<Taken, AllocError>
-        requires { MayHaveNoFinding error.now.kind }
-        ensures { IfOk result
-            (λ taken. ReportUnless session.now.layers.items error.now taken.findings.items) }
+        requires at { refused_position session.now.layers.items error.now ≡ Some place }
+        requires of_values { check_of error.now.kind ≡ Some Check.Elements }
+        ensures findings { IfOk result (λ taken. ReportUnless session.now.layers.items
+            (edits_view self.old.reading.edits).left_out error.now taken.findings.items) }
+        ensures left_out { OnOk result (IsLeftOutAfter session.now.layers.items error.now
+            (reading_view self.old.reading) (reading_view self.new.reading)) }
     {
-        let alloc = self.alloc;
-        let Some(text) = self.reading.text_at(alloc, &session.layers, place)? else {
-            return Ok(self.nothing());
-        };
-        let Some(tree) = document_of(alloc, text.as_str())? else {
-            return Ok(self.nothing());
-        };
-        let laid = lay_over(alloc, &tree, default_tree(alloc)?)?;
-        let faults = file_faults(alloc, &laid)?;
-        if faults.is_empty() {
-            return self.take_last(session, error);
+        match self
+            .reading
+            .leave_out_values(self.alloc, &session.layers, place)?
+        {
+            Some(goes_on) => Ok(Taken {
+                findings: Vec::new(self.alloc),
+                goes_on,
+            }),
+            None => Ok(self.take_last(session, error)?),
         }
-        let before = self.reading.edits.count();
-        leave_out_settings(&mut self.reading.edits, place, &faults)?;
-        Ok(Taken {
-            findings: Vec::new(alloc),
-            goes_on: self.reading.edits.count() > before,
-        })
     }
 
     /// Whether a lower source than the one at a place is not read.
@@ -265,7 +249,9 @@ impl Search {
         &mut self,
         place: usize,
         kind: &ConfigParseErrorKind,
-    ) -> Result<(), AllocError> {
+    ) -> Result<(), AllocError>
+        ensures { self.new.reading ≡ self.old.reading }
+    {
         if let Some(check) = check_of(kind) {
             let unreached = only(self.alloc, place, check)?;
             self.unreached.push(unreached)?;
@@ -280,8 +266,9 @@ impl Search {
         place: usize,
         error: &ConfigParseError,
     ) -> Result<Vec<Finding>, AllocError>
-        ensures { IfOk result
-            (λ findings. ReportUnless session.now.layers.items error.now findings.items) }
+        ensures findings { IfOk result (λ findings. ReportUnless session.now.layers.items
+            (edits_view self.old.reading.edits).left_out error.now findings.items) }
+        ensures reading { self.new.reading ≡ self.old.reading }
     {
         if !self.rests_on_unread(place, error.kind()) {
             return self.refused(session, error);
@@ -297,21 +284,28 @@ impl Search {
         place: usize,
         error: &ConfigParseError,
     ) -> Result<Taken, AllocError>
-        ensures { IfOk result
-            (λ taken. ReportUnless session.now.layers.items error.now taken.findings.items) }
+        requires at { refused_position session.now.layers.items error.now ≡ Some place }
+        ensures findings { IfOk result (λ taken. ReportUnless session.now.layers.items
+            (edits_view self.old.reading.edits).left_out error.now taken.findings.items) }
+        ensures left_out { OnOk result (IsLeftOutAfter session.now.layers.items error.now
+            (reading_view self.old.reading) (reading_view self.new.reading)) }
     {
         let findings = self.check_findings(session, place, error)?;
-        let goes_on = self.leave_out(&session.layers, place, error.kind())?;
+        let goes_on = self
+            .reading
+            .leave_out(self.alloc, &session.layers, place, error.kind())?;
         Ok(Taken { findings, goes_on })
     }
 
     /// Reports a refusal, and leaves out what it is about.
     fn take(&mut self, session: &Session<'_>, error: &ConfigParseError) -> Result<Taken, AllocError>
-        ensures { IfOk result
-            (λ taken. ReportUnless session.now.layers.items error.now taken.findings.items) }
+        ensures findings { IfOk result (λ taken. ReportUnless session.now.layers.items
+            (edits_view self.old.reading.edits).left_out error.now taken.findings.items) }
+        ensures left_out { OnOk result (IsLeftOutAfter session.now.layers.items error.now
+            (reading_view self.old.reading) (reading_view self.new.reading)) }
     {
         let Some(place) = refused_place(&session.layers, error) else {
-            return self.take_last(session, error);
+            return Ok(self.take_last(session, error)?);
         };
         match error.kind() {
             ConfigParseErrorKind::Memory => Err(AllocError),
@@ -332,8 +326,10 @@ impl Search {
         session: &Session<'_>,
         refusal: &Option<ConfigParseError>,
     ) -> Result<Taken, AllocError>
-        ensures { IfOk result
-            (λ taken. ReportIfAny session.now.layers.items refusal.now taken.findings.items) }
+        ensures findings { IfOk result (λ taken. ReportIfAny session.now.layers.items
+            (edits_view self.old.reading.edits).left_out refusal.now taken.findings.items) }
+        ensures left_out { OnOk result (IsLeftOutAfterAny session.now.layers.items refusal.now
+            (reading_view self.old.reading) (reading_view self.new.reading)) }
     {
         match refusal {
             Some(error) => self.take(session, error),
@@ -347,8 +343,9 @@ impl Search {
         session: &Session<'_>,
         warnings: &DefaultConfigWarnings,
     ) -> Result<Vec<Finding>, AllocError>
-        ensures { IfOk result (λ chosen. ReportSomeWarnings session.now.layers.items
+        ensures findings { IfOk result (λ chosen. ReportSomeWarnings session.now.layers.items
             (warnings_view warnings.now) chosen.items) }
+        ensures reading { self.new.reading ≡ self.old.reading }
     {
         let all = other_warning_findings(self.alloc, &session.layers, warnings)?;
         let left_out = &self.reading.edits.left_out;
@@ -357,7 +354,9 @@ impl Search {
 
     /// Loads the files without what is left out, and returns what is wrong with them.
     fn step(&mut self, session: &Session<'_>) -> Result<Taken, AllocError>
-        ensures { IfOk result (λ taken. ReportOneRound session.now taken.findings.items) }
+        ensures { IfOk result (λ taken. ReportOneRound session.now
+            (reading_view self.old.reading) (reading_view self.new.reading)
+            taken.findings.items) }
     {
         let round = self.reading.load(self.alloc, session)?;
         let mut findings = self.new_warnings(session, &round.warnings)?;
@@ -373,7 +372,8 @@ impl Search {
     /// Loads the files again and again, each time without what was refused before, and returns what
     /// is wrong with them.
     fn rounds(&mut self, session: &Session<'_>) -> Result<Vec<Finding>, AllocError>
-        ensures { IfOk result (λ findings. ReportSomeRounds session.now findings.items) }
+        ensures { IfOk result (λ findings. ReportSomeRounds session.now
+            (reading_view self.old.reading) (reading_view self.new.reading) findings.items) }
     {
         let mut findings = Vec::new(self.alloc);
         for _ in 0..session.layers.len().saturating_mul(MOST_STEPS) {
@@ -397,8 +397,9 @@ impl Search {
         session: &Session<'_>,
         warnings: &DefaultConfigWarnings,
     ) -> Result<Vec<Finding>, AllocError>
-        ensures { IfOk result (λ findings. ReportWarnings session.now.layers.items
+        ensures findings { IfOk result (λ findings. ReportWarnings session.now.layers.items
             (other_warnings (warnings_view warnings.now)) findings.items) }
+        ensures reading { self.new.reading ≡ self.old.reading }
     {
         let findings = other_warning_findings(self.alloc, &session.layers, warnings)?;
         Ok(noted(self.alloc, &mut self.warned, findings)?)
@@ -410,16 +411,19 @@ impl Search {
         &mut self,
         layers: &[Layer],
         error: &ConfigParseError,
-    ) -> Result<bool, AllocError> {
+    ) -> Result<bool, AllocError>
+        ensures { OnOk result (IsLeftOutAfter layers.now error.now
+            (reading_view self.old.reading) (reading_view self.new.reading)) }
+    {
         let Some(place) = refused_place(layers, error) else {
             return Ok(false);
         };
         match error.kind() {
             ConfigParseErrorKind::DuplicateToolConfigFile { .. }
             | ConfigParseErrorKind::ReadError(_)
-            | ConfigParseErrorKind::BuildError(_) => self.leave_out_file(layers, place),
+            | ConfigParseErrorKind::BuildError(_) => Ok(self.leave_out_file(layers, place)?),
             ConfigParseErrorKind::DeserializeError(_) | ConfigParseErrorKind::Memory => Ok(false),
-            kind => self.leave_out(layers, place, kind),
+            kind => Ok(self.reading.leave_out(self.alloc, layers, place, kind)?),
         }
     }
 
@@ -430,8 +434,10 @@ impl Search {
         warnings: &DefaultConfigWarnings,
         error: &ConfigParseError,
     ) -> Result<Taken, AllocError>
-        ensures { IfOk result (λ taken. ReportLoad session.now.layers.items
+        ensures findings { IfOk result (λ taken. ReportLoad session.now.layers.items
             (warnings_view warnings.now) error.now taken.findings.items) }
+        ensures left_out { OnOk result (IsLeftOutAfter session.now.layers.items error.now
+            (reading_view self.old.reading) (reading_view self.new.reading)) }
     {
         let mut findings = self.all_warnings(session, warnings)?;
         let nothing = LeftOut::new(self.alloc);
@@ -449,8 +455,10 @@ impl Search {
         warnings: &DefaultConfigWarnings,
         error: &ConfigParseError,
     ) -> Result<Taken, AllocError>
-        ensures { IfOk result (λ taken. ReportLoadIf is_whole session.now.layers.items
+        ensures findings { IfOk result (λ taken. ReportLoadIf is_whole session.now.layers.items
             (warnings_view warnings.now) error.now taken.findings.items) }
+        ensures left_out { OnOk result (IsLeftOutIf is_whole session.now.layers.items error.now
+            (reading_view self.old.reading) (reading_view self.new.reading)) }
     {
         if is_whole {
             return self.take_load(session, warnings, error);
@@ -470,8 +478,9 @@ impl Search {
         warnings: &DefaultConfigWarnings,
         error: &ConfigParseError,
     ) -> Result<Vec<Finding>, AllocError>
-        ensures { IfOk result (λ findings. ReportLoads is_whole session.now
-            (warnings_view warnings.now) error.now findings.items) }
+        ensures { IfOk result (λ findings. (loads : ReportLoads is_whole session.now
+            (warnings_view warnings.now) error.now findings.items)
+            × (loads.before ≡ reading_view self.old.reading)) }
     {
         let taken = self.begin(session, is_whole, warnings, error)?;
         let Taken {

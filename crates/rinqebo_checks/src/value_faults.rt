@@ -1,10 +1,16 @@
 //! The findings of all faults of values of a source: one for each fault, but for a key that a table
 //! refuses in place of one that it lacks: these two are one finding.
+ghost use Rattle.std.specs.List.{All};
+ghost use Rattle.std.specs.Option.{option_and_then};
 ghost use Rattle.std.specs.Prelude.{◌≡◌, ◌++◌, ◌∷◌, [], IfOk, IfSome, IsTrue, List, OnOk, Some, map, slice_get, slice_index_or, slice_set, true, false};
+ghost use Rattle.nextest_places.specs.Path.{stands_at};
 ghost use Rattle.nextest_places.specs.Spans.Paths.{path_step};
 ghost use Rattle.nextest_places.specs.Spans.Paths as paths;
-ghost use Rattle.rinqebo_checks.specs.Faults.{AreJoined, IsFindingOf, IsJoined, IsKeyIn, IsRefusedKey, ReportFaults};
+ghost use Rattle.nextest_tree.specs.Node.{as_table};
+ghost use Rattle.nextest_tree.specs.View.{tree_view};
+ghost use Rattle.rinqebo_checks.specs.Faults.{AreJoined, HasStray, IsFindingOf, IsJoined, IsKeyIn, IsRefusedKey, IsStrayBelow, ReportFaults};
 ghost use Rattle.rinqebo_checks.specs.declared.value_faults.ValueFault.{ValueFault};
+ghost use Rattle.rinqebo_faults.specs.Tables.{IsStray};
 
 use nextest_places::Step;
 use nextest_shape::FoundFault;
@@ -27,19 +33,36 @@ pub struct ValueFault<'t> {
     pub stray: Option<&'t str>,
 }
 
+/// The key that the table at a path below a tree has in place of one that it lacks, if one is near
+/// that the table does not know.
+fn stray_at<'t>(
+    alloc: Global,
+    tree: &'t Tree,
+    path: &[Step<'_>],
+    missing: &str,
+) -> Result<Option<&'t str>, AllocError>
+    ensures { IfOk result (IsStray path.now
+        (option_and_then as_table (stands_at path.now (tree_view tree.now))) missing.now) }
+{
+    match tree_at(tree, path) {
+        Some(table) => stray_key(alloc, path, table, missing),
+        None => Ok(None),
+    }
+}
+
 /// The key that the table of a fault has in place of the one that it lacks, if one is near that the
-/// table does not know.
+/// table does not know. Another fault has none.
 fn stray_of<'t>(
     alloc: Global,
     tree: &'t Tree,
     fault: &FoundFault<'_>,
-) -> Result<Option<&'t str>, AllocError> {
-    let ElementCause::Missing(key) = &fault.cause else {
-        return Ok(None);
-    };
-    match tree_at(tree, &fault.path) {
-        Some(table) => stray_key(alloc, &fault.path, table, key.as_str()),
-        None => Ok(None),
+) -> Result<Option<&'t str>, AllocError>
+    ensures { IfOk result
+        (IsStrayBelow (tree_view tree.now) fault.now.path.items fault.now.cause) }
+{
+    match &fault.cause {
+        ElementCause::Missing(key) => Ok(stray_at(alloc, tree, &fault.path, key.as_str())?),
+        _ => Ok(None),
     }
 }
 
@@ -50,7 +73,8 @@ pub fn with_strays<'t>(
     tree: &'t Tree,
     faults: Vec<FoundFault<'t>>,
 ) -> Result<Vec<ValueFault<'t>>, AllocError>
-    ensures { IfOk result (λ found. map (λ f. f.fault) found.items ≡ faults.entry.items) }
+    ensures faults { IfOk result (λ found. map (λ f. f.fault) found.items ≡ faults.entry.items) }
+    ensures strays { IfOk result (λ found. All (HasStray (tree_view tree.now)) found.items) }
 {
     let mut found = Vec::new(alloc);
     for fault in faults {

@@ -1,8 +1,9 @@
-use Rattle.std.proofs.Common.{inl, inr, subst}
+use Rattle.std.proofs.Common.{inl, inr, map, string_bytes, subst}
 use Rattle.std.specs.Prelude.{OnOk}
 use Rattle.rinqebo_faults.specs.Edits.{names_view}
 use Rattle.rinqebo_findings.specs.Compile.{compile_faults}
 use Rattle.rinqebo_findings.specs.Later.{AddsLater, AddsUnknownGroups, document_at, feature_faults, parent_faults}
+use Rattle.rinqebo_findings.specs.Profiles.{profile_names}
 use Rattle.rinqebo_checks.proofs.refusals.add_kind.Goals as goal
 
 pub returns-in-ExperimentalFeaturesNotEnabled : goal.returns-in-ExperimentalFeaturesNotEnabled
@@ -41,7 +42,8 @@ pub returns-in-InheritanceErrors : goal.returns-in-InheritanceErrors
 returns-in-InheritanceErrors c =
     let source = c.args.refused.now.source in
     rw c.in-InheritanceErrors.is (subst
-    (λ errors. OnOk c.add_parents.result (AddsLater source.layers.now source.position (parent_faults errors)
+    (λ errors. OnOk c.add_parents.result (AddsLater source.layers.now source.position
+    (parent_faults (profile_names source.layers.now) errors)
     c.args.findings.now.items c.add_parents.new.findings.items))
     c.deref-in-InheritanceErrors.ensures.value c.add_parents.ensures)
 
@@ -60,6 +62,7 @@ returns-in-UnknownTestGroups c =
     let source = c.args.refused.now.source in
     let left_out = names_view c.args.refused.now.left_out.now.groups in
     rw c.in-UnknownTestGroups.is (subst
-    (λ errors. OnOk c.add_unknown_groups.result (AddsUnknownGroups source.layers.now source.position left_out errors
+    (λ errors. OnOk c.add_unknown_groups.result (AddsUnknownGroups source.layers.now source.position left_out
+    (map string_bytes c.in-UnknownTestGroups.known_groups.keys) errors
     c.args.findings.now.items c.add_unknown_groups.new.findings.items))
     c.deref-in-UnknownTestGroups.ensures.value c.add_unknown_groups.ensures)

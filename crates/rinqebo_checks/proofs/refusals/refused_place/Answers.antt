@@ -1,4 +1,3 @@
-use Rattle.std.proofs.Common.{map}
 use Rattle.nextest_elements.specs.OwnerView.{owner_view}
 use Rattle.nextest_sources.specs.Errors.{source_of}
 use Rattle.nextest_sources.specs.Sources.{path_view}

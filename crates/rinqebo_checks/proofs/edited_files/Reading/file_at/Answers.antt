@@ -1,8 +1,6 @@
 use Rattle.std.proofs.Common.{◌∙◌}
+use Rattle.rinqebo_checks.proofs.ReadAgain.{same_file}
 use Rattle.rinqebo_checks.proofs.edited_files.Reading.file_at.Goals as goal
 
 pub returns : goal.returns
-returns c = record {
-  path = c.in_ok-path.ensures ∙ c.absolute_path.ensures;
-  outcome = c.in_ok-outcome.ensures;
-}
+returns c = same_file _ _ _ _ (c.in_ok-path.ensures ∙ c.absolute_path.ensures) c.in_ok-outcome.ensures

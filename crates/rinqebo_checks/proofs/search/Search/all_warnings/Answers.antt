@@ -1,10 +1,10 @@
-use Rattle.std.proofs.Common.{◌≡◌, ap, subst, sym}
+use Rattle.std.proofs.Common.{subst, sym}
 use Rattle.nextest_sources.specs.WarningsView.{warnings_view}
 use Rattle.rinqebo_findings.specs.Warnings.{ReportWarnings, other_warnings}
 use Rattle.rinqebo_checks.proofs.search.Search.all_warnings.Goals as goal
 
-pub returns : goal.returns
-returns c =
+pub returns-clause-findings : goal.returns-clause-findings
+returns-clause-findings c =
     let warnings = other_warnings (warnings_view c.args.warnings.now) in
     subst (λ noted. ReportWarnings c.args.session.now.layers.items warnings noted.items) (sym c.in_ok-noted.ensures)
     (subst (λ layers. ReportWarnings layers warnings c.in_ok-findings.findings.items) c.deref.ensures.value

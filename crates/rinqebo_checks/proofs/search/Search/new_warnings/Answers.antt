@@ -3,8 +3,8 @@ use Rattle.nextest_sources.specs.WarningsView.{warnings_view}
 use Rattle.rinqebo_findings.specs.Warnings.{ReportWarnings, other_warnings}
 use Rattle.rinqebo_checks.proofs.search.Search.new_warnings.Goals as goal
 
-pub returns : goal.returns
-returns c = record {
+pub returns-clause-findings : goal.returns-clause-findings
+returns-clause-findings c = record {
   of_all = c.in_ok-all.all.items;
   all = subst (λ layers. ReportWarnings layers (other_warnings (warnings_view c.args.warnings.now))
       c.in_ok-all.all.items) c.deref.ensures.value c.in_ok-all.ensures;

@@ -1,3 +1,8 @@
+use Rattle.std.proofs.Common.{subst}
+use Rattle.rinqebo_faults.specs.Edits.{edits_view}
+use Rattle.rinqebo_checks.specs.ReadAgain.{reading_view}
+use Rattle.rinqebo_checks.specs.Rounds.{IsLeftOutAfterAny, ReportIfAny}
+use Rattle.rinqebo_checks.specs.declared.edited_files.Reading.{Reading}
 use Rattle.rinqebo_checks.proofs.search.Search.step.Goals as goal
 
 pub returns : goal.returns
@@ -6,9 +11,15 @@ returns c = record {
   is = c.in_ok-round.ensures;
   reported = record {
     of_warnings = c.in_ok-findings.findings.items;
-    warned = c.in_ok-findings.ensures;
+    warned = c.in_ok-findings.ensures.findings;
     of_refusal = c.in_ok-taken.taken.findings.items;
-    refused = c.in_ok-taken.ensures;
+    refused = subst
+        (λ (reading : Reading). ReportIfAny c.args.session.now.layers.items (edits_view reading.edits).left_out
+        c.in_ok-round.round.refusal c.in_ok-taken.taken.findings.items)
+        c.new_warnings.ensures.reading c.in_ok-taken.ensures.findings;
     whole = c.in_ok-append.ensures.items;
   };
+  left_out = subst (λ reading. IsLeftOutAfterAny c.args.session.now.layers.items c.in_ok-round.round.refusal
+      (reading_view reading) (reading_view c.take_any.new.self.reading))
+      c.new_warnings.ensures.reading c.in_ok-taken.ensures.left_out;
 }
