@@ -1,5 +1,5 @@
 -- What standard error gets of a run.
-use Rattle.std.proofs.Common.{[], Bool, append-nil, append_assoc, arith, false, true, ◌≡◌, ◌∙◌, ◌⊎◌, ◌++◌, ◌∷◌, codes, inl, inr, ℕ, List, Option, Result, Ok, Err, IfOk, MatchResult, ap, refl, string_bytes, subst, sym}
+use Rattle.std.proofs.Common.{[], Bool, append-nil, append_assoc, arith, false, true, ◌≡◌, ◌∙◌, ◌⊎◌, ◌++◌, inl, inr, ℕ, List, Option, Result, Ok, Err, IfOk, MatchResult, ap, refl, string_bytes, subst, sym}
 use Rattle.std.specs.declared.alloc.Global.{Global}
 use Rattle.std.specs.Prelude.{String}
 use Rattle.std.specs.declared.alloc.AllocError.{AllocError}
@@ -23,7 +23,7 @@ use Rattle.rinqebo_report.specs.declared.format.Format.TheVariants as formats
 use Rattle.rinqebo_report.specs.declared.report.Report.{Report}
 use Rattle.rinqebo_request.specs.declared.request.Request.{Request}
 use Rattle.rinqebo_results.specs.Refused.{Fails, IsReportOfFailure}
-use Rattle.rinqebo_results.specs.StandardError.{AddsNotes, AreNotes, GetsBefore, GetsErrors, GetsFault, GetsNotes, GetsReason, GetsStop, GetsWarnings, GetsWarningsFor, HasNotes, IsFaultMessage, IsReason, document_given, memory_given, memory_message, no_note, of_failure, of_list, of_memory, of_result, one_more, reason_given}
+use Rattle.rinqebo_results.specs.StandardError.{AddsNotes, AreNotes, GetsBefore, GetsErrors, GetsFault, GetsNotes, GetsReason, GetsStop, GetsWarnings, GetsWarningsFor, HasNotes, IsFaultMessage, IsReason, document_given, memory_given, memory_message, no_note, note_line, of_failure, of_list, of_memory, of_result, one_more, reason_given}
 use Rattle.rinqebo_results.specs.Statuses.{failure_status}
 
 -- a text was written with a status, or a write failed
@@ -130,8 +130,8 @@ by_document failure request report status n old new json reported is (inr (inr m
     inr (memory_given memory.0 memory.1)
 
 -- one note
-pub one_note : (said old new : List ℕ) → new ≡ old ++ (codes "note: " ++ said ++ 10 ∷ []) → AddsNotes false old new
-one_note said old new is = (codes "note: " ++ said ++ 10 ∷ [], one_more no_note said, is)
+pub one_note : (said old new : List ℕ) → new ≡ old ++ note_line said → AddsNotes false old new
+one_note said old new is = (note_line said, one_more no_note said, is)
 
 -- no note
 pub no_more : (json : Bool) (text : List ℕ) → AddsNotes json text text
@@ -141,8 +141,8 @@ no_more false text = ([], no_note, sym (append-nil text))
 -- notes behind notes
 joined : (first : List ℕ) {second : List ℕ} → AreNotes first → AreNotes second → AreNotes (first ++ second)
 joined first before no_note = subst AreNotes (sym (append-nil first)) before
-joined first before (one_more {notes} after body) =
-    subst AreNotes (append_assoc first notes _) (one_more (joined first before after) body)
+joined first before (one_more {notes} after said) =
+    subst AreNotes (append_assoc first notes _) (one_more (joined first before after) said)
 
 pub more : (json : Bool) (old mid new : List ℕ) → AddsNotes json old mid → AddsNotes json mid new
     → AddsNotes json old new

@@ -91,11 +91,15 @@ pub data GetsReason (failure : Failure) (request : Request) (status : ℕ)
   memory_given : status ≡ 5 → Appends old new memory_message
       → GetsReason failure request status old new
 
+-- the line of a note
+abbrev pub note_line : List ℕ → List ℕ
+note_line said = codes "note: " ++ said ++ 10 ∷ []
+
 -- lines of notes, each of which begins with `note: `
 pub data AreNotes : List ℕ → Type 0 where
   no_note : AreNotes []
-  one_more : {notes : List ℕ} → AreNotes notes → (body : List ℕ)
-      → AreNotes (notes ++ (codes "note: " ++ body ++ 10 ∷ []))
+  one_more : {notes : List ℕ} → AreNotes notes → (said : List ℕ)
+      → AreNotes (notes ++ note_line said)
 
 -- notes are added behind a text, unless the request is for JSON, which has none
 abbrev pub AddsNotes : Bool → List ℕ → List ℕ → Type 0

@@ -1,6 +1,6 @@
 //! Lines of notes, for standard error.
-ghost use Rattle.std.specs.Prelude.{◌≡◌, ◌++◌, ◌∷◌, [], false, OnOk, codes, string_bytes};
-ghost use Rattle.rinqebo_results.specs.StandardError.{AddsNotes, is_json};
+ghost use Rattle.std.specs.Prelude.{◌≡◌, ◌++◌, OnOk, string_bytes};
+ghost use Rattle.rinqebo_results.specs.StandardError.{is_json, note_line};
 
 use rinqebo_report::Format;
 use std::alloc::AllocError;
@@ -15,20 +15,12 @@ pub fn is_json(format: Format<'_>) -> bool
     }
 }
 
-/// Adds the line of a note.
-fn push_line(said: &str, notes: &mut String) -> Result<(), AllocError>
-    ensures { OnOk result (string_bytes notes.new ≡ string_bytes notes.old
-        ++ (codes "note: " ++ said.now ++ 10 ∷ [])) }
+/// Adds a note, as a line of its own.
+pub fn push_note(said: &str, notes: &mut String) -> Result<(), AllocError>
+    ensures { OnOk result (string_bytes notes.new ≡ string_bytes notes.old ++ note_line said.now) }
 {
     notes.push_str("note: ")?;
     notes.push_str(said)?;
     notes.push_str("\n")?;
     Ok(())
-}
-
-/// Adds a note, as a line of its own.
-pub fn push_note(said: &str, notes: &mut String) -> Result<(), AllocError>
-    ensures { OnOk result (AddsNotes false (string_bytes notes.old) (string_bytes notes.new)) }
-{
-    push_line(said, notes)
 }
