@@ -9,3 +9,4 @@ pub mod Gathering
 pub mod Succeeding
 pub mod OpenFilters
 pub mod Notes
+pub mod CheckNotes

@@ -5,6 +5,7 @@ use Rattle.nextest_sources.specs.Endings.{IsMemory}
 use Rattle.nextest_sources.specs.declared.error.ConfigParseError.{ConfigParseError}
 use Rattle.nextest_sources.specs.Warnings.{Warning}
 use Rattle.rinqebo_checks.specs.Faults.{ShowsChecked, ShowsRefused}
+use Rattle.rinqebo_checks.specs.Reports.{HasError}
 use Rattle.rinqebo_load.specs.Accepted.{AreAccepted}
 use Rattle.rinqebo_load.specs.Warned.{IsRefusedLoad, warnings_met}
 use Rattle.rinqebo_report.specs.declared.finding.Finding.{Finding}
@@ -103,14 +104,18 @@ pub refused_answer : {E : Type 0} (session : Session) (denies : Bool) (error : C
     → IsRefusedLoad session old warnings error → IfOk answer (λ a. a.status ≡ 3)
     → IfOk answer (λ _. ¬ IsMemory error)
     → IfOk answer (λ a. ShowsChecked session warnings error a.report.findings.items)
+    → IfOk answer (λ a. IsRefusedLoad session [] warnings error → HasError a.report.findings.items)
     → IfOk answer (λ a. IsCheckStatus session denies a.report a.status)
-refused_answer session denies error (Ok a) loaded {old} {warnings} none ran three not_memory shown =
+refused_answer session denies error (Ok a) loaded {old} {warnings} none ran three not_memory shown erring =
+    let refused : IsRefusedLoad session [] warnings error =
+    subst (λ ws. IsRefusedLoad session ws warnings error) none ran in
     refuses session denies a.report a.status loaded not_memory
     (record {
       warnings = warnings;
       error = error;
-      refused = subst (λ ws. IsRefusedLoad session ws warnings error) none ran;
+      refused = refused;
       shows = shown;
+      has_error = erring refused;
     })
     three
-refused_answer session denies error (Err e) loaded none ran three not_memory shown = tt
+refused_answer session denies error (Err e) loaded none ran three not_memory shown erring = tt

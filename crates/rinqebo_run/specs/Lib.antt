@@ -1,1 +1,2 @@
 pub mod OpenFilters
+pub mod CheckNotes

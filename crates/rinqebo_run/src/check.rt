@@ -1,9 +1,10 @@
 //! The result of a check: what is wrong with files.
-ghost use Rattle.std.specs.Prelude.{◌≡◌, ◌==◌, ◌&&◌, IfOk, IfErr, None, length, not};
+ghost use Rattle.std.specs.Prelude.{◌≡◌, ◌==◌, ◌&&◌, [], IfOk, IfErr, None, length, not};
 ghost use Rattle.std.specs.List.{list_any};
 ghost use Rattle.nextest_sources.specs.Endings.{IsMemory};
-ghost use Rattle.rinqebo_checks.specs.Reports.{IsReportOf};
+ghost use Rattle.rinqebo_checks.specs.Reports.{HasError, IsReportOf};
 ghost use Rattle.rinqebo_checks.specs.Faults.{ShowsChecked};
+ghost use Rattle.rinqebo_load.specs.Warned.{IsRefusedLoad};
 ghost use Rattle.rinqebo_load.specs.declared.failure.Failure.TheVariants.{Memory};
 ghost use Rattle.rinqebo_results.specs.Checked.{AreOfAccepted, IsCheckStatus, ShowsAccepted, accepted_status, is_error};
 ghost use Rattle.nextest_sources.specs.WarningsView.{warnings_view};
@@ -111,6 +112,9 @@ fn refused(
     ensures cause { IfOk result (λ _. ¬ IsMemory error.now) }
     ensures faults { IfOk result (λ answer. ShowsChecked session.now (warnings_view warnings.now)
         error.now answer.report.findings.items) }
+    ensures error { IfOk result (λ answer.
+        IsRefusedLoad session.now [] (warnings_view warnings.now) error.now
+        → HasError answer.report.findings.items) }
     ensures about { IfOk result (λ answer. IsReportOf session.now answer.report) }
     ensures noted { IfOk result (λ answer. answer.note ≡ None) }
 {

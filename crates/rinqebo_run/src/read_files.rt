@@ -1,6 +1,7 @@
 //! The note of `check` about the files that it read.
-ghost use Rattle.std.specs.Prelude.{◌≡◌, false, true, OnOk, string_bytes};
-ghost use Rattle.rinqebo_results.specs.StandardError.{AddsNotes, is_json};
+ghost use Rattle.std.specs.Prelude.{◌≡◌, ◌++◌, true, IfOk, OnOk, codes, string_bytes};
+ghost use Rattle.rinqebo_report.specs.declared.format.Format.TheVariants as formats;
+ghost use Rattle.rinqebo_run.specs.CheckNotes.{AddsFilesLine};
 
 use nextest_config::{FileInput, ReadOutcome, ToolConfigFile};
 use rinqebo_report::Format;
@@ -91,6 +92,13 @@ fn files_read(alloc: Global, gathered: &Gathered) -> Result<String, AllocError> 
     Ok(files)
 }
 
+/// What the note on files says of those that were read.
+fn files_text(alloc: Global, files: &str) -> Result<String, AllocError>
+    ensures { IfOk result (λ said. string_bytes said ≡ codes "read " ++ files.now) }
+{
+    Ok(format!(in alloc; "read {files}")?)
+}
+
 /// Adds the note that lists the files which a check read. Where there is none, and the defaults are
 /// accepted, the note says so.
 fn add_files(
@@ -99,11 +107,12 @@ fn add_files(
     answer: &Answer,
     notes: &mut String,
 ) -> Result<(), AllocError>
-    ensures { OnOk result (AddsNotes false (string_bytes notes.old) (string_bytes notes.new)) }
+    ensures { OnOk result (AddsFilesLine formats.Text (string_bytes notes.old)
+        (string_bytes notes.new)) }
 {
     let files = files_read(alloc, gathered)?;
     if !files.is_empty() {
-        let said = format!(in alloc; "read {files}")?;
+        let said = files_text(alloc, files.as_str())?;
         return push_note(said.as_str(), notes);
     }
     if answer.status == Status::Refused as u8 {
@@ -115,7 +124,7 @@ fn add_files(
 /// Whether a request has the note about the files that a check read. The forms for other programs
 /// have none.
 fn notes_files(request: &Request<'_>) -> bool
-    ensures { result ≡ true → is_json request.now.format ≡ false }
+    ensures { result ≡ true → request.now.format ≡ formats.Text }
 {
     match (&request.question, request.format) {
         (Question::Check { .. }, Format::Text) => true,
@@ -131,7 +140,7 @@ pub fn add_read_files(
     answer: &Answer,
     notes: &mut String,
 ) -> Result<(), AllocError>
-    ensures { OnOk result (AddsNotes (is_json request.now.format) (string_bytes notes.old)
+    ensures { OnOk result (AddsFilesLine request.now.format (string_bytes notes.old)
         (string_bytes notes.new)) }
 {
     if notes_files(request) {

@@ -1,5 +1,5 @@
 //! Runs a request, and writes its result.
-ghost use Rattle.std.specs.Prelude.{◌≡◌, ◌⊎◌, ◌||◌, false, IfOk, IfErr, IfSome, OnOk, string_bytes};
+ghost use Rattle.std.specs.Prelude.{◌≡◌, ◌++◌, ◌⊎◌, ◌||◌, ℕ, List, false, IfOk, IfErr, IfSome, OnOk, string_bytes};
 ghost use Rattle.std.specs.Io.KnownBytes.{Appends};
 ghost use Rattle.std.specs.Result.{result_map_both};
 ghost use Rattle.rinqebo_checks.specs.Reports.{IsReportOf};
@@ -13,11 +13,12 @@ ghost use Rattle.rinqebo_results.specs.Received.{IsWhole};
 ghost use Rattle.rinqebo_results.specs.Refused.{Fails, IsFailureAboutTest, IsFailureIn, IsReportedBy, ReportsRefusal};
 ghost use Rattle.rinqebo_results.specs.RunsReasons.{ReportsRunsReasons};
 ghost use Rattle.rinqebo_results.specs.ReportsReasons.{ReportsReasons};
-ghost use Rattle.rinqebo_results.specs.StandardError.{AddsNotes, GetsErrors, GetsFault, GetsNotes, GetsStop, HasNotes, IsFaultMessage, ReportsWords, findings_beside, is_json};
+ghost use Rattle.rinqebo_results.specs.StandardError.{GetsErrors, GetsFault, GetsNotes, GetsStop, HasNotes, IsFaultMessage, ReportsWords, findings_beside, is_json};
 ghost use Rattle.rinqebo_report.specs.Document.{is_check};
 ghost use Rattle.rinqebo_results.specs.Statuses.{IsStatus, IsAnswerStatus, IsGatherStatus, IsWordsStatus};
 ghost use Rattle.rinqebo_results.specs.Warned.{ShowsWarningsIn, ShowsWarningsOf};
 ghost use Rattle.rinqebo_results.specs.Written.{AsksList, IsStopStatus};
+ghost use Rattle.rinqebo_run.specs.CheckNotes.{GetsCheckNotes, HasCheckNotes, IsCheck, note_lines};
 ghost use Rattle.rinqebo_run.specs.OpenFilters.{HasNote, IsNoteOf};
 ghost use Rattle.rinqebo_report.specs.declared.format.Format.TheVariants as formats;
 
@@ -220,8 +221,8 @@ fn notes_of(
 
 /// Adds the note of a result. A document of JSON has none.
 fn add_note(request: &Request<'_>, answer: &Answer, notes: &mut String) -> Result<(), AllocError>
-    ensures { OnOk result (AddsNotes (is_json request.now.format) (string_bytes notes.old)
-        (string_bytes notes.new)) }
+    ensures { OnOk result (string_bytes notes.new ≡ string_bytes notes.old
+        ++ note_lines (is_json request.now.format) answer.now.note) }
 {
     let Some(note) = &answer.note else {
         return Ok(());
@@ -239,7 +240,10 @@ fn notes_on(
     gathered: &Gathered,
     answer: &Answer,
 ) -> Result<String, AllocError>
-    ensures { IfOk result (λ notes. HasNotes request.now answer.now.report (string_bytes notes)) }
+    ensures notes { IfOk result
+        (λ notes. HasNotes request.now answer.now.report (string_bytes notes)) }
+    ensures check { IsCheck request.now.question → IfOk result (λ notes.
+        HasCheckNotes request.now answer.now.report answer.now.note (string_bytes notes)) }
 {
     let mut notes = notes_of(alloc, &answer.report, request.format, request.paper.colour)?;
     add_unset(alloc, request, answer, &mut notes)?;
@@ -267,6 +271,9 @@ fn print_answer<O: Write, E: Write>(
         (rendered answer.now.report request.now.format request.now.paper) }
     ensures errors { (result ≡ 6) ⊎ GetsNotes request.now answer.now.report answer.now.status result
         (E.contents err.old) (E.contents err.new) }
+    ensures noted { (result ≡ 5) ⊎ (result ≡ 6) ⊎ (IsCheck request.now.question
+        → (text : List ℕ) × HasCheckNotes request.now answer.now.report answer.now.note text
+        × Appends (E.contents err.old) (E.contents err.new) text) }
 {
     let report = &answer.report;
     let Ok(notes) = notes_on(alloc, request, gathered, answer) else {
@@ -292,6 +299,8 @@ fn answer_shown<E: Write>(
 ) -> Result<Answer, Failure>
     ensures ok { IfOk result
         (λ answer. IsAnswer request.now gathered.now answer.report answer.status) }
+    ensures noted { IfOk result
+        (λ answer. HasNote request.now gathered.now answer.status answer.note) }
     ensures err { IfErr result (Fails request.now gathered.now) }
     ensures errors { request.now.shows_progress ≡ false
         → E.contents err.new ≡ E.contents err.old }
@@ -327,6 +336,9 @@ fn answer_whole<O: Write, E: Write>(
         (O.contents out.old) (O.contents out.new) }
     ensures errors { request.now.shows_progress ≡ false → (result ≡ 6)
         ⊎ GetsErrors request.now gathered.now result (E.contents err.old) (E.contents err.new) }
+    ensures noted { request.now.shows_progress ≡ false → IsCheck request.now.question
+        → IsAnswerStatus request.now.question result
+        → GetsCheckNotes request.now gathered.now result (E.contents err.old) (E.contents err.new) }
 {
     match answer_shown(alloc, request, gathered, err) {
         Ok(answer) => print_answer(alloc, request, gathered, &answer, out, err),
@@ -414,7 +426,7 @@ fn answer_list<O: Write, E: Write>(
 /// the list is, on a line of its own that the program erases in the end.
 ///
 /// Standard error receives the findings of a result and notes on it, or the reason why there is
-/// none.
+/// none. The last note of a check says how many filters were not looked up, if there are any.
 ///
 /// After a write that failed, standard output has a prefix of what it gets in a run in which no
 /// write fails.
@@ -440,6 +452,9 @@ pub fn perform<O: Write, E: Write>(
         (O.contents out.old) (O.contents out.new) }
     ensures errors { request.now.shows_progress ≡ false → (result ≡ 6)
         ⊎ GetsErrors request.now gathered.now result (E.contents err.old) (E.contents err.new) }
+    ensures noted { request.now.shows_progress ≡ false → IsCheck request.now.question
+        → IsAnswerStatus request.now.question result
+        → GetsCheckNotes request.now gathered.now result (E.contents err.old) (E.contents err.new) }
 {
     match text_list(request) {
         Some(list) => answer_list(alloc, request, &list, gathered, out, err),

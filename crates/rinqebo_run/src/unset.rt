@@ -1,6 +1,7 @@
 //! The note of `show-config` where nothing is set under its keys.
-ghost use Rattle.std.specs.Prelude.{false, OnOk, string_bytes};
+ghost use Rattle.std.specs.Prelude.{◌≡◌, false, OnOk, string_bytes};
 ghost use Rattle.rinqebo_results.specs.StandardError.{AddsNotes, is_json};
+ghost use Rattle.rinqebo_run.specs.CheckNotes.{IsCheck};
 
 use nextest_config::NextestRunMode;
 use nextest_shape::{Shape, file_shape, keys_of};
@@ -146,8 +147,10 @@ pub fn add_unset(
     answer: &Answer,
     notes: &mut String,
 ) -> Result<(), AllocError>
-    ensures { OnOk result (AddsNotes (is_json request.now.format) (string_bytes notes.old)
+    ensures notes { OnOk result (AddsNotes (is_json request.now.format) (string_bytes notes.old)
         (string_bytes notes.new)) }
+    ensures check { IsCheck request.now.question
+        → OnOk result (string_bytes notes.new ≡ string_bytes notes.old) }
 {
     let Question::ShowConfig { keys, .. } = &request.question else {
         return Ok(());

@@ -16,7 +16,7 @@ pub returns-clause-status : goal.returns-clause-status
 returns-clause-status c =
     refused_answer c.args.session.now c.args.deny_warnings c.in-Err.error c.refused.result c.in-Err.ensures.verdict
     c.new-warnings.ensures c.in-Err.ensures.refused c.refused.ensures.status c.refused.ensures.cause
-    c.refused.ensures.faults
+    c.refused.ensures.faults c.refused.ensures.error
 
 pub returns-in-Ok-clause-noted : goal.returns-in-Ok-clause-noted
 returns-in-Ok-clause-noted c =

@@ -3,6 +3,7 @@ use Rattle.rinqebo_results.proofs.Errors.{of_answer, of_reasons}
 use Rattle.rinqebo_results.proofs.Received.{answer_begun, failure_begun}
 use Rattle.rinqebo_results.proofs.Refused.{answer_reported, failure_reported}
 use Rattle.rinqebo_results.proofs.Statuses.{answer_status, answered_status, reported_same, reported_page, tells, failed_silent, failed_status}
+use Rattle.rinqebo_run.proofs.CheckNotes.{check_noted}
 use Rattle.rinqebo_run.proofs.run.answer_whole.Goals as goal
 
 pub returns-in-Ok-clause-status : goal.returns-in-Ok-clause-status
@@ -77,3 +78,16 @@ returns-in-Err-clause-errors g c quiet =
     of_reasons c.args.request.now c.args.gathered.now c.in-Err.failure _ _ _ _ (c.in-Err.ensures.errors quiet)
     c.in-Err.ensures.err
     c.refuse_in.ensures.errors
+
+pub returns-in-Ok-clause-noted : goal.returns-in-Ok-clause-noted
+returns-in-Ok-clause-noted g c quiet check answered =
+    let q = c.args.request.now.question in
+    check_noted c.args.request.now c.args.gathered.now c.in-Ok.answer.report c.in-Ok.answer.note _ _ _ _ _
+    (c.in-Ok.ensures.errors quiet) c.in-Ok.ensures.ok c.in-Ok.ensures.noted
+    (reported_same q _ _ c.print_answer.ensures.status answered)
+    (reported_page q _ c.print_answer.ensures.noted answered check)
+
+pub returns-in-Err-clause-noted : goal.returns-in-Err-clause-noted
+returns-in-Err-clause-noted g c quiet check answered =
+    failed_silent c.args.request.now c.args.gathered.now c.in-Err.failure _ c.in-Err.ensures.err
+    c.refuse_in.ensures.status answered
