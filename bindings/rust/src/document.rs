@@ -213,9 +213,10 @@ pub struct Finding {
     pub upstream: Option<String>,
     pub level: Level,
     pub message: String,
-    /// The keys that lead to it, with dots between them.
-    #[serde(default, skip_serializing_if = "Option::is_none")]
-    pub path: Option<String>,
+    /// The keys and the positions that lead to it. It is empty if the finding is about no value, and for an unknown key
+    /// of a session.
+    #[serde(default, skip_serializing_if = "Vec::is_empty")]
+    pub path: Vec<PathStep>,
     /// The path of the file, in a finding of a configuration that is loaded.
     #[serde(default, skip_serializing_if = "Option::is_none")]
     pub file: Option<String>,
@@ -244,6 +245,16 @@ pub struct Finding {
     /// Notes that explain it.
     #[serde(default, skip_serializing_if = "Vec::is_empty")]
     pub notes: Vec<String>,
+}
+
+/// A step of the path to a value.
+#[derive(Clone, Debug, PartialEq, Eq, Serialize, Deserialize)]
+#[serde(untagged)]
+pub enum PathStep {
+    /// A key of a table.
+    Key(String),
+    /// A position in an array, from 0.
+    Index(usize),
 }
 
 /// How bad a finding is.

@@ -36,8 +36,8 @@ pub use diff::{
     diff, diff_json, Change, Diff, DiffError, DiffOptions, DiffSide, Given, RunChange, SideName, TestId,
 };
 pub use document::{
-    Document, Finding, Level, ListWrapper, Origin, OriginKind, Range, Refusal, Runs, Setting, Source, SourceKind,
-    TestRow,
+    Document, Finding, Level, ListWrapper, Origin, OriginKind, PathStep, Range, Refusal, Runs, Setting, Source,
+    SourceKind, TestRow,
 };
 pub use error::Error;
 pub use objects::{

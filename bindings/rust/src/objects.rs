@@ -1,6 +1,6 @@
 //! What a runner needs of a profile beside the settings of tests.
 
-use crate::document::{Finding, Level, Origin};
+use crate::document::{Finding, Level, Origin, PathStep};
 use crate::settings::{Group, GroupThreads, LeakTimeout};
 use crate::spelled;
 use serde::{Deserialize, Serialize};
@@ -287,13 +287,13 @@ impl Warning {
         }
     }
 
-    fn finding(&self, path: Option<String>, message: String) -> Finding {
+    fn finding(&self, path: &[&str], message: String) -> Finding {
         Finding {
             code: self.code.clone(),
             upstream: self.upstream().map(str::to_owned),
             level: Level::Warning,
             message,
-            path,
+            path: path.iter().map(|&key| PathStep::Key(key.to_owned())).collect(),
             file: Some(self.file.clone()),
             source: None,
             lines: None,
@@ -308,27 +308,26 @@ impl Warning {
     }
 
     /// Returns the findings that a whole run reports for it, one for each of its names, without places in the file,
-    /// help and notes. The message of an unknown key says only that the key has no effect.
+    /// help and notes. The message of an unknown key says only that the key has no effect, and its path is left out:
+    /// its name has the keys with dots between them, and a key may have dots of its own.
     pub fn findings(&self) -> Vec<Finding> {
-        let of_names = |words: fn(&str) -> (String, String)| {
-            let findings = self.names.iter().map(|name| words(name));
-            findings.map(|(path, message)| self.finding(Some(path), message)).collect()
-        };
+        let names = self.names.iter();
         match (self.code.as_str(), &self.profile, self.count) {
-            ("unknown-key", _, _) => of_names(|path| (path.to_owned(), format!("`{path}` has no effect"))),
-            ("reserved-profile", _, _) => of_names(|name| {
-                let message = format!("`{name}`: names of profiles that begin with `default-` are nextest's own");
-                (format!("profile.{name}"), message)
-            }),
+            ("unknown-key", _, _) => names.map(|name| self.finding(&[], format!("`{name}` has no effect"))).collect(),
+            ("reserved-profile", _, _) => {
+                let of_profile = |name: &String| {
+                    let message = format!("`{name}`: names of profiles that begin with `default-` are nextest's own");
+                    self.finding(&["profile", name], message)
+                };
+                names.map(of_profile).collect()
+            }
             ("old-script-table", _, _) => {
-                let message = "the table `script` is the old place of setup scripts".to_owned();
-                vec![self.finding(Some("script".to_owned()), message)]
+                vec![self.finding(&["script"], "the table `script` is the old place of setup scripts".to_owned())]
             }
             ("empty-script-rule", Some(profile), Some(count)) => {
-                let path = format!("profile.{profile}.scripts");
-                vec![self.finding(Some(path), format!("rules that name no script: {count}"))]
+                vec![self.finding(&["profile", profile, "scripts"], format!("rules that name no script: {count}"))]
             }
-            (code, _, _) => vec![self.finding(None, code.to_owned())],
+            (code, _, _) => vec![self.finding(&[], code.to_owned())],
         }
     }
 }

@@ -4,7 +4,7 @@ use rinqebo::{Backoff, Config, Display, Error, Group, GroupThreads, Machine, Mod
 use rinqebo::{resolve, resolve_json, Document, Level, Origin, OriginKind, RunRequest, SourceKind};
 use rinqebo::{version, version_number, VERSION, VERSION_NUMBER};
 use rinqebo::{File, ReadOutcome, Refusal, ToolFile};
-use rinqebo::{FinalStatusLevel, Finding, ListTest, MaxFail, Objects, RelativeTo, StatusLevel, TargetRunner};
+use rinqebo::{FinalStatusLevel, Finding, ListTest, MaxFail, Objects, PathStep, RelativeTo, StatusLevel, TargetRunner};
 use serde_json::json;
 use std::sync::{Arc, Mutex};
 use std::time::Duration;
@@ -51,6 +51,16 @@ fn test_of<'a>(binary: &'a str, name: &'a str) -> Test<'a> {
 /// The name of a group, and how many of its tests run at a time.
 fn group_of(group: &Group) -> (&str, GroupThreads) {
     (&group.name, group.max_threads)
+}
+
+/// A step of a path that is a key.
+fn key(name: &str) -> PathStep {
+    PathStep::Key(name.to_owned())
+}
+
+/// A path of keys.
+fn keys(names: &[&str]) -> Vec<PathStep> {
+    names.iter().map(|name| key(name)).collect()
 }
 
 /// A file of `examples/real`.
@@ -541,8 +551,14 @@ fn a_run_that_is_refused_tells_its_findings() {
     };
     let Err(Error::Refused(refusal)) = ask("[profile.ci]\nretries = 'x'\n", "ci") else { panic!("it is refused") };
     assert_eq!(refusal.findings[0].level, Level::Error);
-    assert_eq!(refusal.findings[0].path.as_deref(), Some("profile.ci.retries"));
+    assert_eq!(refusal.findings[0].path, keys(&["profile", "ci", "retries"]));
     assert_eq!(refusal.findings[0].lines, Some((2, 2)));
+    // A position in an array is a step of a path, and a key with a dot stays one key.
+    let Err(Error::Refused(refusal)) = ask("[[profile.'a.b'.overrides]]\nfilter = 1\n", "ci") else {
+        panic!("it is refused")
+    };
+    let [profile, of_name, overrides, filter] = ["profile", "a.b", "overrides", "filter"].map(key);
+    assert_eq!(refusal.findings[0].path, [profile, of_name, overrides, PathStep::Index(0), filter]);
     let Err(Error::NoProfile(refusal)) = ask("[profile.ci]\n", "cj") else { panic!("there is no cj") };
     assert!(refusal.reason.contains("cj"), "{}", refusal.reason);
     assert_eq!(refusal.findings.len(), 1);
@@ -736,8 +752,8 @@ fn a_profile_has_the_commands_of_its_scripts() {
 fn a_session_tells_its_warnings() {
     let config = runner(None);
     let findings = config.findings().unwrap();
-    let told: Vec<_> = findings.iter().map(|found| (found.code.as_str(), found.path.as_deref().unwrap())).collect();
-    assert_eq!(told, [("unknown-key", "unknown"), ("reserved-profile", "profile.default-x")]);
+    let told: Vec<_> = findings.iter().map(|found| (found.code.as_str(), found.path.clone())).collect();
+    assert_eq!(told, [("unknown-key", vec![]), ("reserved-profile", keys(&["profile", "default-x"]))]);
     assert!(findings.iter().all(|found| found.level == Level::Warning));
     assert_eq!(findings[0].file.as_deref(), Some("/w/.config/nextest.toml"));
     // A whole run reports the same, with places.
@@ -746,9 +762,11 @@ fn a_session_tells_its_warnings() {
     let request = RunRequest { sources: &sources, profile: "ci", mode: Mode::Test, list: &list };
     let document = resolve(&request).unwrap();
     let words = |findings: &[Finding]| -> Vec<_> {
-        findings.iter().map(|found| (found.code.clone(), found.upstream.clone(), found.path.clone(), found.level)).collect()
+        findings.iter().map(|found| (found.code.clone(), found.upstream.clone(), found.level)).collect()
     };
     assert_eq!(words(&findings), words(&document.findings));
+    assert_eq!(document.findings[0].path, keys(&["unknown"]));
+    assert_eq!(document.findings[1].path, findings[1].path);
     assert!(self::config().findings().unwrap().is_empty());
 }
 
