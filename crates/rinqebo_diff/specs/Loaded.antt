@@ -1,27 +1,14 @@
 -- A side that is loaded.
-use Rattle.std.specs.Prelude.{List}
 use Rattle.nextest_tables.specs.FileTexts.{names_in, IsIn}
 use Rattle.rinqebo_request.specs.declared.files.gathering.Gathered.{Gathered}
 use Rattle.rinqebo_checks.specs.Reports.{IsReportOf}
 use Rattle.rinqebo_load.specs.Accepted.{AreAccepted}
 use Rattle.rinqebo_load.specs.SessionOf.{IsSessionOf}
 use Rattle.rinqebo_load.specs.Sessions.{files_view, readings, IsLoadedFrom}
-use Rattle.rinqebo_load.specs.Warned.{warnings_met}
-use Rattle.rinqebo_load.specs.declared.session.Session.{Session}
-use Rattle.rinqebo_findings.specs.Shown.{AreReported}
-use Rattle.rinqebo_findings.specs.Warnings.{ReportWarnings}
-use Rattle.rinqebo_report.specs.declared.finding.Finding.{Finding}
-use Rattle.rinqebo_report.specs.declared.report.Report.{Report}
 use Rattle.rinqebo_results.specs.LookedUp.{IsLookedUp}
+use Rattle.rinqebo_results.specs.Warned.{ShowsWarningsAloneOf}
 use Rattle.rinqebo_diff.specs.declared.request.DiffSide.{DiffSide}
 use Rattle.rinqebo_diff.specs.declared.loaded.Loaded.{Loaded}
-
--- A report of a session shows the findings for the warnings of the load, and no others, each once
--- and in their order.
-pub record ShowsWarningsAlone (session : Session) (report : Report) : Type 0 where
-  pub found : List Finding
-  pub reports : ReportWarnings session.layers.items (warnings_met session) found
-  pub shows : AreReported found report.findings.items
 
 -- A side is loaded: its session is that of its request, its files satisfy every written rule, its
 -- configuration is what they mean, it has the profile that is requested, and each filter that the
@@ -34,4 +21,4 @@ pub record IsLoadedSide (side : DiffSide) (gathered : Gathered) (loaded : Loaded
   pub known : IsIn (names_in loaded.config.config.profiles) side.profile.now
   pub looked_up : IsLookedUp loaded.session side.profile.now
   pub about : IsReportOf loaded.session loaded.report
-  pub warned : ShowsWarningsAlone loaded.session loaded.report
+  pub warned : ShowsWarningsAloneOf loaded.session loaded.report

@@ -1,5 +1,5 @@
 -- What standard error gets of a run.
-use Rattle.std.proofs.Common.{[], Bool, append-nil, append_assoc, arith, false, true, ◌≡◌, ◌∙◌, ◌⊎◌, ◌++◌, inl, inr, ℕ, List, Option, Result, Ok, Err, IfOk, MatchResult, ap, refl, string_bytes, subst, sym}
+use Rattle.std.proofs.Common.{[], Bool, append-nil, append_assoc, arith, false, true, ◌≡◌, ◌≢◌, ◌∙◌, ◌⊎◌, ◌++◌, inl, inr, ℕ, List, Option, Result, Ok, Err, IfOk, MatchResult, ap, refl, string_bytes, subst, sym}
 use Rattle.std.specs.declared.alloc.Global.{Global}
 use Rattle.std.specs.Prelude.{String}
 use Rattle.std.specs.declared.alloc.AllocError.{AllocError}
@@ -7,7 +7,9 @@ use Rattle.std.specs.Io.KnownBytes.{Appends}
 use Rattle.std.proofs.KnownBytes.{Appends-nil, Appends-trans}
 use Rattle.std.specs.Prelude.{IfErr, IsErrAnd}
 use Rattle.rinqebo_checks.specs.Reports.{IsReportOf}
+use Rattle.nextest_sources.specs.Warnings.{Warning}
 use Rattle.rinqebo_load.specs.SessionOf.{IsSessionOf}
+use Rattle.rinqebo_load.specs.Warned.{warnings_met}
 use Rattle.rinqebo_load.specs.declared.session.Session.{Session}
 use Rattle.rinqebo_report.specs.Pages.{findings_runs}
 use Rattle.rinqebo_report.specs.Pieces.{page_text}
@@ -16,14 +18,16 @@ use Rattle.rinqebo_results.specs.Prefixes.{Grows}
 use Rattle.rinqebo_load.specs.declared.failure.Failure.{Failure}
 use Rattle.rinqebo_request.specs.declared.files.gathering.Gathered.{Gathered}
 use Rattle.rinqebo_results.specs.Answered.{IsAnswer}
-use Rattle.rinqebo_results.specs.Written.{StopsList}
+use Rattle.rinqebo_results.specs.Warned.{ShowsWarningsAlone}
+use Rattle.rinqebo_results.specs.Written.{AsksNoTextList, StopsList}
 use Rattle.rinqebo_results.specs.declared.list_stop.ListStop.{ListStop}
 use Rattle.rinqebo_results.specs.declared.list_stop.ListStop.TheVariants as stops
+use Rattle.rinqebo_report.specs.declared.format.Format.{Format}
 use Rattle.rinqebo_report.specs.declared.format.Format.TheVariants as formats
 use Rattle.rinqebo_report.specs.declared.report.Report.{Report}
 use Rattle.rinqebo_request.specs.declared.request.Request.{Request}
 use Rattle.rinqebo_results.specs.Refused.{Fails, IsReportOfFailure}
-use Rattle.rinqebo_results.specs.StandardError.{AddsNotes, AreNotes, GetsBefore, GetsErrors, GetsFault, GetsNotes, GetsReason, GetsStop, GetsWarnings, GetsWarningsFor, HasNotes, IsFaultMessage, IsReason, document_given, memory_given, memory_message, no_note, note_line, of_failure, of_list, of_memory, of_result, one_more, reason_given}
+use Rattle.rinqebo_results.specs.StandardError.{AddsNotes, AreNotes, GetsBefore, GetsErrors, GetsFault, GetsNotes, GetsReason, GetsReasonText, GetsStop, GetsWarnings, GetsWarningsFor, HasNoDocument, HasNotes, IsFaultMessage, IsReason, document_given, is_json, memory_given, memory_message, no_note, note_line, of_failure, of_list, of_memory, of_result, one_more, reason_given, text_given, text_lost}
 use Rattle.rinqebo_results.specs.Statuses.{failure_status}
 
 -- a text was written with a status, or a write failed
@@ -93,30 +97,45 @@ words_lost n out_old out_new old new same (inr told) = inr (same, told)
 pub by_message : (failure : Failure) (request : Request) (status n : ℕ) (old new : Option (List ℕ))
     (message : Result (String Global) AllocError)
     → n ≡ failure_status failure → IfOk message (λ text. IsReason failure request (string_bytes text))
-    → MessageTold n status old new message → (status ≡ 6) ⊎ GetsReason failure request status old new
+    → MessageTold n status old new message → (status ≡ 6) ⊎ GetsReasonText failure request status old new
 by_message failure request status n old new message is reason (inl six) = inl six
 by_message failure request status n old new (Ok text) is reason (inr told) =
-    inr (reason_given (string_bytes text) (told.0 ∙ is) reason told.1)
-by_message failure request status n old new (Err e) is reason (inr told) = inr (memory_given told.0 told.1)
+    inr (text_given (string_bytes text) (told.0 ∙ is) reason told.1)
+by_message failure request status n old new (Err e) is reason (inr told) = inr (text_lost told.0 told.1)
 
 -- a page that is the reason
 pub by_page : (failure : Failure) (request : Request) (status n : ℕ) (old new : Option (List ℕ))
     (page : List ℕ) → n ≡ failure_status failure
     → IsReason failure request page
     → (status ≡ 6) ⊎ ((status ≡ n) × Appends old new page) ⊎ ((status ≡ 5) × Appends old new memory_message)
-    → (status ≡ 6) ⊎ GetsReason failure request status old new
+    → (status ≡ 6) ⊎ GetsReasonText failure request status old new
 by_page failure request status n old new page is reason (inl six) = inl six
 by_page failure request status n old new page is reason (inr (inl told)) =
-    inr (reason_given page (told.0 ∙ is) reason told.1)
-by_page failure request status n old new page is reason (inr (inr memory)) = inr (memory_given memory.0 memory.1)
+    inr (text_given page (told.0 ∙ is) reason told.1)
+by_page failure request status n old new page is reason (inr (inr memory)) = inr (text_lost memory.0 memory.1)
 
 -- that memory ran out
 pub by_memory : (failure : Failure) (request : Request) (status : ℕ) (old new : Option (List ℕ))
     → (status ≡ 5) ⊎ (status ≡ 6)
-    → (status ≡ 6) ⊎ Appends old new memory_message → (status ≡ 6) ⊎ GetsReason failure request status old new
+    → (status ≡ 6) ⊎ Appends old new memory_message → (status ≡ 6) ⊎ GetsReasonText failure request status old new
 by_memory failure request status old new ends (inl six) = inl six
-by_memory failure request status old new (inl five) (inr told) = inr (memory_given five told)
+by_memory failure request status old new (inl five) (inr told) = inr (text_lost five told)
 by_memory failure request status old new (inr six) (inr told) = inl six
+
+-- a reason that no document says
+pub by_text : (failure : Failure) (request : Request) (status : ℕ) (old new : Option (List ℕ))
+    → HasNoDocument request.format failure → (status ≡ 6) ⊎ GetsReasonText failure request status old new
+    → (status ≡ 6) ⊎ GetsReason failure request status old new
+by_text failure request status old new none (inl six) = inl six
+by_text failure request status old new none (inr reason) = inr (reason_given none reason)
+
+-- a format that is not JSON
+pub no_json : (format : Format) → format ≢ formats.Json → is_json format ≡ false
+no_json formats.Json other = absurd (other refl)
+no_json formats.Text other = refl
+no_json formats.Grouped other = refl
+no_json formats.Concise other = refl
+no_json (formats.Github folder) other = refl
 
 -- a document that is the reason
 pub by_document : (failure : Failure) (request : Request) (report : Report) (status n : ℕ) (old new : Option (List ℕ))
@@ -157,14 +176,14 @@ unless_json false old new is adds = adds
 
 -- the notes on a result, or that memory ran out
 pub of_answer : (request : Request) (gathered : Gathered) (report : Report) (answered status : ℕ)
-    (old mid new : Option (List ℕ)) → mid ≡ old
+    (old mid new : Option (List ℕ)) → AsksNoTextList request → mid ≡ old
     → IsAnswer request gathered report answered → (status ≡ 6) ⊎ GetsNotes request report answered status mid new
     → (status ≡ 6) ⊎ GetsErrors request gathered status old new
-of_answer request gathered report answered status old mid new same is (inl six) = inl six
-of_answer request gathered report answered status old mid new same is (inr (inl (text, ends, notes, adds))) =
-    inr (of_result report text (subst (IsAnswer request gathered report) (sym ends) is) notes
+of_answer request gathered report answered status old mid new other same is (inl six) = inl six
+of_answer request gathered report answered status old mid new other same is (inr (inl (text, ends, notes, adds))) =
+    inr (of_result report text other (subst (IsAnswer request gathered report) (sym ends) is) notes
     (subst (λ o. Appends o new text) same adds))
-of_answer request gathered report answered status old mid new same is (inr (inr (five, adds))) =
+of_answer request gathered report answered status old mid new other same is (inr (inr (five, adds))) =
     inr (of_memory [] five (subst (λ o. Appends o new memory_message) same adds))
 
 pub of_reasons : (request : Request) (gathered : Gathered) (failure : Failure) (status : ℕ)
@@ -175,16 +194,18 @@ of_reasons request gathered failure status old mid new same fails (inl six) = in
 of_reasons request gathered failure status old mid new same fails (inr reason) =
     inr (of_failure failure fails (subst (λ o. GetsReason failure request status o new) same reason))
 
--- a list that was not written whole
+-- a list as text that was not written whole
 pub of_stop : (request : Request) (gathered : Gathered) (stop : ListStop) (status : ℕ) (old mid new : Option (List ℕ))
+    → request.format ≡ formats.Text
     → ((failure : Failure) → stop ≡ stops.Refused failure → Fails request gathered failure) → GetsBefore stop old mid
     → (status ≡ 6) ⊎ GetsStop request stop status mid new → (status ≡ 6) ⊎ GetsErrors request gathered status old new
-of_stop request gathered stop status old mid new fails before (inl six) = inl six
-of_stop request gathered (stops.Refused failure) status old mid new fails before (inr reason) =
-    inr (of_failure failure (fails failure refl) (subst (λ o. GetsReason failure request status o new) before reason))
-of_stop request gathered stops.Memory status old mid new fails before (inr told) =
+of_stop request gathered stop status old mid new text fails before (inl six) = inl six
+of_stop request gathered (stops.Refused failure) status old mid new text fails before (inr reason) =
+    inr (of_failure failure (fails failure refl)
+    (subst (λ o. GetsReason failure request status o new) before (reason_given (inl (ap is_json text)) reason)))
+of_stop request gathered stops.Memory status old mid new text fails before (inr told) =
     inr (of_memory before.0 told.0 (Appends-trans old mid new before.0 memory_message before.1 told.1))
-of_stop request gathered stops.Write status old mid new fails before (inr none) = absurd none
+of_stop request gathered stops.Write status old mid new text fails before (inr none) = absurd none
 
 -- notes behind the first text
 pub start_notes : (json : Bool) (old start mid : List ℕ) → start ≡ old → AddsNotes json start mid
@@ -219,26 +240,38 @@ before_stop begins ends out_old out_new old new page stops.Memory adds stopped_s
 before_stop begins ends out_old out_new old new page stops.Write adds stopped_so = tt
 
 -- the warnings, and then the page of a list, which standard error gets nothing of
-pub warned : {A : Type 0} (session : Session) (colour : Colour) (begins ends : Option (List ℕ) → Type 0)
+pub warned : {A : Type 0} (session : Session) (warnings : List Warning) (colour : Colour)
+    (begins ends : Option (List ℕ) → Type 0)
     (out_old : Option (List ℕ)) (head : Report)
     (out_new old mid new : Option (List ℕ)) → IsReportOf session head
+    → ShowsWarningsAlone session.layers.items warnings head.findings.items
     → Appends old mid (page_text colour (findings_runs head)) → new ≡ mid
     → (r : Result A ListStop) → IfErr r (StopsList (λ _. ⊥) begins ends out_old out_new)
-    → MatchResult r (λ _. GetsWarnings session colour old new) (λ stop. GetsBefore stop old new)
-warned session colour begins ends out_old head out_new old mid new about adds same (Ok x) stops_so =
+    → MatchResult r (λ _. GetsWarnings session warnings colour old new) (λ stop. GetsBefore stop old new)
+warned session warnings colour begins ends out_old head out_new old mid new about alone adds same (Ok x) stops_so =
     record {
       head = head;
       about = about;
+      warned = alone;
       page = subst (λ o. Appends old o (page_text colour (findings_runs head))) (sym same) adds;
     }
-warned session colour begins ends out_old head out_new old mid new about adds same (Err stop) stops_so =
+warned session warnings colour begins ends out_old head out_new old mid new about alone adds same (Err stop) stops_so =
     before_stop begins ends out_old out_new old new (page_text colour (findings_runs head)) stop
     (subst (λ o. Appends old o (page_text colour (findings_runs head))) (sym same) adds) stops_so
+
+-- the warnings that a load adds to none are those that it meets
+pub of_load : {A : Type 0} (session : Session) (colour : Colour) (warnings : List Warning) (old new : Option (List ℕ))
+    → warnings ≡ warnings_met session → (r : Result A ListStop)
+    → MatchResult r (λ _. GetsWarnings session warnings colour old new) (λ stop. GetsBefore stop old new)
+    → MatchResult r (λ _. GetsWarnings session (warnings_met session) colour old new) (λ stop. GetsBefore stop old new)
+of_load session colour warnings old new met r got =
+    subst (λ ws. MatchResult r (λ _. GetsWarnings session ws colour old new) (λ stop. GetsBefore stop old new)) met got
 
 -- the same of the session of a request
 pub for_request : {A : Type 0} (request : Request) (gathered : Gathered) (session : Session) (old new : Option (List ℕ))
     → IsSessionOf request gathered session → (r : Result A ListStop)
-    → MatchResult r (λ _. GetsWarnings session request.paper.colour old new) (λ stop. GetsBefore stop old new)
+    → MatchResult r (λ _. GetsWarnings session (warnings_met session) request.paper.colour old new)
+    (λ stop. GetsBefore stop old new)
     → MatchResult r (λ _. GetsWarningsFor request gathered old new) (λ stop. GetsBefore stop old new)
 for_request request gathered session old new begun (Ok x) got =
     record {

@@ -2,8 +2,10 @@
 -- reason why there is none.
 use Rattle.std.specs.Prelude.{◌≡◌, ◌++◌, ◌∷◌, ◌⊎◌, ◌||◌, ◌==◌, None, Some, decimal, ℕ, Bool, false, true, List, [], Option, codes, if◌then◌else◌, string_bytes}
 use Rattle.std.specs.Io.KnownBytes.{Appends}
+use Rattle.nextest_sources.specs.Warnings.{Warning}
 use Rattle.rinqebo_checks.specs.Reports.{IsReportOf}
 use Rattle.rinqebo_load.specs.SessionOf.{IsSessionOf}
+use Rattle.rinqebo_load.specs.Warned.{warnings_met}
 use Rattle.rinqebo_load.specs.declared.failure.Failure.{Failure}
 use Rattle.rinqebo_load.specs.declared.failure.Failure.TheVariants as failures
 use Rattle.rinqebo_load.specs.declared.session.Session.{Session}
@@ -21,8 +23,11 @@ use Rattle.rinqebo_request.specs.declared.words.ParseStop.{ParseStop}
 use Rattle.rinqebo_request.specs.declared.words.ParseStop.TheVariants as stops
 use Rattle.rinqebo_results.specs.Answered.{IsAnswer}
 use Rattle.rinqebo_results.specs.Prefixes.{Grows}
-use Rattle.rinqebo_results.specs.Refused.{Fails, IsReportOfFailure}
+use Rattle.rinqebo_results.specs.Refused.{Fails, HasNoReport, IsReportOfFailure}
 use Rattle.rinqebo_results.specs.Statuses.{failure_status}
+use Rattle.rinqebo_results.specs.Warned.{ShowsWarningsAlone}
+use Rattle.rinqebo_results.specs.Written.{AsksNoTextList, AsksTextList}
+use Rattle.rinqebo_results.specs.declared.list_page.RequestedList.{RequestedList}
 use Rattle.rinqebo_results.specs.declared.list_stop.ListStop.{ListStop}
 use Rattle.rinqebo_results.specs.declared.list_stop.ListStop.TheVariants as faults
 
@@ -79,12 +84,35 @@ IsReason (failures.SeveralTests report) request text =
     text ≡ page_text request.paper.colour (findings_runs report)
 IsReason failures.Memory request text = text ≡ memory_message
 
--- What standard error gets of a run that ends with a status and has no result: the reason; or
--- nothing, if standard output gets the reason as a document; or that memory ran out.
+-- What standard error gets of a reason that the program writes as a text, by the status: the
+-- reason, or that memory ran out.
+pub data GetsReasonText (failure : Failure) (request : Request) (status : ℕ)
+    (old new : Option (List ℕ)) : Type 0 where
+  text_given : (text : List ℕ) → status ≡ failure_status failure → IsReason failure request text
+      → Appends old new text → GetsReasonText failure request status old new
+  text_lost : status ≡ 5 → Appends old new memory_message
+      → GetsReasonText failure request status old new
+
+-- whether a format is JSON
+abbrev pub is_json : Format → Bool
+is_json formats.Json = true
+is_json formats.Text = false
+is_json formats.Grouped = false
+is_json formats.Concise = false
+is_json (formats.Github folder) = false
+
+-- no document says why a run has no result: the request is not for JSON, or no report says why
+abbrev pub HasNoDocument : Format → Failure → Type 0
+HasNoDocument format failure = (is_json format ≡ false) ⊎ HasNoReport failure
+
+-- What standard error gets of a run that ends with a status and has no result: the reason, only if
+-- no document says it; or nothing, if standard output gets the reason as a document; or that memory
+-- ran out.
 pub data GetsReason (failure : Failure) (request : Request) (status : ℕ)
     (old new : Option (List ℕ)) : Type 0 where
-  reason_given : (text : List ℕ) → status ≡ failure_status failure → IsReason failure request text
-      → Appends old new text → GetsReason failure request status old new
+  reason_given : HasNoDocument request.format failure
+      → GetsReasonText failure request status old new
+      → GetsReason failure request status old new
   document_given : (report : Report) → request.format ≡ formats.Json
       → status ≡ failure_status failure → IsReportOfFailure failure report → new ≡ old
       → GetsReason failure request status old new
@@ -105,14 +133,6 @@ pub data AreNotes : List ℕ → Type 0 where
 abbrev pub AddsNotes : Bool → List ℕ → List ℕ → Type 0
 AddsNotes true old new = new ≡ old
 AddsNotes false old new = (notes : List ℕ) × AreNotes notes × (new ≡ old ++ notes)
-
--- whether a format is JSON
-abbrev pub is_json : Format → Bool
-is_json formats.Json = true
-is_json formats.Text = false
-is_json formats.Grouped = false
-is_json formats.Concise = false
-is_json (formats.Github folder) = false
 
 -- the page of the findings of a result, beside its own page: that of a check and a document of JSON
 -- have them themselves
@@ -146,19 +166,20 @@ GetsNotes request report answer_status status old new =
     × Appends old new text) ⊎ ((status ≡ 5) × Appends old new memory_message)
 
 -- What standard error gets of a list that is written as text: the page of the findings of a report
--- about its session.
-pub record GetsWarnings (session : Session) (colour : Colour) (old new : Option (List ℕ)) : Type 0
-  where
-    pub head : Report
-    pub about : IsReportOf session head
-    pub page : Appends old new (page_text colour (findings_runs head))
+-- about its session, which are those for the warnings of a load, and no others.
+pub record GetsWarnings (session : Session) (warnings : List Warning) (colour : Colour)
+    (old new : Option (List ℕ)) : Type 0 where
+  pub head : Report
+  pub about : IsReportOf session head
+  pub warned : ShowsWarningsAlone session.layers.items warnings head.findings.items
+  pub page : Appends old new (page_text colour (findings_runs head))
 
--- the same, of the session of a request
+-- the same, of the load of the session of a request
 pub record GetsWarningsFor (request : Request) (gathered : Gathered) (old new : Option (List ℕ))
     : Type 0 where
   pub session : Session
   pub begun : IsSessionOf request gathered session
-  pub warnings : GetsWarnings session request.paper.colour old new
+  pub warnings : GetsWarnings session (warnings_met session) request.paper.colour old new
 
 -- What standard error gets of a list that is not written whole, before the reason: nothing, if a
 -- run refuses, and something or nothing, if memory runs out.
@@ -170,20 +191,21 @@ GetsBefore faults.Write old new = Unit {0}
 -- what standard error gets of the reason why a list is not written whole
 abbrev pub GetsStop : Request → ListStop → ℕ → Option (List ℕ) → Option (List ℕ) → Type 0
 GetsStop request (faults.Refused failure) status old new =
-    GetsReason failure request status old new
+    GetsReasonText failure request status old new
 GetsStop request faults.Memory status old new = (status ≡ 5) × Appends old new memory_message
 GetsStop request faults.Write status old new = ⊥
 
 -- What standard error gets of a run of a request, by its status, if no write fails and no progress
--- is shown: the notes on its result, which may be a list as text; or the reason why there is none;
--- or that memory ran out, behind what it got before.
+-- is shown: the notes on its result, which of a list as text are the findings for the warnings of
+-- the load; or the reason why there is no result; or that memory ran out, behind what it got
+-- before.
 pub data GetsErrors (request : Request) (gathered : Gathered) (status : ℕ)
     (old new : Option (List ℕ)) : Type 0 where
-  of_result : (report : Report) (text : List ℕ) → IsAnswer request gathered report status
-      → HasNotes request report text → Appends old new text
-      → GetsErrors request gathered status old new
-  of_list : status ≡ 0 → GetsWarningsFor request gathered old new
-      → GetsErrors request gathered status old new
+  of_result : (report : Report) (text : List ℕ) → AsksNoTextList request
+      → IsAnswer request gathered report status → HasNotes request report text
+      → Appends old new text → GetsErrors request gathered status old new
+  of_list : (list : RequestedList) → AsksTextList request list → status ≡ 0
+      → GetsWarningsFor request gathered old new → GetsErrors request gathered status old new
   of_failure : (failure : Failure) → Fails request gathered failure
       → GetsReason failure request status old new → GetsErrors request gathered status old new
   of_memory : (before : List ℕ) → status ≡ 5 → Appends old new (before ++ memory_message)

@@ -24,11 +24,24 @@ pub record ShowsWarnings (layers : List Layer) (warnings : List Warning) (shown 
   pub begin : BeginWithWarnings layers warnings found
   pub shows : AreReported found shown
 
+-- A report shows the findings for warnings, and no others, each once and in their order.
+pub record ShowsWarningsAlone (layers : List Layer) (warnings : List Warning)
+    (shown : List Finding) : Type 0 where
+  pub found : List Finding
+  pub reports : ReportWarnings layers warnings found
+  pub shows : AreReported found shown
+
 -- A report of a session shows the findings for the warnings of the load.
 abbrev pub ShowsWarningsOf : Session → Report → Type 0
 ShowsWarningsOf session report =
     ShowsWarnings session.layers.items (warnings_met session) report.findings.items
 
--- the same, unless a check refuses the files, whose findings are those of the refusal
+-- a report of a session shows the findings for the warnings of the load, and no others
+abbrev pub ShowsWarningsAloneOf : Session → Report → Type 0
+ShowsWarningsAloneOf session report =
+    ShowsWarningsAlone session.layers.items (warnings_met session) report.findings.items
+
+-- A report of a session shows the findings for the warnings of the load, unless a check refuses the
+-- files, whose findings are those of the refusal.
 abbrev pub ShowsWarningsIn : Session → Report → ℕ → Type 0
 ShowsWarningsIn session report status = (status ≡ 3) ⊎ ShowsWarningsOf session report

@@ -40,6 +40,7 @@ use Rattle.rinqebo_report.specs.declared.report.TestRows.{TestRows}
 use Rattle.rinqebo_request.specs.declared.request.RequestedSettings.{RequestedSettings}
 use Rattle.rinqebo_request.specs.declared.request.Question.{Question}
 use Rattle.rinqebo_request.specs.declared.request.Question.TheVariants as questions
+use Rattle.rinqebo_request.specs.declared.request.Request.{Request}
 use Rattle.platform_language.specs.Expressions.{spec_view}
 use Rattle.platform_language.specs.declared.expression.TargetSpec.{TargetSpec}
 use Rattle.filter_inputs.specs.Lists.ListView.{list_view}
@@ -65,6 +66,15 @@ abbrev pub AsksList : Question → RequestedList → Type 0
 AsksList (questions.List profile mode list settings) asked =
     (asked.profile.now ≡ profile.now) × (asked.mode ≡ mode) × (asked.settings.now ≡ settings)
 AsksList _ asked = ⊥
+
+-- A request is for a list that the program writes as text.
+pub record AsksTextList (request : Request) (list : RequestedList) : Type 0 where
+  pub question : AsksList request.question list
+  pub format : request.format ≡ formats.Text
+
+-- a request is for something else than a list that the program writes as text
+abbrev pub AsksNoTextList : Request → Type 0
+AsksNoTextList request = (list : RequestedList) → ¬ AsksTextList request list
 
 -- These are the lines of a test on the page of a report, with the settings that a profile gives it.
 pub record ShowsTest {M : Type 0} (basis : Basis) (query : QueryContext M) (mode : NextestRunMode)

@@ -10,7 +10,8 @@ ghost use Rattle.rinqebo_results.specs.LookedUp.{IsFailureOn};
 ghost use Rattle.rinqebo_results.specs.Begun.{BeginsList, IsBegun};
 ghost use Rattle.rinqebo_results.specs.StandardError.{GetsBefore, GetsWarnings, GetsWarningsFor};
 ghost use Rattle.nextest_sources.specs.WarningsView.{warnings_view};
-ghost use Rattle.rinqebo_results.specs.Warned.{ShowsWarnings};
+ghost use Rattle.rinqebo_load.specs.Warned.{warnings_met};
+ghost use Rattle.rinqebo_results.specs.Warned.{ShowsWarningsAlone};
 ghost use Rattle.rinqebo_results.specs.Written.{AreFirstBy, AsksList, HasPage, StopsList, WritesList, WritesPage};
 ghost use Rattle.rinqebo_results.specs.declared.list_stop.ListStop.TheVariants as faults;
 ghost use Rattle.rinqebo_checks.specs.Reports.{IsReportOf};
@@ -40,7 +41,7 @@ fn begin<E: Write>(
     err: &mut E,
 ) -> Result<Report, ListStop>
     ensures about { IfOk result (IsReportOf session.now) }
-    ensures warned { IfOk result (λ head. ShowsWarnings session.now.layers.items
+    ensures warned { IfOk result (λ head. ShowsWarningsAlone session.now.layers.items
         (warnings_view warnings.now) head.findings.items) }
     ensures err { IfErr result (λ fault. (fault ≡ faults.Memory) ⊎ (fault ≡ faults.Write)) }
     ensures errors { MatchResult result
@@ -108,7 +109,8 @@ fn write_by<O: Write, E: Write>(
         list.now.mode list.now.settings.now paper (O.contents out.old)) (O.contents out.old)
         (O.contents out.new)) }
     ensures errors { shows_progress ≡ false → MatchResult result
-        (λ _. GetsWarnings session.now paper.colour (E.contents err.old) (E.contents err.new))
+        (λ _. GetsWarnings session.now (warnings_view warnings.now) paper.colour
+        (E.contents err.old) (E.contents err.new))
         (λ fault. GetsBefore fault (E.contents err.old) (E.contents err.new)) }
 {
     let head = begin(alloc, session, warnings, paper.colour, err)?;
@@ -140,7 +142,8 @@ fn write_in<O: Write, E: Write>(
         list.now.settings.now paper (O.contents out.old))
         (O.contents out.old) (O.contents out.new)) }
     ensures errors { shows_progress ≡ false → MatchResult result
-        (λ _. GetsWarnings session.now paper.colour (E.contents err.old) (E.contents err.new))
+        (λ _. GetsWarnings session.now (warnings_met session.now) paper.colour
+        (E.contents err.old) (E.contents err.new))
         (λ fault. GetsBefore fault (E.contents err.old) (E.contents err.new)) }
 {
     let mut warnings = DefaultConfigWarnings::new(alloc);

@@ -9,7 +9,7 @@ ghost use Rattle.rinqebo_request.specs.Requests.{source_variable};
 ghost use Rattle.rinqebo_results.specs.Prefixes.{AppendsPrefix};
 ghost use Rattle.rinqebo_results.specs.Received.{BeginsFailure};
 ghost use Rattle.rinqebo_results.specs.Refused.{HasNoReport, IsReportOfFailure, ReportsFailure};
-ghost use Rattle.rinqebo_results.specs.StandardError.{GetsReason, IsFaultMessage, memory_message, profile_note};
+ghost use Rattle.rinqebo_results.specs.StandardError.{GetsReason, GetsReasonText, IsFaultMessage, memory_message, profile_note};
 ghost use Rattle.rinqebo_results.specs.Statuses.{failure_status};
 
 use crate::printing::{print_text, refuse_for_memory, refuse_message, refuse_with};
@@ -69,7 +69,7 @@ fn fault_message(alloc: Global, fault: &InputFault) -> Result<String, AllocError
 /// Writes to standard error why a run has no result, and returns the exit status.
 pub fn refuse<E: Write>(alloc: Global, failure: &Failure, request: &Request<'_>, err: &mut E) -> u8
     ensures status { (result ≡ failure_status failure.now) ⊎ (result ≡ 5) ⊎ (result ≡ 6) }
-    ensures errors { (result ≡ 6) ⊎ GetsReason failure.now request.now result
+    ensures errors { (result ≡ 6) ⊎ GetsReasonText failure.now request.now result
         (E.contents err.old) (E.contents err.new) }
 {
     match failure {

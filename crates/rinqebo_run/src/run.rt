@@ -1,5 +1,5 @@
 //! Runs a request, and writes its result.
-ghost use Rattle.std.specs.Prelude.{◌≡◌, ◌++◌, ◌⊎◌, ◌||◌, ℕ, List, false, IfOk, IfErr, IfSome, OnOk, string_bytes};
+ghost use Rattle.std.specs.Prelude.{◌≡◌, ◌++◌, ◌⊎◌, ◌||◌, ℕ, List, false, IfOk, IfErr, MatchOption, OnOk, string_bytes};
 ghost use Rattle.std.specs.Io.KnownBytes.{Appends};
 ghost use Rattle.std.specs.Result.{result_map_both};
 ghost use Rattle.rinqebo_checks.specs.Reports.{IsReportOf};
@@ -17,7 +17,7 @@ ghost use Rattle.rinqebo_results.specs.StandardError.{GetsErrors, GetsFault, Get
 ghost use Rattle.rinqebo_report.specs.Document.{is_check};
 ghost use Rattle.rinqebo_results.specs.Statuses.{IsStatus, IsAnswerStatus, IsGatherStatus, IsWordsStatus};
 ghost use Rattle.rinqebo_results.specs.Warned.{ShowsWarningsIn, ShowsWarningsOf};
-ghost use Rattle.rinqebo_results.specs.Written.{AsksList, IsStopStatus};
+ghost use Rattle.rinqebo_results.specs.Written.{AsksList, AsksNoTextList, AsksTextList, IsStopStatus};
 ghost use Rattle.rinqebo_run.specs.CheckNotes.{GetsCheckNotes, HasCheckNotes, IsCheck, note_lines};
 ghost use Rattle.rinqebo_run.specs.OpenFilters.{HasNote, IsNoteOf};
 ghost use Rattle.rinqebo_report.specs.declared.format.Format.TheVariants as formats;
@@ -334,7 +334,7 @@ fn answer_whole<O: Write, E: Write>(
     ensures cause { IsReportedBy request.now gathered.now result }
     ensures begun { ReceivesPrefix (IsWhole request.now gathered.now (O.contents out.old))
         (O.contents out.old) (O.contents out.new) }
-    ensures errors { request.now.shows_progress ≡ false → (result ≡ 6)
+    ensures errors { AsksNoTextList request.now → request.now.shows_progress ≡ false → (result ≡ 6)
         ⊎ GetsErrors request.now gathered.now result (E.contents err.old) (E.contents err.new) }
     ensures noted { request.now.shows_progress ≡ false → IsCheck request.now.question
         → IsAnswerStatus request.now.question result
@@ -348,8 +348,7 @@ fn answer_whole<O: Write, E: Write>(
 
 /// The list of a request, where the request is for one as a text.
 fn text_list<'r>(request: &'r Request<'_>) -> Option<RequestedList<'r>>
-    ensures question { IfSome result (AsksList request.now.question) }
-    ensures format { IfSome result (λ _. request.now.format ≡ formats.Text) }
+    ensures { MatchOption result (AsksNoTextList request.now) (AsksTextList request.now) }
 {
     let Question::List {
         profile,

@@ -7,14 +7,14 @@ use Rattle.rinqebo_findings.specs.Shown.{AreReported}
 use Rattle.rinqebo_findings.specs.Warnings.{ReportWarnings}
 use Rattle.rinqebo_report.specs.declared.finding.Finding.{Finding}
 use Rattle.rinqebo_report.specs.declared.report.Report.{Report}
-use Rattle.rinqebo_diff.specs.Loaded.{ShowsWarningsAlone}
+use Rattle.rinqebo_results.specs.Warned.{ShowsWarningsAloneOf}
 use Rattle.rinqebo_diff.proofs.Failing.{begins_not, session_fails, side_wants}
 use Rattle.rinqebo_diff.proofs.loaded.load_side.Goals as goal
 
 -- a report shows the findings for the warnings that a load adds to none
 warned_alone : (session : Session) (layers : List Layer) (old new : List Warning) (found : List Finding)
     (report : Report) → layers ≡ session.layers.items → old ≡ [] → new ≡ old ++ warnings_met session
-    → ReportWarnings layers new found → AreReported found report.findings.items → ShowsWarningsAlone session report
+    → ReportWarnings layers new found → AreReported found report.findings.items → ShowsWarningsAloneOf session report
 warned_alone session layers old new found report same none added reports shows = record {
   found = found;
   reports = subst (λ ws. ReportWarnings session.layers.items ws found)

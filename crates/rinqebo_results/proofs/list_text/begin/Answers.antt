@@ -3,15 +3,12 @@ use Rattle.std.specs.Io.KnownBytes.{Appends}
 use Rattle.rinqebo_results.proofs.Errors.{grows_none, stopped}
 use Rattle.rinqebo_results.specs.StandardError.{GetsBefore}
 use Rattle.rinqebo_results.specs.declared.list_stop.ListStop.TheVariants as stops
-use Rattle.rinqebo_results.proofs.Warned.{begins_all}
+use Rattle.rinqebo_results.proofs.Warned.{shows_alone}
 use Rattle.rinqebo_results.proofs.list_text.begin.Goals as goal
 
 pub returns-clause-warned : goal.returns-clause-warned
-returns-clause-warned g c = record {
-  found = c.in_ok-findings.findings.items;
-  begin = begins_all _ _ _ _ c.deref.ensures.value c.in_ok-findings.ensures;
-  shows = c.in_ok-head.ensures.findings;
-}
+returns-clause-warned g c =
+    shows_alone _ _ _ _ _ c.deref.ensures.value c.in_ok-findings.ensures c.in_ok-head.ensures.findings
 
 pub returns-in_err-findings-clause-errors : goal.returns-in_err-findings-clause-errors
 returns-in_err-findings-clause-errors g c =

@@ -3,6 +3,7 @@ use Rattle.std.proofs.lemmas.Result.{IfErr-weaker, on_ok_weaker}
 use Rattle.nextest_sources.specs.WarningsView.{warnings_view}
 use Rattle.rinqebo_results.proofs.Errors.{stopped, warned}
 use Rattle.rinqebo_results.proofs.Stops.{passed_stop, stops_before, stops_so}
+use Rattle.rinqebo_results.proofs.Warned.{shows_these}
 use Rattle.rinqebo_results.proofs.Writing.{has_page}
 use Rattle.rinqebo_results.specs.Written.{AreFirstBy, HasPage, WritesPage}
 use Rattle.rinqebo_results.proofs.list_text.write_by.Goals as goal
@@ -26,7 +27,7 @@ returns-clause-ok g c =
     on_ok_weaker c.write_shown.result
     (has_page c.args.session.now c.args.config.now (warnings_view c.args.warnings.now) list.profile.now list.mode list.settings.now c.in_ok-head.head
     c.args.paper (g.O.Write.contents c.args.out.now) (g.O.Write.contents c.write_shown.new.out)
-    c.in_ok-head.ensures.about c.in_ok-head.ensures.warned)
+    c.in_ok-head.ensures.about (shows_these _ _ _ c.in_ok-head.ensures.warned))
     c.write_shown.ensures.ok
 
 pub returns-clause-err : goal.returns-clause-err
@@ -46,7 +47,7 @@ returns-clause-err g c =
     (λ _ none. none) (λ _ first. first)
     (λ whole writes. inr (has_page session config (warnings_view c.args.warnings.now) list.profile.now list.mode list.settings.now head
     c.args.paper old whole
-    c.in_ok-head.ensures.about c.in_ok-head.ensures.warned writes)))
+    c.in_ok-head.ensures.about (shows_these _ _ _ c.in_ok-head.ensures.warned) writes)))
     c.write_shown.ensures.err
 
 pub returns-in_err-head-clause-errors : goal.returns-in_err-head-clause-errors
@@ -60,8 +61,8 @@ returns-clause-errors g c quiet =
     let config = c.args.config.now in
     let head = c.in_ok-head.head in
     let old = g.O.Write.contents c.args.out.now in
-    warned session c.args.paper.colour
+    warned session (warnings_view c.args.warnings.now) c.args.paper.colour
     (AreFirstBy session config list.profile.now list.mode list.settings.now c.args.paper old)
     (WritesPage session config list.profile.now list.mode list.settings.now head c.args.paper old) old head
-    (g.O.Write.contents c.write_shown.new.out) _ _ _ c.in_ok-head.ensures.about c.in_ok-head.ensures.errors
-    (c.write_shown.ensures.errors quiet) c.write_shown.result c.write_shown.ensures.err
+    (g.O.Write.contents c.write_shown.new.out) _ _ _ c.in_ok-head.ensures.about c.in_ok-head.ensures.warned
+    c.in_ok-head.ensures.errors (c.write_shown.ensures.errors quiet) c.write_shown.result c.write_shown.ensures.err

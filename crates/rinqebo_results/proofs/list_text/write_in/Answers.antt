@@ -1,7 +1,7 @@
 use Rattle.std.proofs.Common.{◌∙◌, ◌++◌, ap, inr, refl}
 use Rattle.rinqebo_load.specs.Warned.{warnings_met}
 use Rattle.std.proofs.lemmas.Result.{IfErr-weaker, on_ok_weaker}
-use Rattle.rinqebo_results.proofs.Errors.{stopped}
+use Rattle.rinqebo_results.proofs.Errors.{of_load, stopped}
 use Rattle.rinqebo_results.proofs.Stops.{stops_so}
 use Rattle.rinqebo_results.proofs.Writing.{begins_list, writes_list}
 use Rattle.rinqebo_results.specs.Begun.{BeginsList}
@@ -46,4 +46,7 @@ returns-in_err-config-clause-errors g c quiet =
     stopped _ _ c.from_residual.result (stops.Refused c.in_err-config.field-0.0) c.from_residual.ensures.1 refl
 
 pub returns-clause-errors : goal.returns-clause-errors
-returns-clause-errors g c quiet = c.write_by.ensures.errors quiet
+returns-clause-errors g c quiet =
+    of_load c.args.session.now c.args.paper.colour _ _ _
+    (c.in_ok-config.ensures.warnings ∙ ap (λ ws. ws ++ warnings_met c.args.session.now) c.new-warnings.ensures)
+    c.write_by.result (c.write_by.ensures.errors quiet)

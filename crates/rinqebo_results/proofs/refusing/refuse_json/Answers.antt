@@ -1,4 +1,5 @@
-use Rattle.rinqebo_results.proofs.Errors.{by_document}
+use Rattle.std.proofs.Common.{inr}
+use Rattle.rinqebo_results.proofs.Errors.{by_document, by_text}
 use Rattle.rinqebo_results.proofs.Documents.{document_quiet, document_reported, no_document}
 use Rattle.rinqebo_results.proofs.Received.{document_begun}
 use Rattle.rinqebo_results.proofs.refusing.refuse_json.Goals as goal
@@ -28,3 +29,7 @@ pub returns-in-Some-clause-errors : goal.returns-in-Some-clause-errors
 returns-in-Some-clause-errors g c =
     by_document c.args.failure.now c.args.request.now c.in-Some.report.now _ _ _ _ c.requires.json c.in-Some.ensures
     c.status_of_failure-status.ensures c.refuse_page.ensures.errors
+
+pub returns-in-None-clause-errors : goal.returns-in-None-clause-errors
+returns-in-None-clause-errors g c =
+    by_text c.args.failure.now c.args.request.now _ _ _ (inr c.in-None.ensures) c.refuse.ensures.errors

@@ -37,14 +37,16 @@ returns-in-Err-clause-begun g c =
     stop_begun c.args.request.now c.args.gathered.now _ _ c.in-Err.fault c.in-Err.ensures.err
 
 pub returns-in-Ok-clause-errors : goal.returns-in-Ok-clause-errors
-returns-in-Ok-clause-errors g c quiet = inr (of_list refl (c.in-Ok.ensures.errors quiet))
+returns-in-Ok-clause-errors g c quiet =
+    inr (of_list c.args.list.now (record { question = c.requires.question; format = c.requires.format }) refl
+    (c.in-Ok.ensures.errors quiet))
 
 pub returns-in-Err-clause-errors : goal.returns-in-Err-clause-errors
 returns-in-Err-clause-errors g c quiet =
     let request = c.args.request.now in
     let gathered = c.args.gathered.now in
     let old = g.O.Write.contents c.args.out.now in
-    of_stop request gathered c.in-Err.fault _ _ _ _
+    of_stop request gathered c.in-Err.fault _ _ _ _ c.requires.format
     (fails_by request gathered (IsBegun request gathered old) (Reports request gathered 0 old) old
     (g.O.Write.contents c.write_list.new.out) c.in-Err.fault c.in-Err.ensures.err)
     (c.in-Err.ensures.errors quiet) c.refuse_list.ensures.errors

@@ -68,13 +68,13 @@ returns-in-Err-clause-begun g c =
     c.refuse_in.ensures.begun
 
 pub returns-in-Ok-clause-errors : goal.returns-in-Ok-clause-errors
-returns-in-Ok-clause-errors g c quiet =
-    of_answer c.args.request.now c.args.gathered.now c.in-Ok.answer.report _ _ _ _ _
+returns-in-Ok-clause-errors g c other quiet =
+    of_answer c.args.request.now c.args.gathered.now c.in-Ok.answer.report _ _ _ _ _ other
     (c.in-Ok.ensures.errors quiet) c.in-Ok.ensures.ok
     c.print_answer.ensures.errors
 
 pub returns-in-Err-clause-errors : goal.returns-in-Err-clause-errors
-returns-in-Err-clause-errors g c quiet =
+returns-in-Err-clause-errors g c other quiet =
     of_reasons c.args.request.now c.args.gathered.now c.in-Err.failure _ _ _ _ (c.in-Err.ensures.errors quiet)
     c.in-Err.ensures.err
     c.refuse_in.ensures.errors

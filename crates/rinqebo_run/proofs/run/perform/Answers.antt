@@ -15,3 +15,6 @@ returns-in-None-clause-quiet g c = last_of_five c.answer_whole.ensures.quiet
 pub returns-in-Some-clause-noted : goal.returns-in-Some-clause-noted
 returns-in-Some-clause-noted g c quiet check answered =
     no_list c.args.request.now.question _ c.in-Some.ensures.question check
+
+pub returns-in-None-clause-errors : goal.returns-in-None-clause-errors
+returns-in-None-clause-errors g c = c.answer_whole.ensures.errors c.in-None.ensures
