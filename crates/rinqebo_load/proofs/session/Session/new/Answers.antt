@@ -80,6 +80,8 @@ returns-clause-begun c = record {
   host = c.in_ok-triples.ensures.host
       ∙ ap (λ printed. host_for c.args.request.now.engines printed (list_view c.in_ok-tests.tests)) c.in_ok-host.ensures.ok;
   target = c.in_ok-triples.ensures.target;
+  host_source = rw c.in_ok-host.ensures.ok at c.in_ok-triples.ensures.host_source;
+  target_source = c.in_ok-triples.ensures.target_source;
   platforms = rw (c.in_ok-triples.ensures.host, c.in_ok-host.ensures.ok, c.in_ok-triples.ensures.target)
       at c.in_ok-engines.ensures.platforms;
   profile_source = refl;
