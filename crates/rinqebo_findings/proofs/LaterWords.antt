@@ -9,7 +9,7 @@ use Rattle.rinqebo_faults.specs.Meant.{IsExpected, own_words}
 use Rattle.rinqebo_faults.specs.TomlLines.{first_note, on_one_line}
 use Rattle.rinqebo_faults.specs.Words.{quoted}
 use Rattle.rinqebo_report.specs.declared.finding.Finding.{Finding}
-use Rattle.rinqebo_findings.specs.LaterWords.{one_of, plain_words, SaysLine, SaysNoneOf}
+use Rattle.rinqebo_findings.specs.LaterWords.{FaultLine, IsFirstFor, one_of, plain_words, SaysLine, SaysNoneOf}
 use Rattle.rinqebo_findings.specs.Words.{message_alone, with_note, Words, words_of}
 
 -- a finding with a message alone, and with what is expected and what to do
@@ -72,14 +72,14 @@ of_any (Ok x) P holds = holds x
 of_any (Err e) P holds = tt
 
 -- a finding that says what is wrong in a line of a text
-pub line_said : (reason : List ℕ) (found noted : Finding) (wrong message : List ℕ) (expected help : Option (String Global))
+pub line_said : (reason : List ℕ) (fault : FaultLine) (found noted : Finding) (wrong message : List ℕ) (expected help : Option (String Global))
     (first : Option ℕ) (told : Option (String Global)) → words_of found ≡ message_alone message
     → message ≡ on_one_line wrong → IsExpected (own_words reason) reason (option_map string_bytes expected)
-    → option_map string_bytes told ≡ first_note first
+    → IsFirstFor reason fault first → option_map string_bytes told ≡ first_note first
     → words_of noted
     ≡ with_note (words_of (record found { expected = expected; help = help })) (option_map string_bytes told)
-    → SaysLine reason (words_of noted)
-line_said reason found noted wrong message expected help first told alone is_message is_expected is_note is =
+    → SaysLine reason fault (words_of noted)
+line_said reason fault found noted wrong message expected help first told alone is_message is_expected is_first is_note is =
     let says : words_of noted
     ≡ with_note (plain_words message (option_map string_bytes expected) (option_map string_bytes help)) (first_note first) =
     is ∙ (λ i. with_note (said_with found message expected help alone i) (is_note i)) in
@@ -88,6 +88,7 @@ line_said reason found noted wrong message expected help first told alone is_mes
       message = ap (λ (words : Words). words.message) says ∙ is_message;
       expected = subst (IsExpected (own_words reason) reason) (sym (ap (λ (words : Words). words.expected) says)) is_expected;
       first = first;
+      is_first = is_first;
       notes = ap (λ (words : Words). words.notes) says;
       help_place = ap (λ (words : Words). words.help_place) says;
     }

@@ -1,5 +1,4 @@
 -- What later checks refuse, and the findings that report it.
-use Rattle.std.specs.Option.{option_and_then}
 use Rattle.std.specs.Prelude.{◌≡◌, ℕ, List, [], ◌∷◌, ◌++◌, codes, flat_map, map, Option, None, Some, option_map, String, string_bytes, Vec, if◌then◌else◌}
 use Rattle.std.specs.Borrow.{Bor}
 use Rattle.std.specs.declared.alloc.Global.{Global}
@@ -41,9 +40,9 @@ use Rattle.rinqebo_faults.specs.Paths.{profile_path, script_path}
 use Rattle.rinqebo_faults.specs.Repairs.{group_path}
 use Rattle.rinqebo_faults.specs.Positions.{IsExpression}
 use Rattle.rinqebo_findings.specs.Each.{AreOfEach}
-use Rattle.rinqebo_findings.specs.LaterWords.{Said, Says, says_cycle, says_default_inherits, says_foreign, says_inherits_itself, says_list_wrapper, says_no_toml, says_off, says_twice, says_unknown_group, says_unknown_parent, says_unknown_script, says_wrong_kind, SaysOfText}
+use Rattle.rinqebo_findings.specs.LaterWords.{fault_line, Said, Says, says_cycle, says_default_inherits, says_foreign, says_inherits_itself, says_list_wrapper, says_no_toml, says_off, says_twice, says_unknown_group, says_unknown_parent, says_unknown_script, says_wrong_kind, SaysOfText}
 use Rattle.rinqebo_findings.specs.Placed.{IsOnLines}
-pub use Rattle.rinqebo_findings.specs.Sources.{document_at, layer_at}
+pub use Rattle.rinqebo_findings.specs.Sources.{document_at, fault_of, layer_at, text_of}
 use Rattle.rinqebo_findings.specs.Subjects.{error_at, IsElementFinding, IsErrorAt, IsStrayFor, subject}
 use Rattle.rinqebo_findings.specs.Words.{words_of}
 use Rattle.rinqebo_findings.specs.declared.foreign.ScriptFault.{ScriptFault}
@@ -110,16 +109,17 @@ whole_place source = record { source = source; lines = None; range = None }
 
 -- ---- which faults
 
--- why a text is not a document: the reason that is known, or else a message
-abbrev pub reason_or : (message : List ℕ) → Option NoDocument → List ℕ
-reason_or message None = message
-reason_or message (Some fault) = string_bytes fault.reason
+-- what is said of a text that is not a document: the reason that is known, with the line at fault,
+-- or else a message
+abbrev pub says_fault : (text : Option (List ℕ)) → (message : List ℕ) → Option NoDocument → Said
+says_fault text message None = says_no_toml message None
+says_fault text message (Some fault) =
+    says_no_toml (string_bytes fault.reason) (fault_line text fault.position)
 
 -- a text that is not TOML, for the reason of its source, or else with a message
 abbrev pub no_toml : List Layer → Option ℕ → (message : List ℕ) → LaterFault
 no_toml layers source message =
-    of_file NotToml (says_no_toml (reason_or message
-    (option_and_then (λ layer. layer.fault) (layer_at layers source))))
+    of_file NotToml (says_fault (text_of layers source) message (fault_of layers source))
 
 -- groups that a source may not define
 abbrev pub group_fault : (prefix : Option (List ℕ)) → List ℕ → LaterFault

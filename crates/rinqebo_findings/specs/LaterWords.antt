@@ -1,11 +1,13 @@
 -- What the findings of later checks say.
-use Rattle.std.specs.Prelude.{◌≡◌, ◌⊎◌, ℕ, List, [], ◌∷◌, ◌++◌, codes, map, nat_eq, Option, None, Some, option_map, string_bytes, if◌then◌else◌}
+use Rattle.std.specs.Prelude.{◌≡◌, ◌⊎◌, ℕ, List, [], ◌∷◌, ◌++◌, codes, map, nat_eq, Option, None, Some, option_map, slice_get, string_bytes, if◌then◌else◌}
 use Rattle.std.specs.Fmt.{decimal}
 use Rattle.std.specs.List.{starts_with}
 use Rattle.std.specs.Option.{option_and_then}
+use Rattle.std.specs.Str.Lines.{lines}
 use Rattle.std.specs.Borrow.{Bor}
 use Rattle.nextest_elements.specs.declared.experimental.ConfigExperimental.{ConfigExperimental}
 use Rattle.nextest_places.specs.Spans.Paths.{path_step}
+use Rattle.nextest_places.specs.declared.spans.position.TextPosition.{TextPosition}
 use Rattle.nextest_places.specs.declared.step.Step.{Step}
 use Rattle.nextest_scripts.specs.ScriptType.{script_type_text}
 use Rattle.nextest_scripts.specs.declared.script_type.ProfileScriptType.{ProfileScriptType}
@@ -25,8 +27,9 @@ use Rattle.rinqebo_request.specs.declared.files.places.SpanPart.TheVariants as p
 use Rattle.rinqebo_faults.specs.Elements.{as_list}
 use Rattle.rinqebo_faults.specs.Features.{feature_help}
 use Rattle.rinqebo_faults.specs.Filters.{filter_help}
+use Rattle.rinqebo_faults.specs.FirstLines.{IsEarlier}
 use Rattle.rinqebo_faults.specs.Hints.{IsHint, texts}
-use Rattle.rinqebo_faults.specs.Meant.{IsExpected, own_words}
+use Rattle.rinqebo_faults.specs.Meant.{defined, is_second, IsExpected, own_words}
 use Rattle.rinqebo_faults.specs.Paths.{profile_path}
 use Rattle.rinqebo_faults.specs.Platforms.{HasPairWords, pair_words}
 use Rattle.rinqebo_faults.specs.TomlLines.{first_note, on_one_line}
@@ -35,6 +38,14 @@ use Rattle.rinqebo_faults.specs.declared.worded.Worded.{Worded}
 use Rattle.rinqebo_findings.specs.Placed.{IsPlacedAt}
 use Rattle.rinqebo_findings.specs.Sources.{file_at, layer_at}
 use Rattle.rinqebo_findings.specs.Words.{is_in, message_alone, Words}
+use Rattle.rinqebo_findings.specs.declared.not_toml.LineAt.{LineAt}
+
+-- A line of a text that is not TOML: the text, the position in it at which it is at fault, from 0,
+-- and the line there.
+pub record FaultLine : Type 0 where
+  pub text : List ℕ
+  pub position : TextPosition
+  pub line : List ℕ
 
 -- What the finding of a later check says.
 pub data Said : Type 0 where
@@ -44,8 +55,8 @@ pub data Said : Type 0 where
   says_none_of : (message name : List ℕ) → (known : List (List ℕ)) → Said
   -- which profiles inherit in a cycle
   says_cycle : (profiles : List (List ℕ)) → Said
-  -- why a text is not TOML, as its reader gives a reason
-  says_no_toml : (reason : List ℕ) → Said
+  -- why a text is not TOML, as its reader gives a reason, and the line at fault, if it is known
+  says_no_toml : (reason : List ℕ) → Option FaultLine → Said
   -- a message alone: no contract says which
   says_alone : Said
 
@@ -77,20 +88,42 @@ pub record SaysNoneOf (message name : List ℕ) (known : List (List ℕ)) (words
 
 -- ---- texts
 
+-- a line of a text, as code has it
+abbrev pub line_view : LineAt → FaultLine
+line_view found =
+    record { text = found.text.now; position = found.position; line = found.line.now }
+
+-- the line of a text at a position, if both are known and the text has the line
+abbrev pub fault_line : (text : Option (List ℕ)) → Option TextPosition → Option FaultLine
+fault_line (Some text) (Some position) =
+    option_map (λ line. record { text = text; position = position; line = line })
+    (slice_get (lines text) position.line)
+fault_line text position = None
+
+-- A place is that of the line that first defines what a line defines a second time. There is none
+-- if the reason is another one, or if no line before it defines that.
+abbrev pub IsFirstFor : (reason : List ℕ) → FaultLine → Option ℕ → Type 0
+IsFirstFor reason fault first =
+    IsEarlier (lines fault.text) fault.position.line (is_second reason)
+    (defined fault.line fault.position.column) first
+
 -- A finding says what is wrong in a line of a text that is not TOML, and what is expected there. It
--- may name the line that first defines what the line does. No contract says what is wrong, and what
--- to do.
-pub record SaysLine (reason : List ℕ) (words : Words) : Type 0 where
+-- names the line that first defines what the line defines a second time, and no other line. No
+-- contract says what is wrong, and what to do.
+pub record SaysLine (reason : List ℕ) (fault : FaultLine) (words : Words) : Type 0 where
   pub wrong : List ℕ
   pub message : words.message ≡ on_one_line wrong
   pub expected : IsExpected (own_words reason) reason words.expected
   pub first : Option ℕ
+  pub is_first : IsFirstFor reason fault first
   pub notes : words.notes ≡ as_list (first_note first)
   pub help_place : words.help_place ≡ places.Below
 
--- a finding says why a text is not TOML: the reason alone, or what is wrong in a line
-abbrev pub SaysNoToml : (reason : List ℕ) → Words → Type 0
-SaysNoToml reason words = (words ≡ message_alone (on_one_line reason)) ⊎ SaysLine reason words
+-- a finding says why a text is not TOML: what is wrong in its line, if that is known, or else the
+-- reason alone
+abbrev pub SaysNoToml : (reason : List ℕ) → Option FaultLine → Words → Type 0
+SaysNoToml reason None words = words ≡ message_alone (on_one_line reason)
+SaysNoToml reason (Some fault) words = SaysLine reason fault words
 
 -- the words that the table of faults has for a text, if it has some: of a platform whose
 -- parentheses or quotes are wrong they say so. No contract says which words it has for a filter.
@@ -188,7 +221,7 @@ Says layers source (says message expected help) words =
     words ≡ plain_words message expected help
 Says layers source (says_none_of message name known) words = SaysNoneOf message name known words
 Says layers source (says_cycle profiles) words = SaysCycle layers source profiles words
-Says layers source (says_no_toml reason) words = SaysNoToml reason words
+Says layers source (says_no_toml reason fault) words = SaysNoToml reason fault words
 Says layers source says_alone words = (message : List ℕ) × (words ≡ message_alone message)
 
 -- ---- names of other owners

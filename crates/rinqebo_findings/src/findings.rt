@@ -8,7 +8,7 @@ ghost use Rattle.rinqebo_faults.specs.Elements.{as_list, refused_notes};
 ghost use Rattle.rinqebo_faults.specs.Paths.{shown_path};
 ghost use Rattle.rinqebo_findings.specs.Later.{document_at, whole_place};
 ghost use Rattle.rinqebo_findings.specs.Placed.{IsPlaceIn};
-ghost use Rattle.rinqebo_findings.specs.Sources.{layer_at};
+ghost use Rattle.rinqebo_findings.specs.Sources.{fault_of, layer_at, text_of};
 ghost use Rattle.rinqebo_findings.specs.Subjects.{step_view, subject};
 ghost use Rattle.rinqebo_findings.specs.Warnings.{WarnsAt};
 ghost use Rattle.rinqebo_findings.specs.Words.{message_alone, SaysUnknownKey, with_note, words_of};
@@ -38,6 +38,18 @@ impl<'l, 't> SourceAt<'l, 't> {
         self.layers.get(self.position?)?.tree()
     }
 
+    /// The text of the source, if it has one.
+    pub fn text(self) -> Option<&'t str>
+        ensures { option_copied result
+            ≡ text_of self.entry.layers.now self.entry.position }
+    {
+        let layer = self.layers.get(self.position?)?;
+        match &layer.places {
+            Some(document) => Some(document.text()),
+            None => None,
+        }
+    }
+
     /// Where the values of the source are written in its text, if it has one.
     pub fn spans(self) -> Option<&'l PathSpans<'t>>
         ensures { option_copied result ≡ option_and_then (λ layer. layer.places)
@@ -52,8 +64,8 @@ impl<'l, 't> SourceAt<'l, 't> {
 
     /// Why the text of the source is not a document, if it is not one.
     pub fn fault(self) -> Option<&'l NoDocument>
-        ensures { option_copied result ≡ option_and_then (λ layer. layer.fault)
-            (layer_at self.entry.layers.now self.entry.position) }
+        ensures { option_copied result
+            ≡ fault_of self.entry.layers.now self.entry.position }
     {
         self.layers.get(self.position?)?.fault.as_ref()
     }

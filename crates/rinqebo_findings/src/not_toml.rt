@@ -1,11 +1,12 @@
 //! Findings of texts that are not TOML.
-ghost use Rattle.std.specs.Prelude.{◌≡◌, ◌∷◌, [], OnOk, option_map};
+ghost use Rattle.std.specs.Prelude.{◌≡◌, ◌∷◌, [], None, OnOk, Some, option_map};
 ghost use Rattle.rinqebo_findings.specs.Later.{AddsLater, no_toml, of_file};
-ghost use Rattle.rinqebo_findings.specs.LaterWords.{says_no_toml};
+ghost use Rattle.rinqebo_findings.specs.LaterWords.{fault_line, line_view, says_no_toml};
+ghost use Rattle.rinqebo_findings.specs.Sources.{text_of};
 ghost use Rattle.rinqebo_findings.specs.Subjects.{subject};
 ghost use Rattle.rinqebo_findings.specs.Words.{words_of};
 
-use crate::findings::with_note;
+use crate::findings::{SourceAt, with_note};
 use crate::refused::Refused;
 use nextest_places::TextPosition;
 use rinqebo_faults::{
@@ -14,6 +15,32 @@ use rinqebo_faults::{
 };
 use rinqebo_report::{Code, FileLines, FilePlace, Finding, Position};
 use std::alloc::AllocError;
+
+/// A line of a text that is not TOML.
+#[derive(Clone, Copy)]
+struct LineAt<'t> {
+    /// The text.
+    text: &'t str,
+    /// The position in the text at which it is at fault.
+    position: TextPosition,
+    /// The line at this position.
+    line: &'t str,
+}
+
+/// Returns the line of the text of a source at a position, if both are known and the text has it.
+fn fault_line<'t>(source: SourceAt<'_, 't>, position: Option<TextPosition>) -> Option<LineAt<'t>>
+    ensures { option_map line_view result
+        ≡ fault_line (text_of source.entry.layers.now source.entry.position) position }
+{
+    let text = source.text()?;
+    let position = position?;
+    let line = line_at(Some(text), position.line)?;
+    Some(LineAt {
+        text,
+        position,
+        line,
+    })
+}
 
 /// Returns a finding about some characters from a position on, with their line, range and column.
 fn placed(found: Finding, start: Position, len: usize) -> Finding
@@ -55,15 +82,24 @@ fn placed_at(found: Finding, position: Option<TextPosition>) -> Finding
 fn add_bad_line(
     refused: &Refused<'_, '_>,
     findings: &mut Vec<Finding>,
-    text: &str,
-    position: TextPosition,
-    bad: BadLine<'_>,
+    found: LineAt<'_>,
+    reason: &str,
 ) -> Result<(), AllocError>
     ensures { OnOk result (AddsLater refused.now.source.layers.now refused.now.source.position
-        (of_file Code.NotToml (says_no_toml bad.entry.reason.now) ∷ []) findings.old.items
-        findings.new.items) }
+        (of_file Code.NotToml (says_no_toml reason.now (Some (line_view found.entry))) ∷ [])
+        findings.old.items findings.new.items) }
 {
     let alloc = refused.alloc;
+    let LineAt {
+        text,
+        position,
+        line,
+    } = found;
+    let bad = BadLine {
+        line,
+        column: position.column,
+        reason,
+    };
     let LineWords {
         len,
         message,
@@ -93,7 +129,7 @@ fn add_reason(
     reason: &str,
 ) -> Result<(), AllocError>
     ensures { OnOk result (AddsLater refused.now.source.layers.now refused.now.source.position
-        (of_file Code.NotToml (says_no_toml reason.now) ∷ []) findings.old.items
+        (of_file Code.NotToml (says_no_toml reason.now None) ∷ []) findings.old.items
         findings.new.items) }
 {
     let message = on_one_line(refused.alloc, reason)?;
@@ -111,21 +147,14 @@ fn add_at(
     reason: &str,
 ) -> Result<(), AllocError>
     ensures { OnOk result (AddsLater refused.now.source.layers.now refused.now.source.position
-        (of_file Code.NotToml (says_no_toml reason.now) ∷ []) findings.old.items
-        findings.new.items) }
+        (of_file Code.NotToml (says_no_toml reason.now
+        (fault_line (text_of refused.now.source.layers.now refused.now.source.position) position))
+        ∷ []) findings.old.items findings.new.items) }
 {
-    let (Some(text), Some(place)) = (refused.text, position) else {
-        return add_reason(refused, findings, position, reason);
-    };
-    let Some(line) = line_at(Some(text), place.line) else {
-        return add_reason(refused, findings, position, reason);
-    };
-    let bad = BadLine {
-        line,
-        column: place.column,
-        reason,
-    };
-    add_bad_line(refused, findings, text, place, bad)
+    match fault_line(refused.source, position) {
+        Some(found) => add_bad_line(refused, findings, found, reason),
+        None => add_reason(refused, findings, position, reason),
+    }
 }
 
 /// Adds that a text is not a document: where it is at fault, and why.

@@ -1,4 +1,4 @@
-use Rattle.std.proofs.Common.{◌∙◌, ap, inl, option_map}
+use Rattle.std.proofs.Common.{◌∙◌, ap, option_map, None}
 use Rattle.rinqebo_report.specs.declared.codes.code.Code.TheVariants.{NotToml}
 use Rattle.rinqebo_report.specs.declared.origin.FilePlace.{FilePlace}
 use Rattle.rinqebo_findings.specs.LaterWords.{says_no_toml}
@@ -9,10 +9,9 @@ use Rattle.rinqebo_findings.proofs.not_toml.add_reason.Goals as goal
 pub returns : goal.returns
 returns c =
     let source = c.args.refused.now.source in
-    adds_file source.layers.now source.position NotToml (says_no_toml c.args.reason.now) _ _ _
+    adds_file source.layers.now source.position NotToml (says_no_toml c.args.reason.now None) _ _ _
     (c.placed_at-shown.ensures.about ∙ c.in_ok-plain.ensures.about)
     (c.placed_at-shown.ensures.place
     ∙ ap (option_map (λ (place : FilePlace). place.source)) c.in_ok-plain.ensures.place ∙ whole_source source.position)
-    (inl
-    (c.placed_at-shown.ensures.words ∙ c.in_ok-plain.ensures.words ∙ ap message_alone c.in_ok-message.ensures))
+    (c.placed_at-shown.ensures.words ∙ c.in_ok-plain.ensures.words ∙ ap message_alone c.in_ok-message.ensures)
     c.in_ok-add_finding.ensures
