@@ -22,8 +22,8 @@ use Rattle.nextest_elements.specs.declared.run_mode.NextestRunMode.{NextestRunMo
 use Rattle.std.specs.Prelude.{Box, IsErrAnd}
 use Rattle.clap.specs.Simple.{subcommand_rows}
 use Rattle.clap.specs.declared.parser.matches.SubCommand.{SubCommand}
-use Rattle.rinqebo_diff.specs.DiffRequests.{AreComparedOf, IsAnyCommandBy, IsAnyCommandOf, IsNoDiff, LacksRightSide}
-use Rattle.rinqebo_diff.specs.RightLine.{is_given, right_line}
+use Rattle.rinqebo_diff.specs.DiffRequests.{AreComparedOf, IsAnyCommandBy, IsAnyCommandOf, IsNoDiff, IsRefusedBy, IsRefusedRead, LacksRightSide}
+use Rattle.rinqebo_diff.specs.RightLine.{has_right_side, is_given, right_line}
 use Rattle.rinqebo_diff.specs.declared.request.AnyCommand.TheVariants as commands
 use Rattle.rinqebo_diff.proofs.RightLines.{right_value, right_values}
 
@@ -129,6 +129,16 @@ pub other_command : (environment : Environment) (read : Option (List ℕ × Line
 other_command environment None command other is = is
 other_command environment (Some read) command other is =
     subst (λ is_diff. IsAnyCommandBy is_diff environment read (commands.Other command)) (sym (is_not read.0 (codes "diff") other)) is
+
+-- why a line of `diff` is refused
+pub refused_diff : (read : Option (List ℕ × Line)) (line : Line) (stop : ParseStop) → read ≡ Some (codes "diff", line)
+    → (has_right_side line ≡ false → LacksRightSide stop) → IsRefusedRead read stop
+refused_diff read line stop is lacks = subst (λ read. IsRefusedRead read stop) (sym is) lacks
+
+-- why a line of another command is refused: no contract says that
+pub refused_other : (read : Option (List ℕ × Line)) (stop : ParseStop) → IsNoDiff read → IsRefusedRead read stop
+refused_other None stop other = tt
+refused_other (Some read) stop other = subst (λ is_diff. IsRefusedBy is_diff read.1 stop) (sym (is_not read.0 (codes "diff") other)) tt
 
 -- the files of tools of the right side: those of the left side if it has none, or else its own
 pub left_tools : (line : Line) (own : List (Bor (List ℕ))) → map (λ text. text.now) own ≡ values_at (codes "to-tool-config-file") line

@@ -103,6 +103,17 @@ abbrev pub IsNoDiff : Option (List ℕ × Line) → Type 0
 IsNoDiff None = Unit {0}
 IsNoDiff (Some read) = read.0 ≢ codes "diff"
 
+-- what was read is refused, by whether its command is `diff`: a line of `diff` without an option of
+-- the right side is refused for that. No contract says why other lines are refused.
+abbrev pub IsRefusedBy : Bool → Line → ParseStop → Type 0
+IsRefusedBy true line stop = has_right_side line ≡ false → LacksRightSide stop
+IsRefusedBy false line stop = Unit {0}
+
+-- what was read is refused
+abbrev pub IsRefusedRead : Option (List ℕ × Line) → ParseStop → Type 0
+IsRefusedRead None stop = Unit {0}
+IsRefusedRead (Some read) stop = IsRefusedBy (bytes_eq read.0 (codes "diff")) read.1 stop
+
 -- what a line requests behind the name of its command, by whether that is `diff`
 abbrev pub IsAnyCommandBy : Bool → Environment → List ℕ × Line → AnyCommand → Type 0
 IsAnyCommandBy true environment read (commands.Diff request) =

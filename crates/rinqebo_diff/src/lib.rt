@@ -26,4 +26,4 @@ pub use laws::{law_equal_sides, law_swapped_sides};
 pub use loaded::{DiffFailure, Loaded, SideName, load_named, load_side};
 pub use perform::{DiffAnswer, diff_answer, diff_page, perform_diff};
 pub use request::{AnyCommand, DiffFormat, DiffRequest, DiffSide};
-pub use words::parse_all;
+pub use words::{any_command_of, parse_all};

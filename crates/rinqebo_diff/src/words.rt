@@ -6,7 +6,7 @@ ghost use Rattle.rinqebo_request.specs.Lines.{Line, has, line_of, value_at};
 ghost use Rattle.rinqebo_request.specs.Requests.{mode_of};
 ghost use Rattle.rinqebo_request.specs.Rows.{AreExplainedRows};
 ghost use Rattle.rinqebo_diff.specs.DiffArguments.{AllChoices, AreAllChoices, whole_app};
-ghost use Rattle.rinqebo_diff.specs.DiffRequests.{AreComparedOf, IsAnyCommandOf, IsDiffFormat, IsDiffRequest, IsDiffSide, IsNoDiff, IsSideFormat, LacksRightSide, has_no_key};
+ghost use Rattle.rinqebo_diff.specs.DiffRequests.{AreComparedOf, IsAnyCommandOf, IsDiffFormat, IsDiffRequest, IsDiffSide, IsNoDiff, IsRefusedRead, IsSideFormat, LacksRightSide, has_no_key};
 ghost use Rattle.rinqebo_diff.specs.RightLine.{has_right_side};
 ghost use Rattle.rinqebo_diff.specs.SideOptions.{AreSideOptions};
 
@@ -207,13 +207,15 @@ fn diff_line<'m, 'a>(matches: &'m ArgMatches<'a>) -> Option<&'m ArgMatches<'a>>
     }
 }
 
-/// The command of a command line that clap accepts.
-fn any_command_of<'a>(
+/// Returns the command of a command line that clap accepts, or why the line is refused. A line of
+/// `diff` without an option of the right side is refused for that.
+pub fn any_command_of<'a>(
     alloc: Global,
     matches: &ArgMatches<'a>,
     environment: &'a Environment,
 ) -> Result<AnyCommand<'a>, ParseStop>
-    ensures { IfOk result (IsAnyCommandOf environment.now (subcommand_rows_of matches.now)) }
+    ensures ok { IfOk result (IsAnyCommandOf environment.now (subcommand_rows_of matches.now)) }
+    ensures err { IfErr result (IsRefusedRead (subcommand_rows_of matches.now)) }
 {
     match diff_line(matches) {
         Some(line) => Ok(AnyCommand::Diff(diff_request(alloc, line, environment)?)),

@@ -21,4 +21,4 @@ returns-in-Ok c =
       subst (λ subcommand. IsAnyCommandOf c.args.environment.now subcommand command)
           (read.1 ∙ ap₂ subcommand_of whole.is refl) is,
     ))
-    c.any_command_of.ensures
+    c.any_command_of.ensures.ok
