@@ -6,6 +6,7 @@ pub mod Joining
 pub mod LeavingOutValues
 pub mod LeftOutAfter
 pub mod Loads
+pub mod NewWarnings
 pub mod Naming
 pub mod Placing
 pub mod ReadAgain

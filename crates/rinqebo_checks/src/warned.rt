@@ -1,5 +1,8 @@
 //! The warnings of loads, each of which is reported once.
-ghost use Rattle.std.specs.Prelude.{◌≡◌, IfOk};
+ghost use Rattle.std.specs.BTreeSet.{contains_text};
+ghost use Rattle.std.specs.Prelude.{◌≡◌, IfOk, OnOk, string_bytes};
+ghost use Rattle.rinqebo_faults.specs.Edits.{left_out_view};
+ghost use Rattle.rinqebo_checks.specs.Marks.{AreReportedOnce, follows, is_new, known_after, known_after_all, new_ones, path_or_nothing, warning_mark, with_marks};
 ghost use Rattle.rinqebo_checks.specs.Rounds.{AreSome};
 
 use rinqebo_faults::LeftOut;
@@ -7,13 +10,22 @@ use rinqebo_report::{Code, Finding};
 use std::alloc::{AllocError, Global};
 use std::collections::BTreeSet;
 
-/// The text by which a warning is found again.
-fn warning_mark(alloc: Global, warning: &Finding) -> Result<String, AllocError> {
-    let code = warning.code.as_str();
-    let path = match &warning.path {
+/// The path of a finding, or nothing.
+fn path_or_nothing(finding: &Finding) -> &str
+    ensures { result.now ≡ path_or_nothing finding.now }
+{
+    match &finding.path {
         Some(path) => path.as_str(),
         None => "",
-    };
+    }
+}
+
+/// The text by which a warning is found again.
+fn warning_mark(alloc: Global, warning: &Finding) -> Result<String, AllocError>
+    ensures { IfOk result (λ mark. string_bytes mark ≡ warning_mark warning.now) }
+{
+    let code = warning.code.as_str();
+    let path = path_or_nothing(warning);
     match warning.place {
         Some(place) => {
             let source = place.source;
@@ -24,7 +36,10 @@ fn warning_mark(alloc: Global, warning: &Finding) -> Result<String, AllocError> 
 }
 
 /// Whether a warning only follows from what is left out: a rule lacks the script that it names.
-fn follows(left_out: &LeftOut, warning: &Finding) -> bool {
+#[tactic(auto, unfolding(rinqebo_faults::specs::Edits::left_out_view))]
+fn follows(left_out: &LeftOut, warning: &Finding) -> bool
+    ensures { result ≡ follows (left_out_view left_out.now) warning.now }
+{
     match &warning.path {
         Some(path) => {
             warning.code.as_str() == Code::EmptyScriptRule.word()
@@ -40,7 +55,12 @@ fn is_new(
     left_out: &LeftOut,
     warned: &mut BTreeSet<String>,
     warning: &Finding,
-) -> Result<bool, AllocError> {
+) -> Result<bool, AllocError>
+    ensures new { IfOk result (λ yes. yes ≡ is_new (left_out_view left_out.now)
+        (contains_text warned.old) warning.now) }
+    ensures marks { OnOk result (contains_text warned.new ≡ known_after
+        (left_out_view left_out.now) (contains_text warned.old) warning.now) }
+{
     if follows(left_out, warning) {
         return Ok(false);
     }
@@ -55,16 +75,38 @@ pub fn new_ones(
     warned: &mut BTreeSet<String>,
     warnings: Vec<Finding>,
 ) -> Result<Vec<Finding>, AllocError>
-    ensures { IfOk result (λ chosen. AreSome warnings.items chosen.items) }
+    ensures some { IfOk result (λ chosen. AreSome warnings.items chosen.items) }
+    ensures new { IfOk result (λ chosen. chosen.items ≡ new_ones (left_out_view left_out.now)
+        (contains_text warned.old) warnings.items) }
+    ensures once { IfOk result (λ chosen.
+        AreReportedOnce (contains_text warned.old) chosen.items) }
+    ensures marks { OnOk result (contains_text warned.new ≡ known_after_all
+        (left_out_view left_out.now) (contains_text warned.old) warnings.items) }
 {
     let mut chosen = Vec::new(alloc);
     for warning in warnings {
-        if !is_new(alloc, left_out, warned, &warning)? {
+        let new = is_new(alloc, left_out, warned, &warning)?;
+        if !new {
             continue;
         }
         chosen.push(warning)?;
     }
     Ok(chosen)
+}
+
+/// Notes that warnings are reported.
+fn note_all(
+    alloc: Global,
+    warned: &mut BTreeSet<String>,
+    warnings: &[Finding],
+) -> Result<(), AllocError>
+    ensures { OnOk result (contains_text warned.new
+        ≡ with_marks (contains_text warned.old) warnings.now) }
+{
+    for warning in warnings {
+        warned.insert(warning_mark(alloc, warning)?)?;
+    }
+    Ok(())
 }
 
 /// Notes that warnings are reported, and returns them.
@@ -73,10 +115,10 @@ pub fn noted(
     warned: &mut BTreeSet<String>,
     warnings: Vec<Finding>,
 ) -> Result<Vec<Finding>, AllocError>
-    ensures { IfOk result (λ noted. noted ≡ warnings) }
+    ensures same { IfOk result (λ noted. noted ≡ warnings) }
+    ensures marks { OnOk result (contains_text warned.new
+        ≡ with_marks (contains_text warned.old) warnings.items) }
 {
-    for warning in &warnings {
-        warned.insert(warning_mark(alloc, warning)?)?;
-    }
+    note_all(alloc, warned, &warnings)?;
     Ok(warnings)
 }

@@ -6,6 +6,6 @@ use Rattle.rinqebo_checks.proofs.search.Search.all_warnings.Goals as goal
 pub returns-clause-findings : goal.returns-clause-findings
 returns-clause-findings c =
     let warnings = other_warnings (warnings_view c.args.warnings.now) in
-    subst (λ noted. ReportWarnings c.args.session.now.layers.items warnings noted.items) (sym c.in_ok-noted.ensures)
+    subst (λ noted. ReportWarnings c.args.session.now.layers.items warnings noted.items) (sym c.in_ok-noted.ensures.same)
     (subst (λ layers. ReportWarnings layers warnings c.in_ok-findings.findings.items) c.deref.ensures.value
     c.in_ok-findings.ensures)

@@ -8,5 +8,5 @@ returns-clause-findings c = record {
   of_all = c.in_ok-all.all.items;
   all = subst (λ layers. ReportWarnings layers (other_warnings (warnings_view c.args.warnings.now))
       c.in_ok-all.all.items) c.deref.ensures.value c.in_ok-all.ensures;
-  are_some = c.in_ok-new_ones.ensures;
+  are_some = c.in_ok-new_ones.ensures.some;
 }
