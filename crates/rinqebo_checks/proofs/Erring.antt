@@ -62,6 +62,7 @@ use Rattle.rinqebo_load.specs.Warned.{IsRefusedLoad}
 use Rattle.rinqebo_checks.specs.Faults.{AreSound, IsFindingOf, IsJoined, IsSound, ReportAll, ReportDocument, ReportFaults, ReportFiles, ReportValues, document_in}
 use Rattle.rinqebo_checks.specs.Refusals.{AddsRefusal, outcome_faults, refused_position, second_file, two_tables}
 use Rattle.rinqebo_checks.specs.Reports.{HasError}
+use Rattle.rinqebo_checks.specs.Marks.{Marks}
 use Rattle.rinqebo_checks.specs.Rounds.{ReportLoad, ReportLoadIf, ReportLoads}
 use Rattle.rinqebo_checks.specs.declared.value_faults.ValueFault.{ValueFault}
 use Rattle.rinqebo_checks.proofs.Naming.{FirstNames, HasItem, HasName, IfCauseNames, IsUnread, names_something}
@@ -398,8 +399,9 @@ module _ (layers : List Layer) (source : Option ℕ) where
 
 module _ (session : Session) (old warnings : List Warning) (error : ConfigParseError)
     (refused : IsRefusedLoad session old warnings error) where
-  of_load : (findings : List Finding) → ReportLoad session.layers.items warnings error findings → HasError findings
-  of_load findings report =
+  of_load : (known after : Marks) (findings : List Finding)
+      → ReportLoad session.layers.items warnings error known after findings → HasError findings
+  of_load known after findings report =
       let layers = session.layers.items in
       subst HasError (sym report.whole) (and_earlier report.of_warnings report.of_refusal
       (of_kind layers (refused_position layers error) report.left_out report.nothing report.of_refusal error.kind
@@ -409,9 +411,11 @@ module _ (session : Session) (old warnings : List Warning) (error : ConfigParseE
   of_loads : (is_whole : Bool) (findings : List Finding) → IsTrue is_whole
       → ReportLoads is_whole session warnings error findings → HasError findings
   of_loads is_whole findings whole report =
-      let first : ReportLoad session.layers.items warnings error report.own =
-      subst (λ b. ReportLoadIf b session.layers.items warnings error report.own) whole report.reported in
-      subst HasError (sym report.whole) (and_later report.own report.later (of_load report.own first))
+      let known : Marks = report.before.marks in
+      let after : Marks = report.first.marks in
+      let first : ReportLoad session.layers.items warnings error known after report.own =
+      subst (λ b. ReportLoadIf b session.layers.items warnings error known after report.own) whole report.reported in
+      subst HasError (sym report.whole) (and_later report.own report.later (of_load known after report.own first))
 
   -- all findings have an error
   pub of_all : (findings : List Finding) → ReportAll session warnings error findings → HasError findings

@@ -1,4 +1,3 @@
-pub mod Choosing
 pub mod Compiling
 pub mod Erring
 pub mod Featured

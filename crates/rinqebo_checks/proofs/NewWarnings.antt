@@ -7,9 +7,7 @@ use Rattle.std.specs.declared.alloc.Global.{Global}
 use Rattle.rinqebo_faults.proofs.MarkSets.{one_more}
 use Rattle.rinqebo_faults.specs.Edits.{LeftOutView}
 use Rattle.rinqebo_report.specs.declared.finding.Finding.{Finding}
-use Rattle.rinqebo_checks.proofs.Choosing.{some_with, some_without}
 use Rattle.rinqebo_checks.specs.Marks.{AreReportedOnce, follows, is_new, known_after, Marks, new_ones, warning_mark, with_mark}
-use Rattle.rinqebo_checks.specs.Rounds.{AreSome}
 
 -- one mark more is in a set
 pub marked : (old new : BTreeSet (String Global)) (key : String Global) (mark : List ℕ) → string_bytes key ≡ mark
@@ -31,21 +29,6 @@ module _ (left_out : LeftOutView) where
   old_one known warning others old =
       let rest : List Finding = new_ones left_out (known_after left_out known warning) others in
       ap (λ b. cond b (warning ∷ rest) rest) old
-
-  some_by : (known : Marks) (warning : Finding) (others : List Finding) (b : Bool) → is_new left_out known warning ≡ b
-      → AreSome others (new_ones left_out (known_after left_out known warning) others)
-      → AreSome (warning ∷ others) (new_ones left_out known (warning ∷ others))
-  some_by known warning others true new rest =
-      subst (AreSome (warning ∷ others)) (sym (new_one known warning others new)) (some_with warning others _ rest)
-  some_by known warning others false old rest =
-      subst (AreSome (warning ∷ others)) (sym (old_one known warning others old)) (some_without warning others _ rest)
-
-  -- the new ones are some of all
-  pub some_new : (known : Marks) (all : List Finding) → AreSome all (new_ones left_out known all)
-  some_new known [] = tt
-  some_new known (warning ∷ others) =
-      some_by known warning others (is_new left_out known warning) refl
-      (some_new (known_after left_out known warning) others)
 
   -- ---- no warning is reported a second time
 

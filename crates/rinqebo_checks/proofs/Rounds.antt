@@ -15,14 +15,14 @@ use Rattle.rinqebo_faults.specs.declared.edits.Edits.{Edits}
 use Rattle.rinqebo_load.specs.Sessions.{readings}
 use Rattle.rinqebo_load.specs.declared.session.Session.{Session}
 use Rattle.rinqebo_report.specs.declared.finding.Finding.{Finding}
-use Rattle.rinqebo_checks.specs.ReadAgain.{ReadingView}
-use Rattle.rinqebo_checks.specs.Rounds.{IsLeftOutAfterAny, IsRound, ReportOneRound, ReportRound, ReportRounds, ReportSomeRounds}
+use Rattle.rinqebo_checks.specs.Rounds.{IsLeftOutAfterAny, IsRound, Known, ReportOneRound, ReportRound, ReportRounds, ReportSomeRounds}
 use Rattle.rinqebo_checks.specs.declared.edited_files.Round.{Round}
 
 module _ (session : Session) where
-  with_round : (rounds : List Round) (first last next : ReadingView) (findings own : List Finding) (round : Round)
-      → IsRound session last round → ReportRound session.layers.items last.edits.left_out round own
-      → IsLeftOutAfterAny session.layers.items round.refusal last next
+  with_round : (rounds : List Round) (first last next : Known) (findings own : List Finding) (round : Round)
+      → IsRound session last.reading round
+      → ReportRound session.layers.items last.reading.edits.left_out last.marks next.marks round own
+      → IsLeftOutAfterAny session.layers.items round.refusal last.reading next.reading
       → ReportRounds session first last rounds findings
       → ReportRounds session first next (rounds ++ round ∷ []) (findings ++ own)
   with_round [] first last next findings own round is reports left_out none = (
@@ -30,9 +30,11 @@ module _ (session : Session) where
     [],
     next,
     ap (λ fs. fs ++ own) none.1 ∙ sym (append-nil own),
-    subst (λ reading. IsRound session reading round) none.0 is,
-    subst (λ (reading : ReadingView). ReportRound session.layers.items reading.edits.left_out round own) none.0 reports,
-    subst (λ reading. IsLeftOutAfterAny session.layers.items round.refusal reading next) none.0 left_out,
+    subst (λ (known : Known). IsRound session known.reading round) none.0 is,
+    subst (λ (known : Known). ReportRound session.layers.items known.reading.edits.left_out known.marks next.marks round
+        own) none.0 reports,
+    subst (λ (known : Known). IsLeftOutAfterAny session.layers.items round.refusal known.reading next.reading) none.0
+        left_out,
     (refl, refl),
   )
   with_round (r ∷ rs) first last next findings own round is reports left_out some = (
@@ -47,12 +49,12 @@ module _ (session : Session) where
   )
 
   -- no round yet
-  pub no_round : (reading : ReadingView) (findings : List Finding) → findings ≡ []
-      → ReportSomeRounds session reading reading findings
-  no_round reading findings none = record { rounds = []; reported = (refl, none) }
+  pub no_round : (known : Known) (findings : List Finding) → findings ≡ []
+      → ReportSomeRounds session known known findings
+  no_round known findings none = record { rounds = []; reported = (refl, none) }
 
   -- one more round
-  pub one_round : (first last next : ReadingView) (findings own all : List Finding) → all ≡ findings ++ own
+  pub one_round : (first last next : Known) (findings own all : List Finding) → all ≡ findings ++ own
       → ReportSomeRounds session first last findings → ReportOneRound session last next own
       → ReportSomeRounds session first next all
   one_round first last next findings own all whole some one =

@@ -204,7 +204,7 @@ LeavesOutFiles place (layer ∷ layers) before after =
 -- Some of the findings report what is wrong with the values in the files of a session, and their
 -- unknown keys. The others report a load of these files, with its warnings and its refusal, and
 -- then loads without what is refused: all refused values, and what these loads refuse. If no value
--- is refused, the first load is one of the whole files.
+-- is refused, the first load is one of the whole files. No mark of a warning is known before.
 pub record ReportAll (session : Session) (warnings : List Warning) (error : ConfigParseError)
     (findings : List Finding) : Type 0 where
   pub of_values : List Finding
@@ -213,8 +213,9 @@ pub record ReportAll (session : Session) (warnings : List Warning) (error : Conf
   pub of_sound : AreSound session.layers.items → IsTrue is_whole
   pub others : List Finding
   pub loads : ReportLoads is_whole session warnings error others
-  pub left_out : LeavesOutFiles 0 session.layers.items no_edits loads.before.edits
-  pub all_read : (place : ℕ) → loads.before.unread place ≡ false
+  pub left_out : LeavesOutFiles 0 session.layers.items no_edits loads.before.reading.edits
+  pub all_read : (place : ℕ) → loads.before.reading.unread place ≡ false
+  pub none_known : (mark : List ℕ) → loads.before.marks mark ≡ false
   pub whole : findings ≡ of_values ++ others
 
 -- A report shows what is wrong with the files of a session: what its findings report is all that is

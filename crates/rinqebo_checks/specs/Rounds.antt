@@ -1,4 +1,5 @@
 -- The loads of the files of a session, with what is refused left out, and the findings of these.
+use Rattle.std.specs.BTreeSet.{contains_text}
 use Rattle.std.specs.Prelude.{◌≡◌, ◌⊎◌, Bool, true, false, List, [], ◌∷◌, ◌++◌, IfSome, IsTrue, Option, None, Some, map, option_map}
 use Rattle.nextest_elements.specs.declared.experimental.ConfigExperimental.{ConfigExperimental}
 use Rattle.nextest_load.specs.Steps.{load_steps}
@@ -22,17 +23,12 @@ use Rattle.rinqebo_load.specs.declared.session.Session.{Session}
 use Rattle.rinqebo_report.specs.declared.finding.Finding.{Finding}
 use Rattle.rinqebo_request.specs.declared.files.layers.Layer.{Layer}
 use Rattle.rinqebo_checks.specs.LeavingOut.{IsLeftOutAfter}
-use Rattle.rinqebo_checks.specs.ReadAgain.{ReadingView, files_again}
+use Rattle.rinqebo_checks.specs.Marks.{AreReportedOnce, known_after_all, Marks, new_ones, with_marks}
+use Rattle.rinqebo_checks.specs.ReadAgain.{ReadingView, files_again, reading_view}
 use Rattle.rinqebo_checks.specs.Refusals.{ReportRefusal}
 use Rattle.rinqebo_checks.specs.declared.edited_files.EditedFiles.{EditedFiles}
 use Rattle.rinqebo_checks.specs.declared.edited_files.Round.{Round}
-
--- Some things are made of others, each in turn: one of each, but some are left out.
-abbrev pub AreSomeOf : {X Y : Type 0} → (X → Y → Type 0) → List X → List Y → Type 0
-AreSomeOf IsOf [] [] = Unit {0}
-AreSomeOf IsOf [] (y ∷ ys) = ⊥
-AreSomeOf IsOf (x ∷ xs) [] = AreSomeOf IsOf xs []
-AreSomeOf IsOf (x ∷ xs) (y ∷ ys) = AreSomeOf IsOf xs (y ∷ ys) ⊎ (IsOf x y × AreSomeOf IsOf xs ys)
+use Rattle.rinqebo_checks.specs.declared.search.Search.{Search}
 
 -- ---- a round
 
@@ -90,24 +86,22 @@ abbrev pub ReportIfAny :
 ReportIfAny layers names None findings = findings ≡ []
 ReportIfAny layers names (Some error) findings = ReportUnless layers names error findings
 
--- some of the findings, in their order
-abbrev pub AreSome : (all some : List Finding) → Type 0
-AreSome all some = AreSomeOf (λ (finding chosen : Finding). chosen ≡ finding) all some
-
--- Findings report some of the warnings about other things than unknown keys, in their order. No
--- contract says that the others follow from what is left out, or were reported before.
-pub record ReportSomeWarnings (layers : List Layer) (warnings : List Warning)
-    (findings : List Finding) : Type 0 where
+-- Findings report the warnings about other things than unknown keys that are new: those that do not
+-- follow from what is left out, and whose marks are not known. After them their marks are known.
+pub record ReportNewWarnings (layers : List Layer) (names : LeftOutView) (known after : Marks)
+    (warnings : List Warning) (findings : List Finding) : Type 0 where
   pub of_all : List Finding
   pub all : ReportWarnings layers (other_warnings warnings) of_all
-  pub are_some : AreSome of_all findings
+  pub are_new : findings ≡ new_ones names known of_all
+  pub once : AreReportedOnce known findings
+  pub then_known : after ≡ known_after_all names known of_all
 
--- findings report a round without the definitions of some names: some of its warnings, and then its
--- refusal
-pub record ReportRound (layers : List Layer) (names : LeftOutView) (round : Round)
-    (findings : List Finding) : Type 0 where
+-- Findings report a round without the definitions of some names: the warnings that are new, and
+-- then its refusal.
+pub record ReportRound (layers : List Layer) (names : LeftOutView) (known after : Marks)
+    (round : Round) (findings : List Finding) : Type 0 where
   pub of_warnings : List Finding
-  pub warned : ReportSomeWarnings layers (warnings_view round.warnings) of_warnings
+  pub warned : ReportNewWarnings layers names known after (warnings_view round.warnings) of_warnings
   pub of_refusal : List Finding
   pub refused : ReportIfAny layers names round.refusal of_refusal
   pub whole : findings ≡ of_warnings ++ of_refusal
@@ -118,39 +112,52 @@ abbrev pub IsLeftOutAfterAny :
 IsLeftOutAfterAny layers None before after = after ≡ before
 IsLeftOutAfterAny layers (Some error) before after = IsLeftOutAfter layers error before after
 
+-- what is known before a load of files: what they are read without, and the marks of the warnings
+-- that are reported
+pub record Known : Type 0 where
+  pub reading : ReadingView
+  pub marks : Marks
+
+-- what a search knows
+abbrev pub known_view : Search → Known
+known_view search =
+    record { reading = reading_view search.reading; marks = contains_text search.warned }
+
 -- Findings report rounds, one after another. Each one reads the files without what was left out
--- before, and its refusal adds to that.
-abbrev pub ReportRounds :
-    Session → (first last : ReadingView) → List Round → List Finding → Type 0
+-- before, and its refusal adds to that. No warning is reported that was reported before.
+abbrev pub ReportRounds : Session → (first last : Known) → List Round → List Finding → Type 0
 ReportRounds session first last [] findings = (last ≡ first) × (findings ≡ [])
 ReportRounds session first last (round ∷ rounds) findings =
-    (own : List Finding) × (others : List Finding) × (next : ReadingView)
-    × (findings ≡ own ++ others) × IsRound session first round
-    × ReportRound session.layers.items first.edits.left_out round own
-    × IsLeftOutAfterAny session.layers.items round.refusal first next
+    (own : List Finding) × (others : List Finding) × (next : Known)
+    × (findings ≡ own ++ others) × IsRound session first.reading round
+    × ReportRound session.layers.items first.reading.edits.left_out first.marks next.marks round own
+    × IsLeftOutAfterAny session.layers.items round.refusal first.reading next.reading
     × ReportRounds session next last rounds others
 
 -- findings report some rounds
-pub record ReportSomeRounds (session : Session) (first last : ReadingView)
+pub record ReportSomeRounds (session : Session) (first last : Known)
     (findings : List Finding) : Type 0 where
   pub rounds : List Round
   pub reported : ReportRounds session first last rounds findings
 
 -- findings report one round
-pub record ReportOneRound (session : Session) (reading next : ReadingView)
-    (findings : List Finding) : Type 0 where
+pub record ReportOneRound (session : Session) (before next : Known) (findings : List Finding) :
+    Type 0 where
   pub round : Round
-  pub is : IsRound session reading round
-  pub reported : ReportRound session.layers.items reading.edits.left_out round findings
-  pub left_out : IsLeftOutAfterAny session.layers.items round.refusal reading next
+  pub is : IsRound session before.reading round
+  pub reported : ReportRound session.layers.items before.reading.edits.left_out before.marks
+      next.marks round findings
+  pub left_out : IsLeftOutAfterAny session.layers.items round.refusal before.reading next.reading
 
 -- ---- what is reported of the load itself
 
 -- Findings report a load of whole files, with its warnings and its refusal: exactly the warnings
--- about other things than unknown keys, in their order, and then exactly the refusal.
+-- about other things than unknown keys, in their order, and then exactly the refusal. After them
+-- the marks of the warnings are known.
 pub record ReportLoad (layers : List Layer) (warnings : List Warning) (error : ConfigParseError)
-    (findings : List Finding) : Type 0 where
+    (known after : Marks) (findings : List Finding) : Type 0 where
   pub of_warnings : List Finding
+  pub then_known : after ≡ with_marks known of_warnings
   pub warned : ReportWarnings layers (other_warnings warnings) of_warnings
   pub left_out : LeftOut
   pub nothing : left_out_view left_out ≡ nothing_left_out
@@ -159,10 +166,12 @@ pub record ReportLoad (layers : List Layer) (warnings : List Warning) (error : C
   pub whole : findings ≡ of_warnings ++ of_refusal
 
 -- findings report a load, if it is one of whole files, or there are none
-abbrev pub ReportLoadIf : Bool → List Layer → List Warning → ConfigParseError → List Finding
-    → Type 0
-ReportLoadIf true layers warnings error findings = ReportLoad layers warnings error findings
-ReportLoadIf false layers warnings error findings = findings ≡ []
+abbrev pub ReportLoadIf : Bool → List Layer → List Warning → ConfigParseError
+    → (known after : Marks) → List Finding → Type 0
+ReportLoadIf true layers warnings error known after findings =
+    ReportLoad layers warnings error known after findings
+ReportLoadIf false layers warnings error known after findings =
+    (findings ≡ []) × (after ≡ known)
 
 -- what files are read without after a load, if it is one of whole files
 abbrev pub IsLeftOutIf :
@@ -171,15 +180,17 @@ IsLeftOutIf true layers error before after = IsLeftOutAfter layers error before 
 IsLeftOutIf false layers error before after = after ≡ before
 
 -- Findings report the load of the files of a session, if it is one of whole files, and then some
--- rounds. What is left out before is left out of all rounds.
+-- rounds. What is left out before is left out of all rounds, and a warning whose mark is known is
+-- not reported again.
 pub record ReportLoads (is_whole : Bool) (session : Session) (warnings : List Warning)
     (error : ConfigParseError) (findings : List Finding) : Type 0 where
   pub own : List Finding
-  pub reported : ReportLoadIf is_whole session.layers.items warnings error own
-  pub before : ReadingView
-  pub first : ReadingView
-  pub left_out : IsLeftOutIf is_whole session.layers.items error before first
-  pub last : ReadingView
+  pub before : Known
+  pub first : Known
+  pub reported : ReportLoadIf is_whole session.layers.items warnings error before.marks first.marks
+      own
+  pub left_out : IsLeftOutIf is_whole session.layers.items error before.reading first.reading
+  pub last : Known
   pub later : List Finding
   pub rounds : ReportSomeRounds session first last later
   pub whole : findings ≡ own ++ later

@@ -5,7 +5,7 @@ ghost use Rattle.nextest_sources.specs.Errors.{source_of};
 ghost use Rattle.nextest_sources.specs.Sources.{Source, owner_of_source};
 ghost use Rattle.rinqebo_findings.specs.Compile.{compile_fault, compile_faults, section_code, section_fault};
 ghost use Rattle.rinqebo_findings.specs.Later.{AddsLater, document_at};
-ghost use Rattle.rinqebo_checks.specs.Refusals.{AddsRefusal, outcome_faults, refused_position, second_file, two_tables};
+ghost use Rattle.rinqebo_checks.specs.Refusals.{AddsRefusal, ReportRefusal, outcome_faults, refused_position, second_file, two_tables};
 
 use nextest_elements::{IdentifierOwner, ToolName};
 use nextest_places::Step;
@@ -259,4 +259,27 @@ pub fn refusal_findings(
     };
     add_kind(&refused, &mut findings, error.kind())?;
     Ok(findings)
+}
+
+/// What a refusal of the files of a session says, without what is left out.
+pub fn refused(
+    alloc: Global,
+    session: &Session<'_>,
+    left_out: &LeftOut,
+    error: &ConfigParseError,
+) -> Result<Vec<Finding>, AllocError>
+    ensures { IfOk result (λ findings. ReportRefusal session.now.layers.items left_out.now
+        error.now findings.items) }
+{
+    let place = refused_place(&session.layers, error);
+    Ok(refusal_findings(alloc, session, place, error, left_out)?)
+}
+
+/// Whether the source at a place among the layers is a document.
+pub fn is_document(layers: &[Layer], place: usize) -> bool {
+    let source = SourceAt {
+        layers,
+        position: Some(place),
+    };
+    source.tree().is_some()
 }

@@ -1,22 +1,23 @@
 //! What the load of files that are refused reports, and then loads without what is refused.
-ghost use Rattle.std.specs.BTreeSet.{Updates};
+ghost use Rattle.std.specs.BTreeSet.{Updates, contains_text};
 ghost use Rattle.std.specs.Ordering.{nat_cmp};
-ghost use Rattle.std.specs.Prelude.{◌≡◌, [], IfOk, IsTrue, None, OnOk, Some, true};
+ghost use Rattle.std.specs.Prelude.{◌≡◌, ℕ, [], IfOk, IsTrue, List, None, OnOk, Some, false, true};
 ghost use Rattle.nextest_sources.specs.WarningsView.{warnings_view};
 ghost use Rattle.rinqebo_faults.specs.Checks.{check_of, scope_of};
 ghost use Rattle.rinqebo_faults.specs.Edits.{edits_view};
 ghost use Rattle.rinqebo_findings.specs.Warnings.{ReportWarnings, other_warnings};
 ghost use Rattle.rinqebo_checks.specs.LeavingOut.{IsLeftOutAfter};
+ghost use Rattle.rinqebo_checks.specs.Marks.{with_marks};
 ghost use Rattle.rinqebo_checks.specs.ReadAgain.{reading_view};
-ghost use Rattle.rinqebo_checks.specs.Refusals.{ReportRefusal, refused_position};
-ghost use Rattle.rinqebo_checks.specs.Rounds.{IsLeftOutAfterAny, IsLeftOutIf, ReportIfAny, ReportLoad, ReportLoadIf, ReportLoads, ReportOneRound, ReportSomeRounds, ReportSomeWarnings, ReportUnless};
+ghost use Rattle.rinqebo_checks.specs.Refusals.{refused_position};
+ghost use Rattle.rinqebo_checks.specs.Rounds.{IsLeftOutAfterAny, IsLeftOutIf, ReportIfAny, ReportLoad, ReportLoadIf, ReportLoads, ReportNewWarnings, ReportOneRound, ReportSomeRounds, ReportUnless, known_view};
 
 use crate::edited_files::Reading;
-use crate::refusals::{refusal_findings, refused_place};
+use crate::refusals::{is_document, refused, refused_place};
 use crate::warned::{new_ones, noted};
 use nextest_sources::{ConfigParseError, ConfigParseErrorKind, DefaultConfigWarnings};
 use rinqebo_faults::{Check, Edits, LeftOut, Scope, check_of, names_after, only, scope_of};
-use rinqebo_findings::{SourceAt, other_warning_findings};
+use rinqebo_findings::other_warning_findings;
 use rinqebo_load::Session;
 use rinqebo_report::{Finding, Unreached};
 use rinqebo_request::Layer;
@@ -49,34 +50,12 @@ struct Taken {
     goes_on: bool,
 }
 
-/// What a refusal of the files of a session says, without what is left out.
-fn refused(
-    alloc: Global,
-    session: &Session<'_>,
-    left_out: &LeftOut,
-    error: &ConfigParseError,
-) -> Result<Vec<Finding>, AllocError>
-    ensures { IfOk result (λ findings. ReportRefusal session.now.layers.items left_out.now
-        error.now findings.items) }
-{
-    let place = refused_place(&session.layers, error);
-    Ok(refusal_findings(alloc, session, place, error, left_out)?)
-}
-
-/// Whether the source at a place among the layers is a document.
-fn is_document(layers: &[Layer], place: usize) -> bool {
-    let source = SourceAt {
-        layers,
-        position: Some(place),
-    };
-    source.tree().is_some()
-}
-
 impl Search {
     /// A search that has found nothing, in files with edits.
     pub fn new(alloc: Global, edits: Edits) -> Search
         ensures edits { result.reading.edits ≡ edits }
         ensures unread { result.reading.unread.keys ≡ [] }
+        ensures unmarked { (mark : List ℕ) → contains_text result.warned mark ≡ false }
     {
         Search {
             alloc,
@@ -128,7 +107,8 @@ impl Search {
 
     /// Adds that a source does not reach the checks behind those that need no other source.
     fn add_unreached(&mut self, layers: &[Layer], place: usize) -> Result<(), AllocError>
-        ensures { self.new.reading ≡ self.old.reading }
+        ensures reading { self.new.reading ≡ self.old.reading }
+        ensures warned { self.new.warned ≡ self.old.warned }
     {
         let reached = if is_document(layers, place) {
             Some(Check::Elements)
@@ -148,6 +128,7 @@ impl Search {
         ensures edits { OnOk result (self.new.reading.edits ≡ self.old.reading.edits) }
         ensures unread { OnOk result (Updates nat_cmp self.old.reading.unread
             self.new.reading.unread place true) }
+        ensures warned { self.new.warned ≡ self.old.warned }
     {
         self.reading.unread.insert(place)?;
         self.lowest_unread = Some(self.lowest_unread.unwrap_or(place).min(place));
@@ -168,6 +149,7 @@ impl Search {
             (edits_view self.old.reading.edits).left_out error.now taken.findings.items) }
         ensures left_out { OnOk result (IsLeftOutAfter session.now.layers.items error.now
             (reading_view self.old.reading) (reading_view self.new.reading)) }
+        ensures warned { self.new.warned ≡ self.old.warned }
     {
         if self.reading.unread.contains(&place) {
             return Ok(self.nothing());
@@ -191,6 +173,7 @@ impl Search {
             (edits_view self.old.reading.edits).left_out error.now taken.findings.items) }
         ensures left_out { OnOk result (IsLeftOutAfter session.now.layers.items error.now
             (reading_view self.old.reading) (reading_view self.new.reading)) }
+        ensures warned { self.new.warned ≡ self.old.warned }
     {
         if !is_document(&session.layers, place) {
             return self.take_file(session, place, error);
@@ -213,6 +196,7 @@ impl Search {
             (edits_view self.old.reading.edits).left_out error.now taken.findings.items) }
         ensures left_out { OnOk result (IsLeftOutAfter session.now.layers.items error.now
             (reading_view self.old.reading) (reading_view self.new.reading)) }
+        ensures warned { self.new.warned ≡ self.old.warned }
     {
         match self
             .reading
@@ -250,7 +234,8 @@ impl Search {
         place: usize,
         kind: &ConfigParseErrorKind,
     ) -> Result<(), AllocError>
-        ensures { self.new.reading ≡ self.old.reading }
+        ensures reading { self.new.reading ≡ self.old.reading }
+        ensures warned { self.new.warned ≡ self.old.warned }
     {
         if let Some(check) = check_of(kind) {
             let unreached = only(self.alloc, place, check)?;
@@ -269,6 +254,7 @@ impl Search {
         ensures findings { IfOk result (λ findings. ReportUnless session.now.layers.items
             (edits_view self.old.reading.edits).left_out error.now findings.items) }
         ensures reading { self.new.reading ≡ self.old.reading }
+        ensures warned { self.new.warned ≡ self.old.warned }
     {
         if !self.rests_on_unread(place, error.kind()) {
             return self.refused(session, error);
@@ -289,6 +275,7 @@ impl Search {
             (edits_view self.old.reading.edits).left_out error.now taken.findings.items) }
         ensures left_out { OnOk result (IsLeftOutAfter session.now.layers.items error.now
             (reading_view self.old.reading) (reading_view self.new.reading)) }
+        ensures warned { self.new.warned ≡ self.old.warned }
     {
         let findings = self.check_findings(session, place, error)?;
         let goes_on = self
@@ -303,6 +290,7 @@ impl Search {
             (edits_view self.old.reading.edits).left_out error.now taken.findings.items) }
         ensures left_out { OnOk result (IsLeftOutAfter session.now.layers.items error.now
             (reading_view self.old.reading) (reading_view self.new.reading)) }
+        ensures warned { self.new.warned ≡ self.old.warned }
     {
         let Some(place) = refused_place(&session.layers, error) else {
             return Ok(self.take_last(session, error)?);
@@ -330,6 +318,7 @@ impl Search {
             (edits_view self.old.reading.edits).left_out refusal.now taken.findings.items) }
         ensures left_out { OnOk result (IsLeftOutAfterAny session.now.layers.items refusal.now
             (reading_view self.old.reading) (reading_view self.new.reading)) }
+        ensures warned { self.new.warned ≡ self.old.warned }
     {
         match refusal {
             Some(error) => self.take(session, error),
@@ -343,8 +332,9 @@ impl Search {
         session: &Session<'_>,
         warnings: &DefaultConfigWarnings,
     ) -> Result<Vec<Finding>, AllocError>
-        ensures findings { IfOk result (λ chosen. ReportSomeWarnings session.now.layers.items
-            (warnings_view warnings.now) chosen.items) }
+        ensures findings { IfOk result (λ chosen. ReportNewWarnings session.now.layers.items
+            (edits_view self.old.reading.edits).left_out (contains_text self.old.warned)
+            (contains_text self.new.warned) (warnings_view warnings.now) chosen.items) }
         ensures reading { self.new.reading ≡ self.old.reading }
     {
         let all = other_warning_findings(self.alloc, &session.layers, warnings)?;
@@ -354,9 +344,8 @@ impl Search {
 
     /// Loads the files without what is left out, and returns what is wrong with them.
     fn step(&mut self, session: &Session<'_>) -> Result<Taken, AllocError>
-        ensures { IfOk result (λ taken. ReportOneRound session.now
-            (reading_view self.old.reading) (reading_view self.new.reading)
-            taken.findings.items) }
+        ensures { IfOk result (λ taken. ReportOneRound session.now (known_view self.old)
+            (known_view self.new) taken.findings.items) }
     {
         let round = self.reading.load(self.alloc, session)?;
         let mut findings = self.new_warnings(session, &round.warnings)?;
@@ -372,8 +361,8 @@ impl Search {
     /// Loads the files again and again, each time without what was refused before, and returns what
     /// is wrong with them.
     fn rounds(&mut self, session: &Session<'_>) -> Result<Vec<Finding>, AllocError>
-        ensures { IfOk result (λ findings. ReportSomeRounds session.now
-            (reading_view self.old.reading) (reading_view self.new.reading) findings.items) }
+        ensures { IfOk result (λ findings. ReportSomeRounds session.now (known_view self.old)
+            (known_view self.new) findings.items) }
     {
         let mut findings = Vec::new(self.alloc);
         for _ in 0..session.layers.len().saturating_mul(MOST_STEPS) {
@@ -399,6 +388,8 @@ impl Search {
     ) -> Result<Vec<Finding>, AllocError>
         ensures findings { IfOk result (λ findings. ReportWarnings session.now.layers.items
             (other_warnings (warnings_view warnings.now)) findings.items) }
+        ensures marks { IfOk result (λ findings. contains_text self.new.warned
+            ≡ with_marks (contains_text self.old.warned) findings.items) }
         ensures reading { self.new.reading ≡ self.old.reading }
     {
         let findings = other_warning_findings(self.alloc, &session.layers, warnings)?;
@@ -412,8 +403,9 @@ impl Search {
         layers: &[Layer],
         error: &ConfigParseError,
     ) -> Result<bool, AllocError>
-        ensures { OnOk result (IsLeftOutAfter layers.now error.now
+        ensures left_out { OnOk result (IsLeftOutAfter layers.now error.now
             (reading_view self.old.reading) (reading_view self.new.reading)) }
+        ensures warned { self.new.warned ≡ self.old.warned }
     {
         let Some(place) = refused_place(layers, error) else {
             return Ok(false);
@@ -435,7 +427,8 @@ impl Search {
         error: &ConfigParseError,
     ) -> Result<Taken, AllocError>
         ensures findings { IfOk result (λ taken. ReportLoad session.now.layers.items
-            (warnings_view warnings.now) error.now taken.findings.items) }
+            (warnings_view warnings.now) error.now (contains_text self.old.warned)
+            (contains_text self.new.warned) taken.findings.items) }
         ensures left_out { OnOk result (IsLeftOutAfter session.now.layers.items error.now
             (reading_view self.old.reading) (reading_view self.new.reading)) }
     {
@@ -456,7 +449,8 @@ impl Search {
         error: &ConfigParseError,
     ) -> Result<Taken, AllocError>
         ensures findings { IfOk result (λ taken. ReportLoadIf is_whole session.now.layers.items
-            (warnings_view warnings.now) error.now taken.findings.items) }
+            (warnings_view warnings.now) error.now (contains_text self.old.warned)
+            (contains_text self.new.warned) taken.findings.items) }
         ensures left_out { OnOk result (IsLeftOutIf is_whole session.now.layers.items error.now
             (reading_view self.old.reading) (reading_view self.new.reading)) }
     {
@@ -480,7 +474,7 @@ impl Search {
     ) -> Result<Vec<Finding>, AllocError>
         ensures { IfOk result (λ findings. (loads : ReportLoads is_whole session.now
             (warnings_view warnings.now) error.now findings.items)
-            × (loads.before ≡ reading_view self.old.reading)) }
+            × (loads.before ≡ known_view self.old)) }
     {
         let taken = self.begin(session, is_whole, warnings, error)?;
         let Taken {

@@ -3,7 +3,6 @@ ghost use Rattle.std.specs.BTreeSet.{contains_text};
 ghost use Rattle.std.specs.Prelude.{◌≡◌, IfOk, OnOk, string_bytes};
 ghost use Rattle.rinqebo_faults.specs.Edits.{left_out_view};
 ghost use Rattle.rinqebo_checks.specs.Marks.{AreReportedOnce, follows, is_new, known_after, known_after_all, new_ones, path_or_nothing, warning_mark, with_marks};
-ghost use Rattle.rinqebo_checks.specs.Rounds.{AreSome};
 
 use rinqebo_faults::LeftOut;
 use rinqebo_report::{Code, Finding};
@@ -75,7 +74,6 @@ pub fn new_ones(
     warned: &mut BTreeSet<String>,
     warnings: Vec<Finding>,
 ) -> Result<Vec<Finding>, AllocError>
-    ensures some { IfOk result (λ chosen. AreSome warnings.items chosen.items) }
     ensures new { IfOk result (λ chosen. chosen.items ≡ new_ones (left_out_view left_out.now)
         (contains_text warned.old) warnings.items) }
     ensures once { IfOk result (λ chosen.

@@ -3,8 +3,7 @@ use Rattle.std.proofs.lemmas.List.{append_assoc, append-nil, nil_from_length}
 use Rattle.std.specs.BTreeSet.{contains_text}
 use Rattle.rinqebo_faults.specs.Edits.{left_out_view}
 use Rattle.rinqebo_checks.specs.Marks.{AreReportedOnce, known_after_all, Marks, new_ones}
-use Rattle.rinqebo_checks.specs.Rounds.{AreSome}
-use Rattle.rinqebo_checks.proofs.NewWarnings.{new_one, old_one, once, some_new}
+use Rattle.rinqebo_checks.proofs.NewWarnings.{new_one, old_one, once}
 use Rattle.rinqebo_checks.proofs.warned.new_ones.Goals as goal
 
 pub loop-warning-init : goal.loop-warning-init
@@ -68,12 +67,6 @@ returns-clause-new c =
     sym (append-nil chosen)
     ∙ ap (λ rest. chosen ++ new_ones left_out (contains_text c.loop-warning.warned) rest) (sym empty)
     ∙ c.loop-warning.invariant.new
-
-pub returns-clause-some : goal.returns-clause-some
-returns-clause-some c =
-    let left_out = left_out_view c.args.left_out.now in
-    subst (AreSome c.args.warnings.items) (sym (returns-clause-new c))
-    (some_new left_out (contains_text c.args.warned.now) c.args.warnings.items)
 
 pub returns-clause-once : goal.returns-clause-once
 returns-clause-once c =

@@ -5,9 +5,9 @@ use Rattle.rinqebo_checks.specs.ReadAgain.{reading_view}
 use Rattle.rinqebo_checks.proofs.LeftOutAfter.{listed_file}
 use Rattle.rinqebo_checks.proofs.search.Search.leave_out_first.Goals as goal
 
-pub returns-in_ok-leave_out_file-in-DuplicateToolConfigFile :
-    goal.returns-in_ok-leave_out_file-in-DuplicateToolConfigFile
-returns-in_ok-leave_out_file-in-DuplicateToolConfigFile c =
+pub returns-in_ok-leave_out_file-in-DuplicateToolConfigFile-clause-left_out :
+    goal.returns-in_ok-leave_out_file-in-DuplicateToolConfigFile-clause-left_out
+returns-in_ok-leave_out_file-in-DuplicateToolConfigFile-clause-left_out c =
     let done = c.in_ok-leave_out_file-in-DuplicateToolConfigFile.ensures in
     listed_file c.args.layers.now c.args.error.now c.in-Some.place (sym c.in-Some.ensures)
     (reading_view c.args.self.now.reading) (reading_view c.leave_out_file.new.self.reading)

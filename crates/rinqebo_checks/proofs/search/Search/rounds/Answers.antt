@@ -1,10 +1,10 @@
-use Rattle.rinqebo_checks.specs.ReadAgain.{reading_view}
+use Rattle.rinqebo_checks.specs.Rounds.{known_view}
 use Rattle.rinqebo_checks.proofs.Rounds.{no_round, one_round}
 use Rattle.rinqebo_checks.proofs.search.Search.rounds.Goals as goal
 
 pub loop-init : goal.loop-init
 loop-init c =
-    no_round c.args.session.now (reading_view c.args.self.now.reading) c.new-findings.result.items
+    no_round c.args.session.now (known_view c.args.self.now) c.new-findings.result.items
     c.new-findings.ensures.items
 
 pub returns-then-not-goes_on : goal.returns-then-not-goes_on

@@ -1,4 +1,5 @@
-use Rattle.std.proofs.Common.{subst}
+use Rattle.std.proofs.Common.{◌∙◌, ap, subst}
+use Rattle.std.specs.BTreeSet.{contains_text}
 use Rattle.rinqebo_checks.specs.LeavingOut.{IsLeftOutAfter}
 use Rattle.rinqebo_checks.specs.ReadAgain.{reading_view}
 use Rattle.rinqebo_checks.proofs.search.Search.take_load.Goals as goal
@@ -6,6 +7,7 @@ use Rattle.rinqebo_checks.proofs.search.Search.take_load.Goals as goal
 pub returns-clause-findings : goal.returns-clause-findings
 returns-clause-findings c = record {
   of_warnings = c.in_ok-findings.findings.items;
+  then_known = ap contains_text c.leave_out_first.ensures.warned ∙ c.in_ok-findings.ensures.marks;
   warned = c.in_ok-findings.ensures.findings;
   left_out = c.new-nothing.result;
   nothing = c.new-nothing.ensures;
@@ -21,4 +23,4 @@ returns-clause-left_out c =
     c.all_warnings.ensures.reading
     (subst
     (λ layers. IsLeftOutAfter layers c.args.error.now (reading_view c.all_warnings.new.self.reading) end)
-    c.deref.ensures.value c.in_ok-goes_on.ensures)
+    c.deref.ensures.value c.in_ok-goes_on.ensures.left_out)

@@ -9,4 +9,4 @@ returns-clause-findings c = inl (inl c.requires.whole, c.nothing.ensures)
 pub returns-clause-left_out : goal.returns-clause-left_out
 returns-clause-left_out c =
     listed_before c.args.session.now.layers.items c.args.error.now c.args.place c.requires.at _ _ c.requires.whole
-    (ap reading_view c.add_unreached.ensures)
+    (ap reading_view c.add_unreached.ensures.reading)

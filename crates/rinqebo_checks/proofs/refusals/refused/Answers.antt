@@ -1,6 +1,6 @@
 use Rattle.std.proofs.Common.{[], ◌∙◌, ap, subst}
 use Rattle.rinqebo_checks.specs.Refusals.{AddsRefusal, refused_position}
-use Rattle.rinqebo_checks.proofs.search.refused.Goals as goal
+use Rattle.rinqebo_checks.proofs.refusals.refused.Goals as goal
 
 pub returns : goal.returns
 returns c =
