@@ -1,0 +1,2 @@
+#!/bin/bash
+exec setsid bash -c 'echo -10 > /proc/$$/autogroup; exec "$@"' high "$@"
